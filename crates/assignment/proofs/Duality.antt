@@ -1,0 +1,62 @@
+-- Weak duality: accepted prices show that a plan is cheapest; with one place more in a period, a plan saves its price at the most.
+-- Assumes nothing.
+use mathlib.Core.Logic.{inl, inr}
+use Prim.Native.Nat.{ℕ, _+_, _*_, _≤_, _<_}
+use native.Mathlib.Nat.{mul-le-mul-left}
+use native.Mathlib.Omega.{arith}
+use lib.Dec.{ltb, eqb}
+use Rattle.assignment.specs.Sum.{gate, sum, count}
+use Rattle.assignment.specs.Assignment.{Instance, In, Plan, Legal, total, Cheapest, Accepted}
+use Rattle.assignment.proofs.Tests.{lt?, gate-ge}
+use Rattle.assignment.proofs.Sums.{sum-le, sum-add, sum-pick, exchange-all, gate-one}
+
+-- the day whose capacity at k alone is one more
+abbrev pub more : Instance → ℕ → Instance
+more d k = record { n = d .n; m = d .m; lo = d .lo; hi = d .hi; cost = d .cost; cap = λ j. d .cap j + gate (eqb k j) 1; within = d .within }
+
+module _ (d : Instance) (x p z : ℕ → ℕ) (a : ℕ) (said : Accepted d x p) (legal : Legal (more d a) z) where
+  in-day : (y : ℕ → ℕ) → ((i : ℕ) → i < d .n → In d i (y i)) → (i : ℕ) → i < d .n → y i < d .m
+  in-day y w i l = omega (arith, w i l .to, d .within i)
+
+  z-window : (i : ℕ) → i < d .n → In d i (z i)
+  z-window i l = record { from = legal .window i l .from; to = legal .window i l .to }
+
+  worth : (k : ℕ) → k < d .m → p k * count (d .n) z k ≤ p k * count (d .n) x k + gate (eqb a k) (p k)
+  worth k l = elim (lt? (count (d .n) x k) (d .cap k)) [
+    | inl free ↦ rw (said .unsold k free) (omega arith)
+    | inr full ↦ omega (
+      arith,
+      gate-one (eqb a k) (p k) (count (d .n) x k),
+      mul-le-mul-left (p k) (fits k full),
+    )
+  ]
+    where
+      fits : (k : ℕ) → d .cap k ≤ count (d .n) x k → count (d .n) z k ≤ count (d .n) x k + gate (eqb a k) 1
+      fits k full = omega (arith, legal .room k)
+
+  pub dual : total d x ≤ total d z + gate (ltb a (d .m)) (p a)
+  unfolding total
+  dual = omega (
+    arith,
+    sum-le (d .n) (λ i. d .cost i (x i) + p (x i)) (λ i. d .cost i (z i) + p (z i)) (λ i l. said .best i (z i) l (z-window i l)),
+    sum-add (d .n) (λ i. d .cost i (x i)) (λ i. p (x i)),
+    sum-add (d .n) (λ i. d .cost i (z i)) (λ i. p (z i)),
+    exchange-all (d .n) (d .m) x p (in-day x (said .legal .window)),
+    exchange-all (d .n) (d .m) z p (in-day z z-window),
+    sum-le (d .m) (λ k. p k * count (d .n) z k) (λ k. p k * count (d .n) x k + gate (eqb a k) (p k)) worth,
+    sum-add (d .m) (λ k. p k * count (d .n) x k) (λ k. gate (eqb a k) (p k)),
+    sum-pick (d .m) a p,
+  )
+
+-- a plan of the day is one of the day with more places
+wider : (d : Instance) (z : Plan) (k : ℕ) → Legal d z → Legal (more d k) z
+wider d z k l = record {
+  window = λ i b. record { from = l .window i b .from; to = l .window i b .to };
+  room = λ j. omega (arith, l .room j);
+}
+
+pub accepted-is-cheapest : (d : Instance) (x p : ℕ → ℕ) → Accepted d x p → Cheapest d x
+accepted-is-cheapest d x p said = record {
+  legal = said .legal;
+  least = λ z legal. omega (arith, dual d x p z (d .m) said (wider d z (d .m) legal), gate-ge (d .m) (d .m) (p (d .m)) (omega arith));
+}

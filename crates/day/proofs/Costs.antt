@@ -1,0 +1,49 @@
+-- The laws of a flight's cost and window, and of rows by period.
+-- Assumes nothing.
+use mathlib.Core.Path.{_≡_, refl, sym, ap}
+use mathlib.Core.Logic.{_≢_, inl, inr}
+use mathlib.Core.Bool.{Bool, true, false, cond}
+use mathlib.Core.List.{List, [], _∷_}
+use Prim.Native.Nat.{ℕ, zero, suc, _+_, _-_, _*_, _≤_, _<_}
+use native.Mathlib.Nat.{mul-le-mul}
+use native.Mathlib.Omega.{arith}
+use lib.ListN.{length, getD, List·getD-eq-default}
+use borrow.Author.Tests.{lt-ltb, le-ltb, eq-eqb, ne-eqb}
+use Rattle.assignment.specs.Sum.{gate}
+use Rattle.assignment.proofs.Tests.{lt?, eq?}
+use Rattle.day.specs.Day.{Day, P, due, rate, after, jump, limit, ofPeriod, cost, latest}
+
+-- ---- rows by period
+
+pub period-in : (row : List ℕ) (k : ℕ) → k ≢ 0 → ofPeriod row k ≡ getD row (k - 1) 0
+period-in row zero h = absurd (h refl)
+period-in row (suc k) h = let e : k ≡ suc k - 1 = omega arith in ap (λ z. getD row z 0) e
+
+pub period-out : (row : List ℕ) (k : ℕ) → length row < k → ofPeriod row k ≡ 0
+period-out row k h = List·getD-eq-default (0 ∷ row) 0 h
+
+-- ---- costs
+
+module _ (d : Day) (i h : ℕ) where
+  pub cost-over : after d i < h → cost d i h ≡ rate d i * h + jump d i
+  unfolding cost
+  cost-over l = rw (lt-ltb (after d i) h l)
+
+  pub cost-under : h ≤ after d i → cost d i h ≡ rate d i * h
+  unfolding cost
+  cost-under l = rw (le-ltb (after d i) h l) (omega arith)
+
+-- a product of two numbers of 32 bits, and one more such number, fit 64 bits
+pub product-fits : (a b c : ℕ) → a < 4294967296 → b < 4294967296 → c < 4294967296 → a * b + c < 18446744073709551616
+product-fits a b c x y z = omega (arith, mul-le-mul {n₁ = a} {m₁ = b} {n₂ = 4294967295} {m₂ = 4294967295} (omega arith) (omega arith))
+
+-- ---- windows
+
+module _ (d : Day) (i : ℕ) where
+  pub latest-missing : limit d i ≡ 255 → latest d i ≡ P d + 1
+  unfolding latest
+  latest-missing e = rw (eq-eqb (limit d i) 255 e)
+
+  pub latest-given : limit d i ≢ 255 → latest d i ≡ due d i + limit d i
+  unfolding latest
+  latest-given e = rw (ne-eqb (limit d i) 255 e)

@@ -1,0 +1,202 @@
+-- A day is an assignment problem in which the closing period is one more period, of capacity 256: no day can fill it.
+-- So what holds of assignments holds of days: accepted prices show that a plan is cheapest, and a short stretch that there is none.
+-- Assumes nothing.
+use mathlib.Core.Path.{_≡_, refl, sym, ap, _∙_}
+use mathlib.Core.Logic.{_≢_, inl, inr}
+use mathlib.Core.Bool.{Bool, true, false, _&&_}
+use mathlib.Core.List.{List}
+use Prim.Native.Nat.{ℕ, zero, suc, _+_, _-_, _*_, _≤_, _<_, min}
+use native.Mathlib.Nat.{mul-le-mul}
+use native.Mathlib.Omega.{arith}
+use lib.ListN.{length, getD}
+use lib.Dec.{T, leb, ltb, eqb, leb→le, le→leb}
+use Rattle.assignment.specs.Sum.{gate, sum, count}
+use Rattle.assignment.specs.Assignment as A
+use Rattle.assignment.proofs.Tests.{lt?, eq?, test, gate-on, gate-off, gate-le, gate-lt, gate-ge, gate-eq, gate-ne, and-T, T-and}
+use Rattle.assignment.proofs.Sums.{sum-le, sum-ext, sum-ones, sum-zero}
+use Rattle.assignment.proofs.Duality as duality
+use Rattle.assignment.proofs.Stretch as stretch
+use Rattle.day.specs.Day.{Day, P, N, due, rate, after, jump, limit, ofPeriod, capacity, cost, latest, Window, hold, land, landings, total}
+use Rattle.day.specs.Plan.{Legal, Cheapest, Accepted, mustLand, room, Short}
+use borrow.Author.Tests.{le-leb, lt-leb}
+use Rattle.day.proofs.Costs.{period-out, cost-over, cost-under}
+use Rattle.day.proofs.Valid.{Valid}
+
+-- the last period of flight i's window
+unfoldable pub last : Day → ℕ → ℕ
+last d i = min (latest d i) (P d + 1)
+
+pub last-to : (d : Day) (i : ℕ) → last d i ≤ P d + 1
+unfolding last
+last-to d i = omega arith
+
+pub last-latest : (d : Day) (i : ℕ) → last d i ≤ latest d i
+unfolding last
+last-latest d i = omega arith
+
+-- how many may land in period k
+unfoldable pub places : Day → ℕ → ℕ
+places d k = capacity d k + gate (eqb k (P d + 1)) 256
+
+abbrev pub instance : Day → A.Instance
+instance d = record {
+  n = N d;
+  m = P d + 2;
+  lo = due d;
+  hi = last d;
+  cost = λ i k. cost d i (k - due d i);
+  cap = places d;
+  within = λ i. omega (arith, last-to d i);
+}
+
+pub places-in : (d : Day) (k : ℕ) → k ≤ P d → places d k ≡ capacity d k
+unfolding places
+places-in d k l = omega (arith, gate-ne k (P d + 1) 256 (omega arith))
+
+pub places-closing : (d : Day) → places d (P d + 1) ≡ 256
+unfolding places
+places-closing d = omega (arith, gate-eq (P d + 1) (P d + 1) 256 refl, period-out (d .capacities) (P d + 1) (omega arith))
+
+places-out : (d : Day) (k : ℕ) → P d + 1 < k → places d k ≡ 0
+unfolding places
+places-out d k l = omega (arith, gate-ne k (P d + 1) 256 (omega arith), period-out (d .capacities) k (omega arith))
+
+-- ---- windows
+
+pub window-in : {d : Day} {i k : ℕ} → Window d i k → A.In (instance d) i k
+unfolding last
+window-in w = record { from = w .from; to = omega (arith, w .closing, w .limited) }
+
+pub in-window : {d : Day} {i k : ℕ} → A.In (instance d) i k → Window d i k
+in-window {d} {i} w = record { from = w .from; closing = omega (arith, w .to, last-to d i); limited = omega (arith, w .to, last-latest d i) }
+
+-- ---- counts of landings
+
+count-le : (n : ℕ) (x : ℕ → ℕ) (k : ℕ) → count n x k ≤ n
+unfolding count
+count-le n x k = omega (arith, sum-le n (λ i. gate (eqb (x i) k) 1) (λ _. 1) (λ i l. gate-le (eqb (x i) k) 1 1 (λ _. omega arith)), sum-ones n (λ _. 1) (λ _. refl))
+
+pub count-out : (n : ℕ) (x : ℕ → ℕ) (k : ℕ) → ((i : ℕ) → i < n → x i ≢ k) → count n x k ≡ 0
+unfolding count
+count-out n x k h = sum-zero n (λ i. gate (eqb (x i) k) 1) (λ i l. gate-ne (x i) k 1 (h i l))
+
+-- ---- plans and prices
+
+hold-of : (d : Day) (h : List ℕ) (i : ℕ) → land d h i - due d i ≡ hold h i
+hold-of d h i = omega arith
+
+pub total-instance : (d : Day) (h : List ℕ) → A.total (instance d) (land d h) ≡ total d h
+unfolding A.total total
+total-instance d h = sum-ext (N d) (λ i. cost d i (land d h i - due d i)) (λ i. cost d i (hold h i)) (λ i l. ap (cost d i) (hold-of d h i))
+
+module _ {d : Day} (v : Valid d) {h : List ℕ} where
+  pub legal-instance : Legal d h → A.Legal (instance d) (land d h)
+  legal-instance legal = record { window = λ i l. window-in (legal .window i l); room = fits }
+    where
+      fits : (k : ℕ) → count (N d) (land d h) k ≤ places d k
+      fits k = elim (lt? (P d) k) [
+        | inr in-day ↦ elim (lt? 0 k) [
+          | inl some ↦ omega (arith, places-in d k in-day, legal .room k some in-day)
+          | inr none ↦ omega (arith, count-out (N d) (land d h) k (λ i l. omega (arith, v .flight i l .due-from)))
+        ]
+        | inl past ↦ elim (eq? k (P d + 1)) [
+          | inl closing ↦ rw closing (omega (arith, places-closing d, count-le (N d) (land d h) (P d + 1), v .flights-to))
+          | inr out ↦ omega (arith, count-out (N d) (land d h) k (λ i l. omega (arith, legal .window i l .closing)))
+        ]
+      ]
+
+  pub instance-legal : length h ≡ N d → A.Legal (instance d) (land d h) → Legal d h
+  instance-legal each legal = record {
+    each = each;
+    window = λ i l. in-window (legal .window i l);
+    room = λ k a b. omega (arith, places-in d k b, legal .room k);
+  }
+
+  module _ {p : List ℕ} where
+    pub accepted-instance : Accepted d h p → A.Accepted (instance d) (land d h) (ofPeriod p)
+    accepted-instance yes = record {
+      legal = legal-instance (yes .legal);
+      unsold = unsold;
+      best = λ i k l w. rw (hold-of d h i) (yes .least i k l (in-window w));
+    }
+      where
+        unsold : (k : ℕ) → count (N d) (land d h) k < places d k → ofPeriod p k ≡ 0
+        unsold zero less = refl
+        unsold (suc k) less = elim (lt? k (P d)) [
+          | inl in-day ↦ yes .unsold (suc k) (omega arith) in-day (omega (arith, places-in d (suc k) in-day))
+          | inr past ↦ period-out p (suc k) (omega (arith, yes .each))
+        ]
+
+    pub instance-accepted : length h ≡ N d → length p ≡ P d → A.Accepted (instance d) (land d h) (ofPeriod p) → Accepted d h p
+    instance-accepted holds prices yes = record {
+      legal = instance-legal holds (yes .legal);
+      each = prices;
+      unsold = λ k a b less. yes .unsold k (omega (arith, places-in d k b));
+      least = λ i k l w. rw (hold-of d h i) at (yes .best i k l (window-in w));
+    }
+
+-- "A yes means that no legal plan is cheaper."
+pub accepted-is-cheapest : {d : Day} {h p : List ℕ} → Valid d → Accepted d h p → Cheapest d h
+accepted-is-cheapest {d} {h} {p} v yes = record {
+  legal = yes .legal;
+  least = λ g legal. omega (
+    arith,
+    duality.accepted-is-cheapest (instance d) (land d h) (ofPeriod p) (accepted-instance v yes) .least (land d g) (legal-instance v legal),
+    total-instance d h,
+    total-instance d g,
+  );
+}
+
+-- ---- stretches
+
+module _ {d : Day} {a b : ℕ} (to : b ≤ P d) where
+  same-room : A.room (instance d) a b ≡ room d a b
+  unfolding A.room room
+  same-room = sum-ext (b + 1) (λ k. gate (leb a k) (places d k)) (λ k. gate (leb a k) (capacity d k)) (λ k l. ap (gate (leb a k)) (places-in d k (omega arith)))
+
+  -- a window ends by b, at most P, exactly where the limit says so
+  same-end : (i : ℕ) → leb (last d i) b ≡ leb (latest d i) b
+  unfolding last
+  same-end i = elim (lt? b (latest d i)) [
+    | inl more ↦ lt-leb (min (latest d i) (P d + 1)) b (omega arith) ∙ sym (lt-leb (latest d i) b more)
+    | inr less ↦ le-leb (min (latest d i) (P d + 1)) b (omega arith) ∙ sym (le-leb (latest d i) b less)
+  ]
+
+  same-need : A.mustLand (instance d) a b ≡ mustLand d a b
+  unfolding A.mustLand mustLand
+  same-need = sum-ext (N d) (λ i. gate (leb a (due d i) && leb (last d i) b) 1) (λ i. gate (leb a (due d i) && leb (latest d i) b) 1)
+      (λ i l. ap (λ t. gate (leb a (due d i) && t) 1) (same-end i))
+
+  pub short-instance : Short d a b → A.Short (instance d) a b
+  short-instance s = record { short = omega (arith, s .short, same-room, same-need) }
+
+  pub instance-short : 1 ≤ a → a ≤ b → A.Short (instance d) a b → Short d a b
+  instance-short from stretch s = record { from = from; stretch = stretch; to = to; short = omega (arith, s .short, same-room, same-need) }
+
+-- a short stretch leaves no legal plan
+pub short-has-no-plan : {d : Day} {a b : ℕ} {h : List ℕ} → Valid d → Short d a b → Legal d h → ⊥
+short-has-no-plan {d} {a} {b} {h} v s legal = stretch.short-has-no-plan (short-instance (s .to) s) (land d h) (legal-instance v legal)
+
+-- ---- the bound of totals
+
+module _ {d : Day} (v : Valid d) where
+  pub hold-le : {h : List ℕ} {i : ℕ} → Legal d h → i < N d → hold h i ≤ 96
+  hold-le {h} {i} legal l = omega (arith, legal .window i l .closing, v .flight i l .due-from, v .periods-to)
+
+  pub cost-le : (i h : ℕ) → i < N d → h ≤ 96 → cost d i h ≤ 1960000
+  cost-le i h l few =
+      let r = mul-le-mul {n₁ = rate d i} {m₁ = h} {n₂ = 10000} {m₂ = 96} (v .flight i l .rate-to) few in
+      elim (lt? (after d i) h) [
+        | inl over ↦ omega (arith, cost-over d i h over, v .flight i l .jump-to)
+        | inr under ↦ omega (arith, cost-under d i h under)
+      ]
+
+  sum-most : (n : ℕ) (f : ℕ → ℕ) → ((i : ℕ) → i < n → f i ≤ 1960000) → sum n f ≤ n * 1960000
+  unfolding sum
+  sum-most zero f h = omega arith
+  sum-most (suc n) f h = omega (arith, sum-most n f (λ i l. h i (omega arith)), h n (omega arith))
+
+  -- "The total is the sum over flights, never above 250,880,000."
+  pub total-le : {h : List ℕ} → Legal d h → total d h ≤ 250880000
+  unfolding total
+  total-le {h} legal = omega (arith, sum-most (N d) (λ i. cost d i (hold h i)) (λ i l. cost-le i (hold h i) l (hold-le legal l)), v .flights-to)

@@ -1,0 +1,4 @@
+pub mod Tests
+pub mod Costs
+pub mod Valid
+pub mod Instance

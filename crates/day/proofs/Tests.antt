@@ -1,0 +1,97 @@
+-- The laws of a test of all indices, and of the first index that passes a test.
+-- Assumes nothing.
+use mathlib.Core.Path.{_≡_, refl, sym, ap, _∙_}
+use mathlib.Core.Logic.{_≢_, inl, inr}
+use mathlib.Core.Bool.{Bool, true, false, cond, _&&_}
+use Prim.Native.Nat.{ℕ, zero, suc, _+_, _≤_, _<_, zero-le}
+use native.Mathlib.Omega.{arith}
+use native.Mathlib.Numerals.{add-one}
+use Rattle.assignment.proofs.Tests.{eq?}
+use Rattle.day.specs.Day.{all}
+use Rattle.day.specs.Plan.{firstOf}
+
+false-true : false ≡ true → ⊥
+false-true e = omega (arith, ap {B = ℕ} (λ b. cond b 1 0) e)
+
+both-true : (a b : Bool) → (a && b) ≡ true → (a ≡ true) × (b ≡ true)
+both-true true b e = (refl, e)
+both-true false b e = (e, absurd (false-true e))
+
+pub and-true : {a b : Bool} → (a && b) ≡ true → (a ≡ true) × (b ≡ true)
+and-true {a} {b} e = both-true a b e
+
+pub true-and : {a b : Bool} → a ≡ true → b ≡ true → (a && b) ≡ true
+true-and e f = rw (e, f)
+
+pub and-assoc : (a b c : Bool) → (a && (b && c)) ≡ (a && b && c)
+and-assoc true b c = refl
+and-assoc false b c = refl
+
+and-false : (a : Bool) → (a && false) ≡ false
+and-false true = refl
+and-false false = refl
+
+-- ---- all
+
+pub all-next : (n : ℕ) (f : ℕ → Bool) → all n f ≡ true → f n ≡ true → all (n + 1) f ≡ true
+unfolding all
+all-next n f e h = rw (add-one, e, h)
+
+pub all-at : (n : ℕ) (f : ℕ → Bool) → all n f ≡ true → (i : ℕ) → i < n → f i ≡ true
+unfolding all
+all-at zero f e i l = absurd (omega arith)
+all-at (suc n) f e i l = elim (eq? i n) [ inl s ↦ rw s (both-true (all n f) (f n) e .1) | inr o ↦ all-at n f (both-true (all n f) (f n) e .0) i (omega arith) ]
+
+pub all-from : (n : ℕ) (f : ℕ → Bool) → ((i : ℕ) → i < n → f i ≡ true) → all n f ≡ true
+unfolding all
+all-from zero f h = refl
+all-from (suc n) f h = true-and (all-from n f (λ i l. h i (omega arith))) (h n (omega arith))
+
+pub all-not : (n : ℕ) (f : ℕ → Bool) (i : ℕ) → i < n → f i ≡ false → all n f ≡ false
+unfolding all
+all-not zero f i l e = absurd (omega arith)
+all-not (suc n) f i l e = elim (eq? i n) [
+  | inl s ↦ rw (ap f (sym s) ∙ e) (and-false (all n f))
+  | inr o ↦ rw (all-not n f i (omega arith) e)
+]
+
+-- two tests of all indices, walked together
+module _ (n : ℕ) (f g : ℕ → Bool) (i : ℕ) (l : i < n) where
+  pub all-not-one : f i ≡ false → false ≡ (all n f && all n g)
+  all-not-one e = rw (all-not n f i l e)
+
+  pub all-not-other : g i ≡ false → false ≡ (all n f && all n g)
+  all-not-other e = rw (all-not n g i l e, and-false (all n f))
+
+-- ---- the first
+
+pub first-at : (n : ℕ) (f : ℕ → Bool) (i : ℕ) → i < n → ((j : ℕ) → j < i → f j ≡ false) → f i ≡ true → firstOf n f ≡ i
+unfolding firstOf
+first-at zero f i l h e = absurd (omega arith)
+first-at (suc n) f zero l h e = rw e
+first-at (suc n) f (suc i) l h e = rw (h 0 (omega arith)) (ap suc (first-at n (λ j. f (suc j)) i (omega arith) (λ j b. h (suc j) (omega arith)) e))
+
+pub first-none : (n : ℕ) (f : ℕ → Bool) → ((j : ℕ) → j < n → f j ≡ false) → firstOf n f ≡ n
+unfolding firstOf
+first-none zero f h = refl
+first-none (suc n) f h = rw (h 0 (omega arith)) (ap suc (first-none n (λ j. f (suc j)) (λ j b. h (suc j) (omega arith))))
+
+pub first-le : (n : ℕ) (f : ℕ → Bool) → firstOf n f ≤ n
+unfolding firstOf
+first-le zero f = zero-le
+first-le (suc n) f = elim (f 0) as (λ t. cond t 0 (suc (firstOf n (λ i. f (suc i)))) ≤ suc n) [
+  | true ↦ zero-le
+  | false ↦ omega (arith, first-le n (λ i. f (suc i)))
+]
+
+-- where the first is none, none passes
+pub none-passes : (n : ℕ) (f : ℕ → Bool) → firstOf n f ≡ n → (i : ℕ) → i < n → f i ≡ false
+unfolding firstOf
+none-passes zero f e i l = absurd (omega arith)
+none-passes (suc n) f e i l = at (f 0) refl e (none-passes n (λ j. f (suc j))) i l
+  where
+    at : (t : Bool) → f 0 ≡ t → cond t 0 (suc (firstOf n (λ j. f (suc j)))) ≡ suc n
+        → (firstOf n (λ j. f (suc j)) ≡ n → (i : ℕ) → i < n → f (suc i) ≡ false) → (i : ℕ) → i < suc n → f i ≡ false
+    at true s e rest i l = absurd (omega arith)
+    at false s e rest zero l = s
+    at false s e rest (suc i) l = rest (omega arith) i (omega arith)

@@ -1,0 +1,130 @@
+-- The laws of the day check: one for each way through its loops, and what it says of a day that passes.
+-- Assumes nothing.
+use mathlib.Core.Path.{_≡_, refl, sym, _∙_}
+use mathlib.Core.Logic.{_⊎_, _≢_, inl, inr}
+use mathlib.Core.Bool.{Bool, true, false, not, _&&_, _||_}
+use mathlib.Core.List.{List}
+use Prim.Native.Nat.{ℕ, zero, suc, _+_, _*_, _≤_, _<_}
+use native.Mathlib.Omega.{arith}
+use lib.ListN.{length, getD}
+use lib.Dec.{leb, eqb}
+use borrow.Author.Tests.{le-leb, lt-leb, eq-eqb, ne-eqb, leb-true, eqb-true, eqb-false, not-true}
+use Rattle.day.specs.Day.{Day, P, N, number, due, rate, after, jump, limit, missing, all, inside, inRange, isNew, valid}
+use Rattle.day.proofs.Tests.{all-next, all-not, all-at, and-true, and-assoc}
+
+-- ---- a number that stands at no lower place
+
+abbrev pub newTo : Day → ℕ → ℕ → Bool
+newTo d i j = all j (λ k. not (eqb (number d k) (number d i)))
+
+module _ (d : Day) (i j : ℕ) {a b : ℕ} (at-j : a ≡ number d j) (at-i : b ≡ number d i) where
+  pub new-next : (a ≡ b → ⊥) → newTo d i j ≡ true → newTo d i (j + 1) ≡ true
+  new-next other e = all-next j _ e (rw (ne-eqb (number d j) (number d i) (λ s. other (at-j ∙ s ∙ sym at-i))))
+
+  pub new-not : j < i → a ≡ b → false ≡ isNew d i
+  unfolding isNew
+  new-not l same = sym (all-not i _ j l (rw (eq-eqb (number d j) (number d i) (sym at-j ∙ same ∙ at-i))))
+
+pub new-end : (d : Day) (i j : ℕ) → j ≡ i → newTo d i j ≡ true → true ≡ isNew d i
+unfolding isNew
+new-end d i j e t = sym (rw e at t)
+
+-- ---- the whole check, in its order
+
+module _ (d : Day) where
+  pub valid-not-periods : inside 1 96 (P d) ≡ false → false ≡ valid d
+  unfolding valid
+  valid-not-periods e = rw e
+
+  module _ (periods : inside 1 96 (P d) ≡ true) where
+    pub valid-not-whole : (length (d .flights) ≡ N d * 6 → ⊥) → false ≡ valid d
+    unfolding valid
+    valid-not-whole e = rw (periods, ne-eqb (length (d .flights)) (N d * 6) e)
+
+    module _ (whole : length (d .flights) ≡ N d * 6) where
+      pub valid-not-few : 128 < N d → false ≡ valid d
+      unfolding valid
+      valid-not-few e = rw (periods, eq-eqb (length (d .flights)) (N d * 6) whole, lt-leb (N d) 128 e)
+
+  -- the rest of the check, with what its parts found
+  pub valid-made : inside 1 96 (P d) ≡ true → {n : ℕ} → n ≡ N d → length (d .flights) ≡ n * 6 → n ≤ 128 → {x y r : Bool}
+      → x ≡ all (P d) (λ k. leb (getD (d .capacities) k 0) 255) → y ≡ (all n (inRange d) && all n (isNew d)) → r ≡ (x && y) → r ≡ valid d
+  unfolding valid
+  valid-made periods e whole few caps fits both =
+      rw (both, caps, fits, e, periods, eq-eqb (length (d .flights)) (N d * 6) (rw e at whole), le-leb (N d) 128 (rw e at few))
+      (and-assoc (all (P d) (λ k. leb (getD (d .capacities) k 0) 255)) (all (N d) (inRange d)) (all (N d) (isNew d)))
+
+-- ---- what a day that passes is
+
+-- the numbers of one flight
+pub record InRange (d : Day) (i : ℕ) : Type 0 where
+  pub number-from : 1 ≤ number d i
+  pub number-to : number d i ≤ 9999
+  pub due-from : 1 ≤ due d i
+  pub due-to : due d i ≤ P d
+  pub rate-from : 1 ≤ rate d i
+  pub rate-to : rate d i ≤ 10000
+  pub after-to : after d i ≤ 96
+  pub jump-to : jump d i ≤ 1000000
+  pub limit-to : (limit d i ≤ 96) ⊎ (limit d i ≡ 255)
+
+pub record Valid (d : Day) : Type 0 where
+  pub periods-from : 1 ≤ P d
+  pub periods-to : P d ≤ 96
+  pub whole : length (d .flights) ≡ N d * 6
+  pub flights-to : N d ≤ 128
+  pub capacity-to : (k : ℕ) → k < P d → getD (d .capacities) k 0 ≤ 255
+  pub flight : (i : ℕ) → i < N d → InRange d i
+  pub distinct : (i j : ℕ) → i < N d → j < i → number d j ≢ number d i
+
+pub inside-means : (a b x : ℕ) → inside a b x ≡ true → (a ≤ x) × (x ≤ b)
+inside-means a b x e = let t = and-true e in (leb-true a x (t .0), leb-true x b (t .1))
+
+or-true : (a b : Bool) → (a || b) ≡ true → (a ≡ true) ⊎ (b ≡ true)
+or-true true b e = inl refl
+or-true false b e = inr e
+
+range-means : (d : Day) (i : ℕ) → inRange d i ≡ true → InRange d i
+unfolding inRange
+range-means d i e =
+    let limits = and-true e in
+    let jumps = and-true (limits .0) in
+    let afters = and-true (jumps .0) in
+    let rates = and-true (afters .0) in
+    let dues = and-true (rates .0) in
+    let number-in = inside-means 1 9999 (number d i) (dues .0) in
+    let due-in = inside-means 1 (P d) (due d i) (dues .1) in
+    let rate-in = inside-means 1 10000 (rate d i) (rates .1) in
+    record {
+      number-from = number-in .0;
+      number-to = number-in .1;
+      due-from = due-in .0;
+      due-to = due-in .1;
+      rate-from = rate-in .0;
+      rate-to = rate-in .1;
+      after-to = leb-true (after d i) 96 (afters .1);
+      jump-to = leb-true (jump d i) 1000000 (jumps .1);
+      limit-to = elim (or-true (leb (limit d i) 96) (missing (limit d i)) (limits .1)) [
+        | inl t ↦ inl (leb-true (limit d i) 96 t)
+        | inr t ↦ inr (eqb-true (limit d i) 255 t)
+      ];
+    }
+
+pub valid-means : {d : Day} → valid d ≡ true → Valid d
+unfolding valid isNew
+valid-means {d} e =
+    let numbers = and-true e in
+    let ranges = and-true (numbers .0) in
+    let caps = and-true (ranges .0) in
+    let few = and-true (caps .0) in
+    let wholes = and-true (few .0) in
+    let periods = inside-means 1 96 (P d) (wholes .0) in
+    record {
+      periods-from = periods .0;
+      periods-to = periods .1;
+      whole = eqb-true (length (d .flights)) (N d * 6) (wholes .1);
+      flights-to = leb-true (N d) 128 (few .1);
+      capacity-to = λ k l. leb-true _ 255 (all-at (P d) _ (caps .1) k l);
+      flight = λ i l. range-means d i (all-at (N d) _ (ranges .1) i l);
+      distinct = λ i j l b. eqb-false _ _ (not-true _ (all-at i _ (all-at (N d) _ (numbers .1) i l) j b));
+    }

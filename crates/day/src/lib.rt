@@ -1,0 +1,208 @@
+// The day in two lent rows: its numbers, its check (refusal 6), costs, and the legality walk (refusal 10).
+ghost use mathlib.Core.Path.{_≡_};
+ghost use mathlib.Core.Bool.{Bool, true, false, _&&_, _||_};
+ghost use Prim.Native.Nat.{ℕ, _+_, _*_, _/_, _^_, _<_, _≤_};
+ghost use lib.ListN.{getD, length};
+ghost use lib.Dec.{leb};
+ghost use Rattle.day.specs.Day.{day, column, width, ofPeriod, cost, latest, all, inside, missing, valid, inRange, isNew};
+
+pub fn wide(x: u32) -> usize
+    ensures { λ r. ⌜ r ≡ x ⌝ }
+{
+    x as usize
+}
+
+// How many numbers a flight takes in its row.
+const WIDTH: usize = 6;
+
+// How many flights the row has.
+pub fn flight_count(flights: &[u32]) -> usize
+    ensures { λ r. ⌜ r ≡ length (now (flights .entry)) / width ⌝ }
+{
+    flights.len() / WIDTH
+}
+
+// Column j of the flight at table place i.
+fn field(flights: &[u32], i: usize, j: usize) -> usize
+    requires { ⌜ (j < width) × ((i + 1) * width ≤ length (now flights)) ⌝ }
+    ensures { λ r. ⌜ (r ≡ column j (now (flights .entry)) i) × (r < 2 ^ 32) ⌝ }
+{
+    wide(flights[i * WIDTH + j])
+}
+
+// The numbers of the flight at table place i, one function for each column.
+pub fn number_of(flights: &[u32], i: usize) -> usize
+    requires { ⌜ (i + 1) * width ≤ length (now flights) ⌝ }
+    ensures { λ r. ⌜ (r ≡ column 0 (now (flights .entry)) i) × (r < 2 ^ 32) ⌝ }
+{
+    field(flights, i, 0)
+}
+
+pub fn due_of(flights: &[u32], i: usize) -> usize
+    requires { ⌜ (i + 1) * width ≤ length (now flights) ⌝ }
+    ensures { λ r. ⌜ (r ≡ column 1 (now (flights .entry)) i) × (r < 2 ^ 32) ⌝ }
+{
+    field(flights, i, 1)
+}
+
+pub fn rate_of(flights: &[u32], i: usize) -> usize
+    requires { ⌜ (i + 1) * width ≤ length (now flights) ⌝ }
+    ensures { λ r. ⌜ (r ≡ column 2 (now (flights .entry)) i) × (r < 2 ^ 32) ⌝ }
+{
+    field(flights, i, 2)
+}
+
+pub fn after_of(flights: &[u32], i: usize) -> usize
+    requires { ⌜ (i + 1) * width ≤ length (now flights) ⌝ }
+    ensures { λ r. ⌜ (r ≡ column 3 (now (flights .entry)) i) × (r < 2 ^ 32) ⌝ }
+{
+    field(flights, i, 3)
+}
+
+pub fn jump_of(flights: &[u32], i: usize) -> usize
+    requires { ⌜ (i + 1) * width ≤ length (now flights) ⌝ }
+    ensures { λ r. ⌜ (r ≡ column 4 (now (flights .entry)) i) × (r < 2 ^ 32) ⌝ }
+{
+    field(flights, i, 4)
+}
+
+pub fn limit_of(flights: &[u32], i: usize) -> usize
+    requires { ⌜ (i + 1) * width ≤ length (now flights) ⌝ }
+    ensures { λ r. ⌜ (r ≡ column 5 (now (flights .entry)) i) × (r < 2 ^ 32) ⌝ }
+{
+    field(flights, i, 5)
+}
+
+// What a row of an entry for each period has for period k: 0 for a period that it has not.
+pub fn of_period(row: &[u32], k: usize) -> usize
+    ensures { λ r. ⌜ (r ≡ ofPeriod (now (row .entry)) k) × (r < 2 ^ 32) ⌝ }
+{
+    if k == 0 {
+        return 0;
+    }
+    let at = k - 1;
+    if at < row.len() {
+        return wide(row[at]);
+    }
+    0
+}
+
+// What a hold of the flight at table place i costs. Columns and holds are of 32 bits, so the sum fits.
+pub fn cost_of(capacities: &[u32], flights: &[u32], i: usize, hold: usize) -> usize
+    requires { ⌜ ((i + 1) * width ≤ length (now flights)) × (hold < 2 ^ 32) ⌝ }
+    ensures { λ r. ⌜ r ≡ cost (day (now (capacities .entry)) (now (flights .entry))) i hold ⌝ }
+{
+    let run = rate_of(flights, i) * hold;
+    if after_of(flights, i) < hold {
+        return run + jump_of(flights, i);
+    }
+    run
+}
+
+// The last period that the limit of the flight at table place i allows.
+pub fn latest_of(capacities: &[u32], flights: &[u32], i: usize) -> usize
+    requires { ⌜ ((i + 1) * width ≤ length (now flights)) × (length (now capacities) ≤ 96) ⌝ }
+    ensures { λ r. ⌜ r ≡ latest (day (now (capacities .entry)) (now (flights .entry))) i ⌝ }
+{
+    let limit = limit_of(flights, i);
+    if limit == 255 {
+        return capacities.len() + 1;
+    }
+    due_of(flights, i) + limit
+}
+
+fn both(a: bool, b: bool) -> bool
+    ensures { λ r. ⌜ r ≡ (a && b) ⌝ }
+{
+    a && b
+}
+
+fn is_inside(low: usize, high: usize, x: usize) -> bool
+    ensures { λ r. ⌜ r ≡ inside low high x ⌝ }
+{
+    low <= x && x <= high
+}
+
+fn limit_fits(limit: usize) -> bool
+    ensures { λ r. ⌜ r ≡ (leb limit 96 || missing limit) ⌝ }
+{
+    limit <= 96 || limit == 255
+}
+
+// The numbers of the flight at table place i are within the table's ranges.
+fn is_in_range(capacities: &[u32], flights: &[u32], i: usize) -> bool
+    requires { ⌜ (i + 1) * width ≤ length (now flights) ⌝ }
+    ensures { λ r. ⌜ r ≡ inRange (day (now (capacities .entry)) (now (flights .entry))) i ⌝ }
+{
+    let named = both(
+        is_inside(1, 9999, number_of(flights, i)),
+        is_inside(1, capacities.len(), due_of(flights, i)),
+    );
+    let rated = both(named, is_inside(1, 10000, rate_of(flights, i)));
+    let priced = both(both(rated, after_of(flights, i) <= 96), jump_of(flights, i) <= 1000000);
+    both(priced, limit_fits(limit_of(flights, i)))
+}
+
+// No flight above the one at table place i has its number.
+fn is_new(capacities: &[u32], flights: &[u32], i: usize) -> bool
+    requires { ⌜ (i + 1) * width ≤ length (now flights) ⌝ }
+    ensures { λ r. ⌜ r ≡ isNew (day (now (capacities .entry)) (now (flights .entry))) i ⌝ }
+{
+    let number = number_of(flights, i);
+    let mut j = 0;
+    while j < i {
+        if number_of(flights, j) == number {
+            return false;
+        }
+        j += 1;
+    }
+    true
+}
+
+fn capacities_fit(capacities: &[u32]) -> bool
+    ensures { λ r. ⌜ r ≡ all (length (now (capacities .entry))) (λ k. leb (getD (now (capacities .entry)) k 0) 255) ⌝ }
+{
+    let mut k = 0;
+    while k < capacities.len() {
+        if 255 < capacities[k] {
+            return false;
+        }
+        k += 1;
+    }
+    true
+}
+
+// Every flight is in range, and has a number of its own.
+fn flights_fit(capacities: &[u32], flights: &[u32], n: usize) -> bool
+    requires { ⌜ n * width ≤ length (now flights) ⌝ }
+    ensures { λ r. ⌜ r ≡ (all n (inRange (day (now (capacities .entry)) (now (flights .entry)))) && all n (isNew (day (now (capacities .entry)) (now (flights .entry))))) ⌝ }
+{
+    let mut i = 0;
+    while i < n {
+        if !is_in_range(capacities, flights, i) {
+            return false;
+        }
+        if !is_new(capacities, flights, i) {
+            return false;
+        }
+        i += 1;
+    }
+    true
+}
+
+// The day check: refusal 6 is given where it says no.
+pub fn is_valid(capacities: &[u32], flights: &[u32]) -> bool
+    ensures { λ r. ⌜ r ≡ valid (day (now (capacities .entry)) (now (flights .entry))) ⌝ }
+{
+    let n = flight_count(flights);
+    if !is_inside(1, 96, capacities.len()) {
+        return false;
+    }
+    if flights.len() != n * WIDTH {
+        return false;
+    }
+    if 128 < n {
+        return false;
+    }
+    both(capacities_fit(capacities), flights_fit(capacities, flights, n))
+}
