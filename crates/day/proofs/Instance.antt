@@ -114,34 +114,34 @@ module _ {d : Day} (v : Valid d) {h : List ℕ} where
 
   module _ {p : List ℕ} where
     pub accepted-instance : Accepted d h p → A.Accepted (instance d) (land d h) (ofPeriod p)
-    accepted-instance yes = record {
-      legal = legal-instance (yes .legal);
+    accepted-instance said = record {
+      legal = legal-instance (said .legal);
       unsold = unsold;
-      best = λ i k l w. rw (hold-of d h i) (yes .least i k l (in-window w));
+      best = λ i k l w. rw (hold-of d h i) (said .least i k l (in-window w));
     }
       where
         unsold : (k : ℕ) → count (N d) (land d h) k < places d k → ofPeriod p k ≡ 0
         unsold zero less = refl
         unsold (suc k) less = elim (lt? k (P d)) [
-          | inl in-day ↦ yes .unsold (suc k) (omega arith) in-day (omega (arith, places-in d (suc k) in-day))
-          | inr past ↦ period-out p (suc k) (omega (arith, yes .each))
+          | inl in-day ↦ said .unsold (suc k) (omega arith) in-day (omega (arith, places-in d (suc k) in-day))
+          | inr past ↦ period-out p (suc k) (omega (arith, said .each))
         ]
 
     pub instance-accepted : length h ≡ N d → length p ≡ P d → A.Accepted (instance d) (land d h) (ofPeriod p) → Accepted d h p
-    instance-accepted holds prices yes = record {
-      legal = instance-legal holds (yes .legal);
+    instance-accepted holds prices said = record {
+      legal = instance-legal holds (said .legal);
       each = prices;
-      unsold = λ k a b less. yes .unsold k (omega (arith, places-in d k b));
-      least = λ i k l w. rw (hold-of d h i) at (yes .best i k l (window-in w));
+      unsold = λ k a b less. said .unsold k (omega (arith, places-in d k b));
+      least = λ i k l w. rw (hold-of d h i) at (said .best i k l (window-in w));
     }
 
 -- "A yes means that no legal plan is cheaper."
 pub accepted-is-cheapest : {d : Day} {h p : List ℕ} → Valid d → Accepted d h p → Cheapest d h
-accepted-is-cheapest {d} {h} {p} v yes = record {
-  legal = yes .legal;
+accepted-is-cheapest {d} {h} {p} v said = record {
+  legal = said .legal;
   least = λ g legal. omega (
     arith,
-    duality.accepted-is-cheapest (instance d) (land d h) (ofPeriod p) (accepted-instance v yes) .least (land d g) (legal-instance v legal),
+    duality.accepted-is-cheapest (instance d) (land d h) (ofPeriod p) (accepted-instance v said) .least (land d g) (legal-instance v legal),
     total-instance d h,
     total-instance d g,
   );
@@ -149,7 +149,7 @@ accepted-is-cheapest {d} {h} {p} v yes = record {
 
 -- ---- stretches
 
-module _ {d : Day} {a b : ℕ} (to : b ≤ P d) where
+module _ (d : Day) (a b : ℕ) (to : b ≤ P d) where
   same-room : A.room (instance d) a b ≡ room d a b
   unfolding A.room room
   same-room = sum-ext (b + 1) (λ k. gate (leb a k) (places d k)) (λ k. gate (leb a k) (capacity d k)) (λ k l. ap (gate (leb a k)) (places-in d k (omega arith)))
@@ -175,7 +175,7 @@ module _ {d : Day} {a b : ℕ} (to : b ≤ P d) where
 
 -- a short stretch leaves no legal plan
 pub short-has-no-plan : {d : Day} {a b : ℕ} {h : List ℕ} → Valid d → Short d a b → Legal d h → ⊥
-short-has-no-plan {d} {a} {b} {h} v s legal = stretch.short-has-no-plan (short-instance (s .to) s) (land d h) (legal-instance v legal)
+short-has-no-plan {d} {a} {b} {h} v s legal = stretch.short-has-no-plan (short-instance d a b (s .to) s) (land d h) (legal-instance v legal)
 
 -- ---- the bound of totals
 

@@ -56,11 +56,18 @@ pub record Picked (d : Day) (a b : ℕ) : Type 0 where
   pub smallest-last : (first last : ℕ) → Short d first last → b ≤ last
   pub largest-first : (first : ℕ) → Short d first b → first ≤ a
 
+-- a landing of flight i in period k is after P+1 or over its limit: the "hold is too long"
+unfoldable pub tooLong : Day → ℕ → ℕ → Bool
+tooLong d i k = ltb (P d + 1) k || ltb (latest d i) k
+
+-- a landing in period k, the m-th there, is over capacity; the closing period takes any number
+unfoldable pub overCapacity : Day → ℕ → ℕ → Bool
+overCapacity d k m = leb k (P d) && ltb (capacity d k) m
+
 -- "For 10, walk the table: the first flight whose hold is too long, or whose period, counted with the flights before it, is over capacity."
 unfoldable pub breaks : Day → List ℕ → ℕ → Bool
-breaks d holds i =
-    ltb (P d + 1) (land d holds i) || ltb (latest d i) (land d holds i)
-    || leb (land d holds i) (P d) && ltb (capacity d (land d holds i)) (count (suc i) (land d holds) (land d holds i))
+unfolding tooLong overCapacity
+breaks d holds i = tooLong d i (land d holds i) || overCapacity d (land d holds i) (count (suc i) (land d holds) (land d holds i))
 
 -- the first of 0 .. n - 1 for which the test holds, or n
 unfoldable pub firstOf : ℕ → (ℕ → Bool) → ℕ

@@ -206,3 +206,5 @@ pub fn is_valid(capacities: &[u32], flights: &[u32]) -> bool
     }
     both(capacities_fit(capacities), flights_fit(capacities, flights, n))
 }
+
+// check_plan: see crate `legality`.

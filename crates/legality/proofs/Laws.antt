@@ -1,0 +1,194 @@
+-- The laws of the walk over a hold row and of the sum of its costs: how each starts, goes on and ends.
+-- Assumes nothing.
+use mathlib.Core.Path.{_≡_, refl, sym, ap, _∙_}
+use mathlib.Core.Logic.{_≢_, inl, inr}
+use mathlib.Core.Bool.{Bool, true, false, _&&_, _||_}
+use mathlib.Core.List.{List}
+use Prim.Native.Nat.{ℕ, zero, suc, _+_, _*_, _≤_, _<_}
+use native.Mathlib.Nat.{mul-le-mul}
+use native.Mathlib.Numerals.{add-one}
+use native.Mathlib.Omega.{arith}
+use lib.ListN.{length, getD, set, length-set, replicate, length-replicate, getD-replicate, List·getD-eq-default}
+use lib.Seq.{getD-set-same, getD-set-other}
+use lib.Dec.{leb, ltb, eqb}
+use borrow.Author.Tests.{lt-ltb, le-ltb, le-leb, lt-leb, ltb-false, eq-eqb, ne-eqb}
+use Rattle.assignment.specs.Sum.{gate, sum, count}
+use Rattle.assignment.proofs.Tests.{lt?, eq?, gate-eq, gate-ne}
+use Rattle.assignment.proofs.Sums.{count-suc, count-zero}
+use Rattle.day.specs.Day.{Day, P, N, due, rate, after, capacity, latest, land, hold, cost, total, valid}
+use Rattle.day.specs.Plan.{tooLong, overCapacity, breaks, firstBreak}
+use Rattle.day.proofs.Costs.{cost-over, cost-under}
+use Rattle.day.proofs.Tests.{first-at, first-none}
+use Rattle.day.proofs.Valid.{Valid, valid-means}
+use Rattle.legality.specs.declared.PlanCheck.the-variants.{BadDay, BadLength, NotLegal, Legal}
+use Rattle.legality.specs.Check.{planCheck, walked}
+use Rattle.legality.specs.Loop.{Walked, Summed}
+
+pub or-false : (a b : Bool) → (a || b) ≡ false → (a ≡ false) × (b ≡ false)
+or-false false b e = (refl, e)
+or-false true b e = (e, false-now e)
+  where
+    false-now : true ≡ false → b ≡ false
+    false-now e = absurd (omega (arith, ap {B = ℕ} (λ t. gate t 1) e))
+
+-- a hold that is not too long lands by the closing period, within its limit
+pub not-long : (d : Day) (i k : ℕ) → tooLong d i k ≡ false → (k ≤ P d + 1) × (k ≤ latest d i)
+unfolding tooLong
+not-long d i k e =
+    let t = or-false (ltb (P d + 1) k) (ltb (latest d i) k) e in
+    (ltb-false (P d + 1) k (t .0), ltb-false (latest d i) k (t .1))
+
+count-le : (n : ℕ) (x : ℕ → ℕ) (k : ℕ) → count n x k ≤ n
+unfolding count sum
+count-le zero x k = omega arith
+count-le (suc n) x k = elim (eq? (x n) k) [
+  | inl e ↦ omega (arith, count-le n x k, gate-eq (x n) k 1 e)
+  | inr e ↦ omega (arith, count-le n x k, gate-ne (x n) k 1 e)
+]
+
+module _ {d : Day} {h loads : List ℕ} {i : ℕ} (s : Walked d h loads i) where
+  v : Valid d
+  v = valid-means (s .good)
+
+  pub walk-place : i < length h → (i + 1) * 6 ≤ length (d .flights)
+  walk-place l = omega (arith, v .whole, s .each)
+
+  module _ {k : ℕ} (l : i < length h) (at-k : k ≡ land d h i) where
+    pub walk-long : tooLong d i k ≡ true → i ≡ firstBreak d h
+    unfolding firstBreak breaks
+    walk-long e = sym (first-at (N d) (breaks d h) i (omega (arith, s .each)) (s .none) (rw (← at-k, e)))
+
+    module _ (short : tooLong d i k ≡ false) where
+      pub walk-in : k < 98
+      walk-in = omega (arith, not-long d i k short, v .periods-to)
+
+      pub walk-fits : getD loads k 0 ≤ 128
+      walk-fits = omega (arith, s .counted k walk-in, count-le i (land d h) k, s .upto, v .flights-to)
+
+      here : getD loads k 0 + 1 ≡ count (suc i) (land d h) (land d h i)
+      here = rw (← at-k) (omega (arith, s .counted k walk-in, count-suc i (land d h) k, gate-eq (land d h i) k 1 (sym at-k)))
+
+      pub walk-over : overCapacity d k (getD loads k 0 + 1) ≡ true → i ≡ firstBreak d h
+      unfolding firstBreak breaks
+      walk-over e = sym (first-at (N d) (breaks d h) i (omega (arith, s .each)) (s .none) (rw (← here, ← at-k, short, e)))
+
+      pub walk-next : overCapacity d k (getD loads k 0 + 1) ≡ false → Walked d h (set loads k (getD loads k 0 + 1)) (i + 1)
+      unfolding breaks
+      walk-next e = record {
+        good = s .good;
+        each = s .each;
+        upto = omega (arith, s .each);
+        sizes = length-set loads k _ ∙ s .sizes;
+        counted = counted;
+        none = none;
+      }
+        where
+          counted : (j : ℕ) → j < 98 → getD (set loads k (getD loads k 0 + 1)) j 0 ≡ count (i + 1) (land d h) j
+          counted j b = rw (add-one i) (elim (eq? j k) [
+            | inl same ↦ rw same (omega (
+              arith,
+              getD-set-same loads k (getD loads k 0 + 1) 0 (omega (arith, s .sizes, walk-in)),
+              s .counted k walk-in,
+              count-suc i (land d h) k,
+              gate-eq (land d h i) k 1 (sym at-k),
+            ))
+            | inr other ↦ omega (
+              arith,
+              getD-set-other loads k j (getD loads k 0 + 1) 0 other,
+              s .counted j b,
+              count-suc i (land d h) j,
+              gate-ne (land d h i) j 1 (λ f. other (sym (at-k ∙ f))),
+            )
+          ])
+
+          none : (j : ℕ) → j < i + 1 → breaks d h j ≡ false
+          none j b = elim (eq? j i) [
+            | inl same ↦ rw (same, ← here, ← at-k, short, e)
+            | inr other ↦ s .none j (omega arith)
+          ]
+
+  pub walk-end : length h ≤ i → i ≡ firstBreak d h
+  unfolding firstBreak
+  walk-end l =
+      let e : i ≡ N d = omega (arith, s .each, s .upto) in
+      e ∙ sym (first-none (N d) (breaks d h) (λ j b. s .none j (omega arith)))
+
+-- ---- costs
+
+module _ {d : Day} {h : List ℕ} {s i : ℕ} (m : Summed d h s i) where
+  w : Valid d
+  w = valid-means (m .good)
+
+  pub sum-place : i < length h → (i + 1) * 6 ≤ length (d .flights)
+  sum-place l = omega (arith, w .whole, m .each)
+
+  pub sum-fits : s ≤ 5497558266880000
+  sum-fits = omega (arith, m .most, m .upto, w .flights-to)
+
+  module _ {c : ℕ} (l : i < length h) (small : hold h i < 4294967296) (cost-is : c ≡ cost d i (hold h i)) where
+    pub cost-fits : c ≤ 42949673960000
+    cost-fits =
+        let r = w .flight i (omega (arith, m .each)) in
+        let p = mul-le-mul {n₁ = rate d i} {m₁ = hold h i} {n₂ = 10000} {m₂ = 4294967296} (r .rate-to) (omega arith) in
+        elim (lt? (after d i) (hold h i)) [
+          | inl over ↦ omega (arith, cost-is, cost-over d i (hold h i) over, r .jump-to)
+          | inr under ↦ omega (arith, cost-is, cost-under d i (hold h i) under)
+        ]
+
+    pub sum-next : Summed d h (s + c) (i + 1)
+    unfolding sum
+    sum-next = record {
+      good = m .good;
+      each = m .each;
+      upto = omega (arith, m .each);
+      costs = rw (add-one i) (omega (arith, m .costs, cost-is));
+      most = omega (arith, m .most, cost-fits);
+    }
+
+  pub sum-end : length h ≤ i → s ≡ total d h
+  unfolding total
+  sum-end l = let e : i ≡ N d = omega (arith, m .each, m .upto) in m .costs ∙ ap (λ n. sum n (λ j. cost d j (hold h j))) e
+
+-- ---- the starts
+
+blank-at : (m k : ℕ) → getD (replicate {A = ℕ} m 0) k 0 ≡ 0
+blank-at m k = elim (lt? k m) [
+  | inl l ↦ getD-replicate {A = ℕ} m k 0 0 l
+  | inr l ↦ List·getD-eq-default (replicate m 0) 0 (omega (arith, length-replicate {A = ℕ} m 0))
+]
+
+module _ {d : Day} {h : List ℕ} (good : valid d ≡ true) (each : length h ≡ N d) where
+  pub walk-start : Walked d h (replicate 98 0) 0
+  walk-start = record {
+    good = good;
+    each = each;
+    upto = omega arith;
+    sizes = refl;
+    counted = λ k l. blank-at 98 k ∙ sym (count-zero (land d h) k);
+    none = λ j l. absurd (omega arith);
+  }
+
+  pub sum-start : Summed d h 0 0
+  unfolding sum
+  sum-start = record { good = good; each = each; upto = omega arith; costs = refl; most = omega arith }
+
+-- ---- the order of the refusals
+
+module _ (d : Day) (h : List ℕ) where
+  pub check-bad-day : valid d ≡ false → BadDay ≡ planCheck d h
+  unfolding planCheck
+  check-bad-day e = rw e
+
+  module _ (good : valid d ≡ true) {n : ℕ} (flights : n ≡ N d) where
+    pub check-bad-length : (length h ≡ n → ⊥) → BadLength n ≡ planCheck d h
+    unfolding planCheck
+    check-bad-length e = rw (good, ne-eqb (length h) (N d) (λ f. e (f ∙ sym flights)), flights)
+
+    module _ (each : length h ≡ n) {place : ℕ} (at : place ≡ firstBreak d h) where
+      pub check-not-legal : (place ≡ n → ⊥) → NotLegal place ≡ planCheck d h
+      unfolding planCheck walked
+      check-not-legal e = rw (good, eq-eqb (length h) (N d) (each ∙ flights), ne-eqb (firstBreak d h) (N d) (λ f. e (at ∙ f ∙ sym flights)), at)
+
+      pub check-legal : place ≡ n → {t : ℕ} → t ≡ total d h → Legal t ≡ planCheck d h
+      unfolding planCheck walked
+      check-legal e f = rw (good, eq-eqb (length h) (N d) (each ∙ flights), eq-eqb (firstBreak d h) (N d) (sym at ∙ e ∙ flights), f)

@@ -1,0 +1,79 @@
+-- The walk finds no flight that breaks the row exactly when the row is legal.
+-- Assumes nothing.
+use mathlib.Core.Path.{_≡_, refl, sym, ap, _∙_}
+use mathlib.Core.Logic.{_≢_, inl, inr, _↔_}
+use mathlib.Core.Bool.{Bool, true, false, _&&_, _||_}
+use mathlib.Core.List.{List}
+use Prim.Native.Nat.{ℕ, zero, suc, _+_, _-_, _≤_, _<_}
+use native.Mathlib.Omega.{arith}
+use lib.ListN.{length}
+use lib.Dec.{leb, ltb, eqb}
+use borrow.Author.Tests.{le-ltb, le-leb, lt-leb, ltb-false}
+use Rattle.assignment.specs.Sum.{gate, sum, count}
+use Rattle.assignment.proofs.Tests.{lt?, eq?, gate-eq, gate-ne}
+use Rattle.assignment.proofs.Sums.{count-suc, count-zero, sum-grow}
+use Rattle.day.specs.Day.{Day, P, N, due, capacity, latest, land, landings}
+use Rattle.day.specs.Plan.{Legal, tooLong, overCapacity, breaks, firstBreak}
+use Rattle.day.proofs.Tests.{first-none, none-passes}
+use Rattle.day.proofs.Valid.{Valid}
+use Rattle.legality.proofs.Laws.{or-false, not-long}
+
+count-grow : (i n : ℕ) (x : ℕ → ℕ) (k : ℕ) → i ≤ n → count i x k ≤ count n x k
+unfolding count
+count-grow i n x k l =
+    let e : n - i + i ≡ n = omega arith in
+    omega (arith, sum-grow i (n - i) (λ j. gate (eqb (x j) k) 1), ap (λ m. sum m (λ j. gate (eqb (x j) k) 1)) e)
+
+module _ (d : Day) (h : List ℕ) where
+  -- a flight that does not break the row leaves its period within its capacity
+  within : (i : ℕ) → breaks d h i ≡ false → land d h i ≤ P d → count (suc i) (land d h) (land d h i) ≤ capacity d (land d h i)
+  unfolding breaks overCapacity
+  within i e l =
+      let t = or-false (tooLong d i (land d h i)) (overCapacity d (land d h i) (count (suc i) (land d h) (land d h i))) e .1 in
+      ltb-false (capacity d (land d h i)) (count (suc i) (land d h) (land d h i)) (rw (le-leb (land d h i) (P d) l) at t)
+
+  -- so no period is over it, flight by flight
+  upto : (n : ℕ) → ((i : ℕ) → i < n → breaks d h i ≡ false) → (k : ℕ) → k ≤ P d → count n (land d h) k ≤ capacity d k
+  upto zero none k l = omega (arith, count-zero (land d h) k)
+  upto (suc n) none k l = elim (eq? (land d h n) k) [
+    | inl e ↦ rw e at (within n (none n (omega arith)) (rw e l))
+    | inr e ↦ omega (arith, upto n (λ i b. none i (omega arith)) k l, count-suc n (land d h) k, gate-ne (land d h n) k 1 e)
+  ]
+
+  none-legal : length h ≡ N d → firstBreak d h ≡ N d → Legal d h
+  unfolding firstBreak breaks
+  none-legal each e =
+      let none = none-passes (N d) (breaks d h) e in
+      record {
+        each = each;
+        window = λ i l.
+            let t = not-long d i (land d h i) (or-false (tooLong d i (land d h i)) _ (none i l) .0) in
+            record { from = omega arith; closing = t .0; limited = t .1 };
+        room = λ k a b. upto (N d) none k b;
+      }
+
+  legal-none : Valid d → Legal d h → firstBreak d h ≡ N d
+  unfolding firstBreak breaks tooLong overCapacity
+  legal-none v legal = first-none (N d) (breaks d h) (λ i l. fine i l)
+    where
+      fits : (i : ℕ) → i < N d → land d h i ≤ P d → count (suc i) (land d h) (land d h i) ≤ capacity d (land d h i)
+      fits i l b = omega (
+        arith,
+        legal .room (land d h i) (omega (arith, v .flight i l .due-from)) b,
+        count-grow (suc i) (N d) (land d h) (land d h i) l,
+      )
+
+      over : (i : ℕ) → i < N d → overCapacity d (land d h i) (count (suc i) (land d h) (land d h i)) ≡ false
+      over i l = elim (lt? (P d) (land d h i)) [
+        | inl past ↦ rw (lt-leb (land d h i) (P d) past)
+        | inr in-day ↦ rw (le-leb (land d h i) (P d) in-day) (le-ltb _ _ (fits i l in-day))
+      ]
+
+      fine : (i : ℕ) → i < N d → breaks d h i ≡ false
+      fine i l =
+          let w = legal .window i l in
+          rw (le-ltb (P d + 1) (land d h i) (w .closing), le-ltb (latest d i) (land d h i) (w .limited)) (over i l)
+
+-- "the first flight that breaks it": none, exactly for a legal row
+pub walk-means : {d : Day} {h : List ℕ} → Valid d → length h ≡ N d → (firstBreak d h ≡ N d) ↔ Legal d h
+walk-means {d} {h} v each = (none-legal d h each, legal-none d h v)
