@@ -206,5 +206,3 @@ pub fn is_valid(capacities: &[u32], flights: &[u32]) -> bool
     }
     both(capacities_fit(capacities), flights_fit(capacities, flights, n))
 }
-
-// check_plan: see crate `legality`.

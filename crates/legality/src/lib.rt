@@ -49,20 +49,20 @@ fn walk(capacities: &[u32], flights: &[u32], holds: &[u32], loads: &mut [usize])
     requires { ⌜ Walked (day (now capacities) (now flights)) (now holds) (now loads) 0 ⌝ }
     ensures { λ r. ⌜ r ≡ firstBreak (day (now (capacities .entry)) (now (flights .entry))) (now (holds .entry)) ⌝ }
 {
-    let mut i = 0;
-    while i < holds.len() {
-        let k = land_of(capacities, flights, holds, i);
-        if is_too_long(capacities, flights, i, k) {
-            return i;
+    let mut place = 0;
+    while place < holds.len() {
+        let k = land_of(capacities, flights, holds, place);
+        if is_too_long(capacities, flights, place, k) {
+            return place;
         }
         let load = loads[k] + 1;
         if is_over(capacities, flights, k, load) {
-            return i;
+            return place;
         }
         loads[k] = load;
-        i += 1;
+        place += 1;
     }
-    i
+    place
 }
 
 // The first flight that breaks a row of N holds, or N.

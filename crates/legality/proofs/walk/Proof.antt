@@ -16,10 +16,10 @@ use Rattle.legality.proofs.is_too_long.Reads as is-too-long-reads
 use Rattle.legality.proofs.land_of.Reads as land-of-reads
 
 abbrev Inv-loop : tie.InvT-loop
-Inv-loop capacities flights holds loads₀ i₀ loads i = Walked (day capacities flights) holds loads i
+Inv-loop capacities flights holds loads₀ place₀ loads place = Walked (day capacities flights) holds loads place
 
 abbrev μ-loop : tie.MeasureT-loop
-μ-loop capacities flights holds loads₀ i₀ loads i = length holds - i
+μ-loop capacities flights holds loads₀ place₀ loads place = length holds - place
 
 -- src/lib.rt:53:5
 loop-holds : tie.Need-loop-holds Inv-loop μ-loop
@@ -74,8 +74,8 @@ slice-write-loads : tie.Need-slice-write-loads Inv-loop μ-loop
 slice-write-loads c = omega (arith, walk-in (c .before .before .before .before .before .before .before .loop .inv) (c .before .before .before .before .before .before .loop-test .taken) (c .before .before .before .before .before .land-of .ensures .0) (sym (c .before .before .before .before .is-too-long .ensures) ∙ c .before .before .before .if1 .left), c .before .before .before .before .before .before .before .loop .inv .sizes)
 
 -- src/lib.rt:63:9
-add-i : tie.Need-add-i Inv-loop μ-loop
-add-i c = search needs
+add-place : tie.Need-add-place Inv-loop μ-loop
+add-place c = search needs
 
 -- src/lib.rt:53:5
 loop-less : tie.Need-loop-less Inv-loop μ-loop
@@ -112,7 +112,7 @@ walk-spec =
     returns-2
     mul-loads
     slice-write-loads
-    add-i
+    add-place
     loop-less
     loop-again
     same-length-3
