@@ -1,0 +1,208 @@
+-- The laws of the price check's loops, and how its parts make up the whole.
+-- Assumes nothing.
+use mathlib.Core.Path.{_≡_, refl, sym, ap, _∙_}
+use mathlib.Core.Logic.{_≢_, inl, inr}
+use mathlib.Core.Bool.{Bool, true, false, cond}
+use mathlib.Core.List.{List}
+use Prim.Native.Nat.{ℕ, zero, suc, _+_, _-_, _*_, _≤_, _<_}
+use native.Mathlib.Numerals.{add-one}
+use native.Mathlib.Omega.{arith}
+use lib.ListN.{length}
+use lib.Dec.{eqb}
+use Rattle.assignment.specs.Sum.{gate, count}
+use Rattle.assignment.proofs.Tests.{eq?, gate-eq, gate-ne}
+use Rattle.assignment.proofs.Sums.{count-suc, count-zero}
+use Rattle.day.specs.Day.{Day, P, N, due, ofPeriod, capacity, cost, latest, Window, hold, land, landings, valid}
+use Rattle.day.specs.Plan.{Legal, Cheapest, Accepted}
+use Rattle.day.proofs.Instance.{hold-le, cost-le, accepted-is-cheapest}
+use Rattle.day.proofs.Valid.{Valid, valid-means}
+use Rattle.legality.specs.Check.{planCheck}
+use Rattle.legality.specs.declared.PlanCheck.the-variants as found
+use Rattle.legality.proofs.Found.{found-legal, found-not-legal, legal-found}
+use Rattle.price_check.specs.Decides.{Decides, Unsold, Least, Best}
+
+true-false : true ≡ false → ⊥
+true-false e = omega (arith, ap {B = ℕ} (λ b. cond b 1 0) e)
+
+pub say-yes : {A : Type 0} → A → Decides true A
+say-yes a = record { yes = λ _. a; no = λ e. absurd (true-false e) }
+
+pub say-no : {A : Type 0} → (A → ⊥) → Decides false A
+say-no n = record { yes = λ e. absurd (true-false (sym e)); no = λ _. n }
+
+-- ---- counts of landings
+
+-- of the flights before place i, n land in period k
+pub record Counted (d : Day) (h : List ℕ) (k n i : ℕ) : Type 0 where
+  pub good : valid d ≡ true
+  pub each : length h ≡ N d
+  pub upto : i ≤ N d
+  pub few : n ≤ i
+  pub counts : n ≡ count i (land d h) k
+
+pub counted-start : {d : Day} {h : List ℕ} {k : ℕ} → valid d ≡ true → length h ≡ N d → Counted d h k 0 0
+counted-start {d} {h} {k} good each = record { good = good; each = each; upto = omega arith; few = omega arith; counts = sym (count-zero (land d h) k) }
+
+module _ {d : Day} {h : List ℕ} {k n i : ℕ} (s : Counted d h k n i) where
+  pub counted-place : i < length h → (i + 1) * 6 ≤ length (d .flights)
+  counted-place l = omega (arith, valid-means (s .good) .whole, s .each)
+
+  module _ (l : i < length h) {x : ℕ} (at : x ≡ land d h i) where
+    pub counted-on : x ≡ k → Counted d h k (n + 1) (i + 1)
+    counted-on e = record {
+      good = s .good;
+      each = s .each;
+      upto = omega (arith, s .each);
+      few = omega (arith, s .few);
+      counts = rw (add-one i) (omega (arith, s .counts, count-suc i (land d h) k, gate-eq (land d h i) k 1 (sym at ∙ e)));
+    }
+
+    pub counted-off : (x ≡ k → ⊥) → Counted d h k n (i + 1)
+    counted-off e = record {
+      good = s .good;
+      each = s .each;
+      upto = omega (arith, s .each);
+      few = omega (arith, s .few);
+      counts = rw (add-one i) (omega (arith, s .counts, count-suc i (land d h) k, gate-ne (land d h i) k 1 (λ f. e (at ∙ f))));
+    }
+
+  pub counted-end : length h ≤ i → n ≡ landings d h k
+  counted-end done = let e : i ≡ N d = omega (arith, s .each, s .upto) in s .counts ∙ ap (λ m. count m (land d h) k) e
+
+-- ---- periods that are not full
+
+abbrev pub UnsoldTo : Day → (h p : List ℕ) → ℕ → Type 0
+UnsoldTo d h p k = (j : ℕ) → 1 ≤ j → j < k → Unsold d h p j
+
+module _ {d : Day} {h p : List ℕ} {k : ℕ} where
+  unsold-more : UnsoldTo d h p k → Unsold d h p k → UnsoldTo d h p (k + 1)
+  unsold-more upto here j a b = elim (eq? j k) [ inl e ↦ rw e here | inr o ↦ upto j a (omega arith) ]
+
+  pub unsold-free : UnsoldTo d h p k → {x : ℕ} → x ≡ ofPeriod p k → x ≡ 0 → UnsoldTo d h p (k + 1)
+  unsold-free upto e none = unsold-more upto (record { free = λ _. sym e ∙ none })
+
+  pub unsold-full : UnsoldTo d h p k → {n c : ℕ} → n ≡ landings d h k → c ≡ capacity d k → c ≤ n → UnsoldTo d h p (k + 1)
+  unsold-full upto e f full = unsold-more upto (record { free = λ less. absurd (omega arith) })
+
+  pub unsold-not : 1 ≤ k → k ≤ P d → {x n c : ℕ} → x ≡ ofPeriod p k → (x ≡ 0 → ⊥) → n ≡ landings d h k → c ≡ capacity d k → n < c
+      → ((j : ℕ) → 1 ≤ j → j ≤ P d → Unsold d h p j) → ⊥
+  unsold-not a b e some f g less said = some (e ∙ said k a b .free (omega arith))
+
+-- ---- least cost and price
+
+-- the flight's numbers stand in its row
+pub best-place : {d : Day} {h : List ℕ} {i : ℕ} → valid d ≡ true → Legal d h → i < length h → (i + 1) * 6 ≤ length (d .flights)
+best-place good legal l = omega (arith, valid-means good .whole, legal .each)
+
+pub record Bests (d : Day) (h p : List ℕ) (i k : ℕ) : Type 0 where
+  pub good : valid d ≡ true
+  pub legal : Legal d h
+  pub place : i < length h
+  pub from : due d i ≤ k
+  pub passed : (j : ℕ) → due d i ≤ j → j < k → Least d h p i j
+
+pub best-start : {d : Day} {h p : List ℕ} {i : ℕ} → valid d ≡ true → Legal d h → i < length h → Bests d h p i (due d i)
+best-start good legal place = record { good = good; legal = legal; place = place; from = omega arith; passed = λ j a b. absurd (omega arith) }
+
+-- the landing itself: within the day, at a cost that is small
+module _ {d : Day} {h : List ℕ} {i : ℕ} (good : valid d ≡ true) (legal : Legal d h) (place : i < length h) where
+  v : Valid d
+  v = valid-means good
+
+  l : i < N d
+  l = omega (arith, legal .each)
+
+  pub here-land : land d h i ≤ 97
+  here-land = omega (arith, legal .window i l .closing, v .periods-to)
+
+  pub here-cost : cost d i (hold h i) ≤ 1960000
+  here-cost = cost-le v i (hold h i) l (hold-le v legal l)
+
+module _ {d : Day} {h p : List ℕ} {i k : ℕ} (s : Bests d h p i k) where
+  w : Valid d
+  w = valid-means (s .good)
+
+  m : i < N d
+  m = omega (arith, s .legal .each, s .place)
+
+  -- what the program adds up, in the definitions' words
+  module _ {u x y : ℕ} (at : u ≡ due d i) where
+    pub here-made : {z : ℕ} → z ≡ hold h i → x ≡ cost d i z → y ≡ ofPeriod p (u + z) → x + y ≡ cost d i (hold h i) + ofPeriod p (land d h i)
+    here-made e f g = rw (f, g, at, e)
+
+    pub there-made : x ≡ cost d i (k - u) → y ≡ ofPeriod p k → x + y ≡ cost d i (k - due d i) + ofPeriod p k
+    there-made f g = rw (f, g, at)
+
+  pub best-fits : k ≤ P d + 1 → cost d i (k - due d i) ≤ 1960000
+  best-fits b = cost-le w i (k - due d i) m (omega (arith, w .flight i m .due-from, w .periods-to))
+
+  pub best-next : {here there : ℕ} → here ≡ cost d i (hold h i) + ofPeriod p (land d h i) → there ≡ cost d i (k - due d i) + ofPeriod p k
+      → here ≤ there → Bests d h p i (k + 1)
+  best-next e f less = record {
+    good = s .good;
+    legal = s .legal;
+    place = s .place;
+    from = omega (arith, s .from);
+    passed = λ j a b. elim (eq? j k) [ inl same ↦ rw same (omega arith) | inr o ↦ s .passed j a (omega arith) ];
+  }
+
+  pub best-not : k ≤ P d + 1 → k ≤ latest d i → {here there : ℕ} → here ≡ cost d i (hold h i) + ofPeriod p (land d h i)
+      → there ≡ cost d i (k - due d i) + ofPeriod p k → there < here → Best d h p i → ⊥
+  best-not closing limited e f less said = omega (arith, said .least k (record { from = s .from; closing = closing; limited = limited }))
+
+  pub best-limit : latest d i < k → Best d h p i
+  best-limit b = record { least = λ j win. s .passed j (win .from) (omega (arith, win .limited)) }
+
+  pub best-end : P d + 1 < k → Best d h p i
+  best-end b = record { least = λ j win. s .passed j (win .from) (omega (arith, win .closing)) }
+
+-- ---- the whole check
+
+module _ (d : Day) (h p : List ℕ) where
+  abbrev pub Outcome : Bool → Type 0
+  Outcome r = Decides r ((valid d ≡ true) × Accepted d h p) × (r ≡ true → Cheapest d h)
+
+  refuse : (((valid d ≡ true) × Accepted d h p) → ⊥) → Outcome false
+  refuse n = (say-no n, λ e. absurd (true-false (sym e)))
+
+  pub no-plan : (((valid d ≡ true) × Legal d h) → ⊥) → Outcome false
+  no-plan n = refuse (λ s. n (s .0, s .1 .legal))
+
+  pub no-length : (length p ≡ P d → ⊥) → Outcome false
+  no-length n = refuse (λ s. n (s .1 .each))
+
+  pub no-unsold : (((k : ℕ) → 1 ≤ k → k ≤ P d → Unsold d h p k) → ⊥) → Outcome false
+  no-unsold n = refuse (λ s. n (λ k a b. record { free = s .1 .unsold k a b }))
+
+  pub by-best : (valid d ≡ true) × Legal d h → length p ≡ P d → ((k : ℕ) → 1 ≤ k → k ≤ P d → Unsold d h p k) → {r : Bool}
+      → Decides r ((i : ℕ) → i < length h → Best d h p i) → Outcome r
+  by-best legal each unsold {r} best = (
+    record { yes = λ e. (legal .0, accept (best .yes e)); no = λ e s. best .no e (λ i b. record { least = λ k win. s .1 .least i k (omega (arith, legal .1 .each)) win }) },
+    λ e. accepted-is-cheapest (valid-means (legal .0)) (accept (best .yes e)),
+  )
+    where
+      accept : ((i : ℕ) → i < length h → Best d h p i) → Accepted d h p
+      accept all = record {
+        legal = legal .1;
+        each = each;
+        unsold = λ k a b. unsold k a b .free;
+        least = λ i k b win. all i (omega (arith, legal .1 .each)) .least k win;
+      }
+
+-- ---- the check of the holds
+
+module _ (d : Day) (h : List ℕ) where
+  abbrev pub LegalDay : Bool → Type 0
+  LegalDay r = Decides r ((valid d ≡ true) × Legal d h)
+
+  pub found-yes : {t : ℕ} → planCheck d h ≡ found.Legal t → LegalDay true
+  found-yes e = let f = found-legal d h e in say-yes (f .good, f .legal)
+
+  pub found-bad-day : planCheck d h ≡ found.BadDay → LegalDay false
+  found-bad-day e = say-no (λ s. let p = legal-found d h (s .0) (s .1) in let z : _≡_ {A = ℕ} 0 1 = cc in omega (arith, z))
+
+  pub found-bad-length : {n : ℕ} → planCheck d h ≡ found.BadLength n → LegalDay false
+  found-bad-length e = say-no (λ s. let p = legal-found d h (s .0) (s .1) in let z : _≡_ {A = ℕ} 0 1 = cc in omega (arith, z))
+
+  pub found-illegal : {n : ℕ} → planCheck d h ≡ found.NotLegal n → LegalDay false
+  found-illegal e = say-no (λ s. found-not-legal d h e .illegal (s .1))
