@@ -1,0 +1,37 @@
+-- Choice: "lent two hold rows for a day, it hands back the cheaper legal row itself, the first when costs are equal; the only legal one if
+-- one is; the empty front part of the first if neither is. A bad day or a row of another length counts as not legal."
+-- Assumes nothing.
+use mathlib.Core.Path.{_≡_}
+use mathlib.Core.Bool.{cond}
+use mathlib.Core.List.{List}
+use Prim.Native.Nat.{ℕ}
+use lib.Dec.{leb}
+use Rattle.day.specs.Day.{Day}
+use Rattle.legality.specs.Check.{planCheck}
+use Rattle.legality.specs.declared.PlanCheck.{PlanCheck}
+use Rattle.legality.specs.declared.PlanCheck.the-variants.{BadDay, BadLength, NotLegal, Legal}
+
+-- which of two rows
+pub data Which : Type 0 where
+  first : Which
+  second : Which
+  neither : Which
+
+-- of a legal plan's total, or where it is not legal
+abbrev pub onLegal {ℓ} : {A : Type ℓ} → PlanCheck → (ℕ → A) → A → A
+onLegal BadDay legal not-legal = not-legal
+onLegal (BadLength needed) legal not-legal = not-legal
+onLegal (NotLegal place) legal not-legal = not-legal
+onLegal (Legal total) legal not-legal = legal total
+
+abbrev pub cheaper : PlanCheck → PlanCheck → Which
+cheaper a b = onLegal a (λ s. onLegal b (λ t. cond (leb s t) first second) first) (onLegal b (λ t. second) neither)
+
+unfoldable pub choice : Day → (one other : List ℕ) → Which
+choice d one other = cheaper (planCheck d one) (planCheck d other)
+
+-- r is that row itself; where it is neither, what is said of r instead
+abbrev pub Chosen {ℓ} : {A : Type ℓ} → Which → (r one other : A) → Type ℓ → Type ℓ
+Chosen first r one other front = r ≡ one
+Chosen second r one other front = r ≡ other
+Chosen neither r one other front = front

@@ -1,0 +1,37 @@
+// The cheaper of two hold rows for a day, handed back itself.
+ghost use mathlib.Core.Path.{_≡_};
+ghost use mathlib.Core.List.{[]};
+ghost use Rattle.day.specs.Day.{day};
+ghost use Rattle.legality.specs.Check.{planCheck};
+ghost use Rattle.choice.specs.Choice.{onLegal, choice, Chosen};
+
+// More than any legal plan's total.
+const NO_TOTAL: usize = 250880001;
+
+// The total of a legal plan; a number above every total for a row that is not legal.
+fn legal_total(capacities: &[u32], flights: &[u32], holds: &[u32]) -> usize
+    ensures { λ r. ⌜ r ≡ onLegal (planCheck (day (now (capacities .entry)) (now (flights .entry))) (now (holds .entry))) (λ t. t) 250880001 ⌝ }
+{
+    let found = legality::check_plan(capacities, flights, holds);
+    match found {
+        legality::PlanCheck::BadDay => NO_TOTAL,
+        legality::PlanCheck::BadLength { needed } => NO_TOTAL,
+        legality::PlanCheck::NotLegal { place } => NO_TOTAL,
+        legality::PlanCheck::Legal { total } => total,
+    }
+}
+
+// The row that is chosen, as the reference that was lent, or the first's empty front.
+pub fn choose<'a>(capacities: &[u32], flights: &[u32], first: &'a [u32], second: &'a [u32]) -> &'a [u32]
+    ensures { λ r. ⌜ Chosen (choice (day (now (capacities .entry)) (now (flights .entry))) (now (first .entry)) (now (second .entry))) r (first .entry) (second .entry) ((now r ≡ []) × (r .ptr ≡ first .entry .ptr)) ⌝ }
+{
+    let one = legal_total(capacities, flights, first);
+    let other = legal_total(capacities, flights, second);
+    if other < one {
+        return second;
+    }
+    if one < NO_TOTAL {
+        return first;
+    }
+    &first[..0]
+}
