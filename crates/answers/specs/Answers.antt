@@ -4,7 +4,21 @@ use Prim.Native.Nat.{ℕ}
 use mathlib.Core.Bool.{Bool, true, false}
 use Rattle.answers.specs.declared.Answer.{Answer}
 use Rattle.answers.specs.declared.Answer.the-variants.{
-  Read, Planned, Written, Done, TooLong, BadForm, OutOfRange, NumberUsed, BadCount, BadDay, BadLength, JumpOrLimit, NoPlan, NotLegal, NoSuchPeriod
+  Read,
+  Planned,
+  Written,
+  Done,
+  TooLong,
+  BadForm,
+  OutOfRange,
+  NumberUsed,
+  BadCount,
+  BadDay,
+  BadLength,
+  JumpOrLimit,
+  NoPlan,
+  NotLegal,
+  NoSuchPeriod,
 }
 use Rattle.answers.specs.declared.Code.{Code}
 

@@ -3,16 +3,16 @@
 -- Assumes nothing.
 use mathlib.Core.Path.{_≡_, refl, sym, ap, _∙_}
 use mathlib.Core.Logic.{_⊎_, inl, inr, _≢_}
-use Prim.Native.Nat.{ℕ, zero, suc, _+_, _-_, _*_, _≤_, _<_, zero-le}
+use Prim.Native.Nat.{ℕ, suc, _+_, _-_, _≤_, _<_}
 use native.Mathlib.Omega.{arith}
-use lib.Dec.{T, ltb, leb, eqb}
+use lib.Dec.{ltb, eqb}
 use Rattle.assignment.specs.Sum.{gate, sum, count}
-use Rattle.assignment.specs.Assignment.{Instance, In, Plan, Legal, total, Accepted}
+use Rattle.assignment.specs.Assignment.{Instance, In, total, Accepted}
 use Rattle.assignment.proofs.Tests.{gate-eq, gate-ne, gate-lt, gate-ge, lt?, eq?}
 use Rattle.assignment.proofs.Sums.{count-suc, count-ext, count-zero, sum-ext}
 use Rattle.assignment.proofs.Moves.{Settled, Moved, moved-count, moved-total, moved-settled, put, put-moved}
 use Rattle.assignment.proofs.Saving.{Link, Held, stays, Smallest, smallest}
-use Rattle.assignment.proofs.Near.{Near, Step}
+use Rattle.assignment.proofs.Near.{Near}
 
 -- the day with the flight after the last
 abbrev pub grown : Instance → Instance
@@ -95,9 +95,6 @@ going-start {d} {x} {q} {order} {via} {u} {z} s none tree chain = record {
 module _ {d : Instance} {x₀ x q order via : ℕ → ℕ} {u z at : ℕ} (s : Going d x₀ x q order via u z at) where
   hop : via at ≢ d .n → Hop d x q order at (via at)
   hop e = elim (s .tree at (omega arith)) [ inl r ↦ absurd (e (r .0)) | inr a ↦ a ]
-
-  pub going-in : via at ≢ d .n → (via at < d .n) × (order (x (via at)) < order at)
-  going-in e = (hop e .who, hop e .lower)
 
   pub going-step : {y : ℕ → ℕ} → via at ≢ d .n → Moved x y (via at) at → Going d x₀ y q order via u z (x (via at))
   going-step {y} new v = record {
@@ -224,8 +221,8 @@ module _ {d : Instance} {x₀ x y q order via : ℕ → ℕ} {u z at : ℕ} (s :
   old : (i : ℕ) → i < d .n → y i ≡ x i
   old i l = v .others i (omega arith)
 
-  counted : (j : ℕ) → count (suc (d .n)) y j ≡ count (d .n) x₀ j + gate (eqb z j) 1
-  counted j = omega (arith, count-suc (d .n) y j, ap (λ k. gate (eqb k j) 1) (v .here), count-ext (d .n) x y old j, s .counts j)
+  pub going-count : (j : ℕ) → count (suc (d .n)) y j ≡ count (d .n) x₀ j + gate (eqb z j) 1
+  going-count j = omega (arith, count-suc (d .n) y j, ap (λ k. gate (eqb k j) 1) (v .here), count-ext (d .n) x y old j, s .counts j)
 
   at-z : (j : ℕ) → gate (eqb z j) 1 + count (d .n) x₀ j ≤ d .cap j
   at-z j = elim (eq? z j) [
@@ -240,9 +237,9 @@ module _ {d : Instance} {x₀ x y q order via : ℕ → ℕ} {u z at : ℕ} (s :
         | inl e ↦ rw (e, v .here) (grow-in (root .fits))
         | inr e ↦ rw (old i (omega arith)) (grow-in (s .settled .window i (omega arith)))
       ];
-      room = λ j. omega (arith, counted j, at-z j);
+      room = λ j. omega (arith, going-count j, at-z j);
     };
-    unsold = λ j free. g .unsold j (omega (arith, counted j));
+    unsold = λ j free. g .unsold j (omega (arith, going-count j));
     best = λ i k l w. elim (eq? i (d .n)) [
       | inl e ↦ rw (e, v .here) (omega (arith, root .pays, g .level k (thin-in (rw e at w))))
       | inr e ↦ rw (old i (omega arith)) (s .settled .best i k (omega arith) (thin-in w))
@@ -287,8 +284,8 @@ module _ {d : Instance} {x₀ x y q order via : ℕ → ℕ} {u z at : ℕ} (s :
 -- ---- the raise
 
 -- the search has come to z, the nearest period that is not reached, and z has room
-pub record Found (d : Instance) (x p root dist rank via : ℕ → ℕ) (t w u z : ℕ) : Type 0 where
-  pub near : Near d x p root dist rank via t (d .n) w
+pub record Found (d : Instance) (x p root dist rank via : ℕ → ℕ) (t u z : ℕ) : Type 0 where
+  pub near : Near d x p root dist rank via t (d .n)
   pub fresh : rank z ≡ 0
   pub here : dist z ≡ u
   pub least : (k : ℕ) → rank k ≡ 0 → u ≤ dist k
@@ -297,7 +294,7 @@ pub record Found (d : Instance) (x p root dist rank via : ℕ → ℕ) (t w u z 
   pub rooted : (k : ℕ) → root k ≤ u → In d (d .n) k × (root k ≡ d .cost (d .n) k + p k)
   pub reach : (k : ℕ) → In d (d .n) k → root k ≤ d .cost (d .n) k + p k
 
-module _ {d : Instance} {x p q root dist rank via : ℕ → ℕ} {t w u z : ℕ} (f : Found d x p root dist rank via t w u z) (s : Sound d x p)
+module _ {d : Instance} {x p q root dist rank via : ℕ → ℕ} {t u z : ℕ} (f : Found d x p root dist rank via t u z) (s : Sound d x p)
     (rise : (k : ℕ) → q k ≡ p k + (u - dist k)) where
   close : (k : ℕ) → 0 < rank k → dist k ≤ u
   close k some = omega (arith, f .near .order k z some (f .fresh), f .here)
@@ -309,12 +306,12 @@ module _ {d : Instance} {x p q root dist rank via : ℕ → ℕ} {t w u z : ℕ}
   rise-settled = record {
     window = s .accepted .legal .window;
     best = λ i k l b. elim (lt? 0 (rank (x i))) [
-      | inl some ↦ omega (arith, f .near .near i k l b some (inr (inl l)), rise k, rise (x i), close (x i) some)
+      | inl some ↦ omega (arith, f .near .near i k l b some (inr l), rise k, rise (x i), close (x i) some)
       | inr none ↦ omega (arith, s .accepted .best i k l b, rise k, far-off (x i) (omega arith))
     ];
   }
 
-  z-free : q z ≡ 0
+  pub z-free : q z ≡ 0
   z-free = far-off z (f .fresh) ∙ s .accepted .unsold z (f .free)
 
   pub ground : Ground d x q u z
@@ -398,7 +395,7 @@ module _ {d : Instance} {x p q root dist rank via : ℕ → ℕ} {t w u z : ℕ}
       -- a price that does not rise is not held up by one that does
       not-near : (k : ℕ) → u < dist k → (a : Link d x p (s .rank) k) → u ≤ dist (x (a .by))
       not-near k b a = elim (lt? 0 (rank (x (a .by)))) [
-        | inl some ↦ omega (arith, f .near .near (a .by) k (a .who) (a .fits) some (inr (inl (a .who))), a .tie)
+        | inl some ↦ omega (arith, f .near .near (a .by) k (a .who) (a .fits) some (inr (a .who)), a .tie)
         | inr none ↦ f .least (x (a .by)) (omega arith)
       ]
 
@@ -413,18 +410,6 @@ module _ {d : Instance} {x p q root dist rank via : ℕ → ℕ} {t w u z : ℕ}
           | inr e ↦ omega (arith, order-rest k b, order-le (x (a .by)) e)
         ];
       }
-
-  pub order-z : order z ≡ suc t
-  order-z = order-next z (f .fresh) (omega (arith, f .here))
-
-  pub order-low : (k : ℕ) → order k < order z → (0 < rank k) × (order k ≡ rank k)
-  order-low k b = elim (lt? 0 (rank k)) [
-    | inl some ↦ (some, order-reached k some)
-    | inr none ↦ absurd (elim (lt? u (dist k)) [
-      | inl e ↦ omega (arith, order-z, order-rest k e)
-      | inr e ↦ omega (arith, order-z, order-next k (omega arith) e)
-    ])
-  ]
 
   -- the start of the walk back
   pub going : Going d x x q order via u z z

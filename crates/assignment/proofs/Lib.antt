@@ -6,3 +6,7 @@ pub mod Saving
 pub mod Near
 pub mod Insertion
 pub mod Stretch
+pub mod Stuck
+pub mod Restricted
+pub mod Permuted
+pub mod Existence

@@ -10,12 +10,8 @@ use Rattle.day.specs.Day.{Day}
 use Rattle.legality.specs.Check.{planCheck}
 use Rattle.legality.specs.declared.PlanCheck.{PlanCheck}
 use Rattle.legality.specs.declared.PlanCheck.the-variants.{BadDay, BadLength, NotLegal, Legal}
-
--- which of two rows
-pub data Which : Type 0 where
-  first : Which
-  second : Which
-  neither : Which
+use Rattle.choice.specs.declared.Which.{Which}
+use Rattle.choice.specs.declared.Which.the-variants.{First, Second, Neither}
 
 -- of a legal plan's total, or where it is not legal
 abbrev pub onLegal {ℓ} : {A : Type ℓ} → PlanCheck → (ℕ → A) → A → A
@@ -25,13 +21,13 @@ onLegal (NotLegal place) legal not-legal = not-legal
 onLegal (Legal total) legal not-legal = legal total
 
 abbrev pub cheaper : PlanCheck → PlanCheck → Which
-cheaper a b = onLegal a (λ s. onLegal b (λ t. cond (leb s t) first second) first) (onLegal b (λ t. second) neither)
+cheaper a b = onLegal a (λ s. onLegal b (λ t. cond (leb s t) First Second) First) (onLegal b (λ t. Second) Neither)
 
 unfoldable pub choice : Day → (one other : List ℕ) → Which
 choice d one other = cheaper (planCheck d one) (planCheck d other)
 
 -- r is that row itself; where it is neither, what is said of r instead
 abbrev pub Chosen {ℓ} : {A : Type ℓ} → Which → (r one other : A) → Type ℓ → Type ℓ
-Chosen first r one other front = r ≡ one
-Chosen second r one other front = r ≡ other
-Chosen neither r one other front = front
+Chosen First r one other front = r ≡ one
+Chosen Second r one other front = r ≡ other
+Chosen Neither r one other front = front

@@ -5,6 +5,12 @@ ghost use Rattle.day.specs.Day.{day};
 ghost use Rattle.legality.specs.Check.{planCheck};
 ghost use Rattle.choice.specs.Choice.{onLegal, choice, Chosen};
 
+pub enum Which {
+    First,
+    Second,
+    Neither,
+}
+
 // More than any legal plan's total.
 const NO_TOTAL: usize = 250880001;
 
@@ -21,17 +27,34 @@ fn legal_total(capacities: &[u32], flights: &[u32], holds: &[u32]) -> usize
     }
 }
 
-// The row that is chosen, as the reference that was lent, or the first's empty front.
-pub fn choose<'a>(capacities: &[u32], flights: &[u32], first: &'a [u32], second: &'a [u32]) -> &'a [u32]
-    ensures { λ r. ⌜ Chosen (choice (day (now (capacities .entry)) (now (flights .entry))) (now (first .entry)) (now (second .entry))) r (first .entry) (second .entry) ((now r ≡ []) × (r .ptr ≡ first .entry .ptr)) ⌝ }
+// Which of the two rows is chosen.
+pub fn which_row(capacities: &[u32], flights: &[u32], first: &[u32], second: &[u32]) -> Which
+    ensures { λ r. ⌜ r ≡ choice (day (now (capacities .entry)) (now (flights .entry))) (now (first .entry)) (now (second .entry)) ⌝ }
 {
     let one = legal_total(capacities, flights, first);
     let other = legal_total(capacities, flights, second);
     if other < one {
-        return second;
+        return Which::Second;
     }
     if one < NO_TOTAL {
-        return first;
+        return Which::First;
     }
-    &first[..0]
+    Which::Neither
+}
+
+// The row that is chosen, as the reference that was lent, or the first's empty front.
+pub fn choose<'a>(
+    capacities: &[u32],
+    flights: &[u32],
+    first: &'a [u32],
+    second: &'a [u32],
+) -> &'a [u32]
+    ensures { λ r. ⌜ Chosen (choice (day (now (capacities .entry)) (now (flights .entry))) (now (first .entry)) (now (second .entry))) r (first .entry) (second .entry) ((now r ≡ []) × (r .ptr ≡ first .entry .ptr)) ⌝ }
+{
+    let chosen = which_row(capacities, flights, first, second);
+    match chosen {
+        Which::First => first,
+        Which::Second => second,
+        Which::Neither => &first[..0],
+    }
 }

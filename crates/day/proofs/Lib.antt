@@ -2,3 +2,4 @@ pub mod Tests
 pub mod Costs
 pub mod Valid
 pub mod Instance
+pub mod Existence

@@ -139,7 +139,10 @@ fn is_in_range(capacities: &[u32], flights: &[u32], i: usize) -> bool
         is_inside(1, capacities.len(), due_of(flights, i)),
     );
     let rated = both(named, is_inside(1, 10000, rate_of(flights, i)));
-    let priced = both(both(rated, after_of(flights, i) <= 96), jump_of(flights, i) <= 1000000);
+    let priced = both(
+        both(rated, after_of(flights, i) <= 96),
+        jump_of(flights, i) <= 1000000,
+    );
     both(priced, limit_fits(limit_of(flights, i)))
 }
 
@@ -204,5 +207,8 @@ pub fn is_valid(capacities: &[u32], flights: &[u32]) -> bool
     if 128 < n {
         return false;
     }
-    both(capacities_fit(capacities), flights_fit(capacities, flights, n))
+    both(
+        capacities_fit(capacities),
+        flights_fit(capacities, flights, n),
+    )
 }

@@ -37,7 +37,9 @@ fn are_unsold(capacities: &[u32], flights: &[u32], holds: &[u32], prices: &[u32]
         let period = k;
         k += 1;
         if day::of_period(prices, period) != 0 {
-            if landings_of(capacities, flights, holds, period) < day::of_period(capacities, period) {
+            if landings_of(capacities, flights, holds, period)
+                < day::of_period(capacities, period)
+            {
                 return false;
             }
         }

@@ -1,187 +1,141 @@
+-- Each arm gives the numbers that the definition gives for its case.
+-- Assumes nothing.
 use borrow.Author.Needs.{needs}
 use Rattle.answers.proofs.code_of.Statement.{statement}
 use Rattle.answers.proofs.code_of.Tie as tie
-use Rattle.answers.proofs.code_of.Reads as reads
-use Rattle.answers.proofs.code_of.Lts as lts
-use Rattle.answers.proofs.coded.Reads as coded-reads
 
--- src/lib.rt:50:24
 enum-known-answer : tie.Need-enum-known-answer
 enum-known-answer c = search needs
 
--- src/lib.rt:50:46
 coded-requires : tie.Need-coded-requires
 coded-requires c κs = search needs
 
--- src/lib.rt:51:27
 enum-known-answer-2 : tie.Need-enum-known-answer-2
 enum-known-answer-2 c = search needs
 
--- src/lib.rt:51:38
 coded-requires-2 : tie.Need-coded-requires-2
 coded-requires-2 c κs = search needs
 
--- src/lib.rt:52:27
 enum-known-answer-3 : tie.Need-enum-known-answer-3
 enum-known-answer-3 c = search needs
 
--- src/lib.rt:52:38
 coded-requires-3 : tie.Need-coded-requires-3
 coded-requires-3 c κs = search needs
 
--- src/lib.rt:53:25
 enum-told : tie.Need-enum-told
 enum-told c = search needs
 
--- src/lib.rt:53:25
 coded-requires-4 : tie.Need-coded-requires-4
 coded-requires-4 c κs = search needs
 
--- src/lib.rt:54:28
 enum-told-2 : tie.Need-enum-told-2
 enum-told-2 c = search needs
 
--- src/lib.rt:54:28
 coded-requires-5 : tie.Need-coded-requires-5
 coded-requires-5 c κs = search needs
 
--- src/lib.rt:55:27
 enum-known-answer-4 : tie.Need-enum-known-answer-4
 enum-known-answer-4 c = search needs
 
--- src/lib.rt:55:37
 coded-requires-6 : tie.Need-coded-requires-6
 coded-requires-6 c κs = search needs
 
--- src/lib.rt:56:30
 enum-known-answer-5 : tie.Need-enum-known-answer-5
 enum-known-answer-5 c = search needs
 
--- src/lib.rt:56:40
 coded-requires-7 : tie.Need-coded-requires-7
 coded-requires-7 c κs = search needs
 
--- src/lib.rt:57:30
 enum-known-answer-6 : tie.Need-enum-known-answer-6
 enum-known-answer-6 c = search needs
 
--- src/lib.rt:57:40
 coded-requires-8 : tie.Need-coded-requires-8
 coded-requires-8 c κs = search needs
 
--- src/lib.rt:58:28
 enum-known-answer-7 : tie.Need-enum-known-answer-7
 enum-known-answer-7 c = search needs
 
--- src/lib.rt:58:38
 coded-requires-9 : tie.Need-coded-requires-9
 coded-requires-9 c κs = search needs
 
--- src/lib.rt:59:27
 enum-told-3 : tie.Need-enum-told-3
 enum-told-3 c = search needs
 
--- src/lib.rt:59:27
 coded-requires-10 : tie.Need-coded-requires-10
 coded-requires-10 c κs = search needs
 
--- src/lib.rt:60:29
 enum-known-answer-8 : tie.Need-enum-known-answer-8
 enum-known-answer-8 c = search needs
 
--- src/lib.rt:60:41
 coded-requires-11 : tie.Need-coded-requires-11
 coded-requires-11 c κs = search needs
 
--- src/lib.rt:61:31
 enum-known-answer-9 : tie.Need-enum-known-answer-9
 enum-known-answer-9 c = search needs
 
--- src/lib.rt:61:42
 coded-requires-12 : tie.Need-coded-requires-12
 coded-requires-12 c κs = search needs
 
--- src/lib.rt:62:26
 enum-known-answer-10 : tie.Need-enum-known-answer-10
 enum-known-answer-10 c = search needs
 
--- src/lib.rt:62:43
 coded-requires-13 : tie.Need-coded-requires-13
 coded-requires-13 c κs = search needs
 
--- src/lib.rt:63:28
 enum-known-answer-11 : tie.Need-enum-known-answer-11
 enum-known-answer-11 c = search needs
 
--- src/lib.rt:63:39
 coded-requires-14 : tie.Need-coded-requires-14
 coded-requires-14 c κs = search needs
 
--- src/lib.rt:64:32
 enum-known-answer-12 : tie.Need-enum-known-answer-12
 enum-known-answer-12 c = search needs
 
--- src/lib.rt:64:45
 coded-requires-15 : tie.Need-coded-requires-15
 coded-requires-15 c κs = search needs
 
--- src/lib.rt:46:1
 returns : tie.Need-returns
 returns c = cc
 
--- src/lib.rt:46:1
 returns-2 : tie.Need-returns-2
 returns-2 c = cc
 
--- src/lib.rt:46:1
 returns-3 : tie.Need-returns-3
 returns-3 c = cc
 
--- src/lib.rt:46:1
 returns-4 : tie.Need-returns-4
 returns-4 c = cc
 
--- src/lib.rt:46:1
 returns-5 : tie.Need-returns-5
 returns-5 c = cc
 
--- src/lib.rt:46:1
 returns-6 : tie.Need-returns-6
 returns-6 c = cc
 
--- src/lib.rt:46:1
 returns-7 : tie.Need-returns-7
 returns-7 c = cc
 
--- src/lib.rt:46:1
 returns-8 : tie.Need-returns-8
 returns-8 c = cc
 
--- src/lib.rt:46:1
 returns-9 : tie.Need-returns-9
 returns-9 c = cc
 
--- src/lib.rt:46:1
 returns-10 : tie.Need-returns-10
 returns-10 c = cc
 
--- src/lib.rt:46:1
 returns-11 : tie.Need-returns-11
 returns-11 c = cc
 
--- src/lib.rt:46:1
 returns-12 : tie.Need-returns-12
 returns-12 c = cc
 
--- src/lib.rt:46:1
 returns-13 : tie.Need-returns-13
 returns-13 c = cc
 
--- src/lib.rt:46:1
 returns-14 : tie.Need-returns-14
 returns-14 c = cc
 
--- src/lib.rt:46:1
 returns-15 : tie.Need-returns-15
 returns-15 c = cc
 

@@ -1,45 +1,35 @@
+-- Each arm of the finding.
+-- Assumes nothing.
 use mathlib.Core.Path.{sym, ap, _∙_}
 use Rattle.choice.proofs.Laws.{totalOr, bad-day-total}
 use borrow.Author.Needs.{needs}
 use Rattle.choice.proofs.legal_total.Statement.{statement}
 use Rattle.choice.proofs.legal_total.Tie as tie
-use Rattle.choice.proofs.legal_total.Reads as reads
-use Rattle.choice.proofs.legal_total.Lts as lts
-use Rattle.legality.proofs.check_plan.Reads as check-plan-reads
 
--- src/lib.rt:15:9
 check-plan-requires : tie.Need-check-plan-requires
 check-plan-requires c κs = search needs
 
--- src/lib.rt:17:40
 enum-told : tie.Need-enum-told
 enum-told c = search needs
 
--- src/lib.rt:18:42
 enum-known-found : tie.Need-enum-known-found
 enum-known-found c = search needs
 
--- src/lib.rt:19:41
 enum-known-found-2 : tie.Need-enum-known-found-2
 enum-known-found-2 c = search needs
 
--- src/lib.rt:20:38
 enum-known-found-3 : tie.Need-enum-known-found-3
 enum-known-found-3 c = search needs
 
--- src/lib.rt:12:1
 returns : tie.Need-returns
-returns c = bad-day-total (cc)
+returns c = bad-day-total _ _ (cc)
 
--- src/lib.rt:12:1
 returns-2 : tie.Need-returns-2
 returns-2 c = sym (ap totalOr (sym (c .before .before .before .check-plan .ensures) ∙ c .before .found .given .1))
 
--- src/lib.rt:12:1
 returns-3 : tie.Need-returns-3
 returns-3 c = sym (ap totalOr (sym (c .before .before .before .check-plan .ensures) ∙ c .before .found2 .given .1))
 
--- src/lib.rt:12:1
 returns-4 : tie.Need-returns-4
 returns-4 c = sym (ap totalOr (sym (c .before .before .before .check-plan .ensures) ∙ c .before .found3 .given .1))
 

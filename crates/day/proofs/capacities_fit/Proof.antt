@@ -1,3 +1,5 @@
+-- The loop passes the capacities that fit.
+-- Assumes nothing.
 use borrow.Author.Needs.{needs}
 use Prim.Native.Nat.{_≤_, _-_}
 use mathlib.Core.Path.{_≡_, refl, sym}
@@ -10,8 +12,6 @@ use Rattle.day.specs.Day.{all}
 use Rattle.day.proofs.Tests.{all-next, all-not}
 use Rattle.day.proofs.capacities_fit.Statement.{statement}
 use Rattle.day.proofs.capacities_fit.Tie as tie
-use Rattle.day.proofs.capacities_fit.Reads as reads
-use Rattle.day.proofs.capacities_fit.Lts as lts
 
 abbrev Inv-loop : tie.InvT-loop
 Inv-loop capacities k₀ k = (k ≤ length capacities) × (all k (λ j. leb (getD capacities j 0) 255) ≡ true)
@@ -19,36 +19,28 @@ Inv-loop capacities k₀ k = (k ≤ length capacities) × (all k (λ j. leb (get
 abbrev μ-loop : tie.MeasureT-loop
 μ-loop capacities k₀ k = length capacities - k
 
--- src/lib.rt:170:5
 loop-holds : tie.Need-loop-holds Inv-loop μ-loop
 unfolding all
 loop-holds c = (search needs, refl)
 
--- src/lib.rt:171:18
 mul-if1 : tie.Need-mul-if1 Inv-loop μ-loop
 mul-if1 c = search needs
 
--- src/lib.rt:171:18
 shared-slice-read-if1 : tie.Need-shared-slice-read-if1 Inv-loop μ-loop
 shared-slice-read-if1 c = search needs
 
--- src/lib.rt:172:13
 returns : tie.Need-returns Inv-loop μ-loop
 returns c = sym (all-not _ _ (c .before .before .before .loop .k) (c .before .before .loop-test .taken) (lt-leb _ _ (c .if1 .taken)))
 
--- src/lib.rt:174:9
 add-k : tie.Need-add-k Inv-loop μ-loop
 add-k c = search needs
 
--- src/lib.rt:170:5
 loop-less : tie.Need-loop-less Inv-loop μ-loop
 loop-less c = search needs
 
--- src/lib.rt:170:5
 loop-again : tie.Need-loop-again Inv-loop μ-loop
 loop-again c = (search needs, all-next _ _ (c .before .before .before .loop .inv .1) (le-leb _ _ (c .if1 .left)))
 
--- src/lib.rt:166:1
 returns-2 : tie.Need-returns-2 Inv-loop μ-loop
 returns-2 c = let e : c .before .loop .k ≡ length (c .before .before .args .capacities .now) = omega arith in sym (rw e at (c .before .loop .inv .1))
 

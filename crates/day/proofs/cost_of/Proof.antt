@@ -1,40 +1,30 @@
+-- The two cases of the jump; a product of two numbers of 32 bits and one more fit 64.
+-- Assumes nothing.
 use native.Mathlib.Omega.{arith}
 use mathlib.Core.Path.{sym}
 use Rattle.day.proofs.Costs.{product-fits, cost-over, cost-under}
 use borrow.Author.Needs.{needs}
 use Rattle.day.proofs.cost_of.Statement.{statement}
 use Rattle.day.proofs.cost_of.Tie as tie
-use Rattle.day.proofs.cost_of.Reads as reads
-use Rattle.day.proofs.cost_of.Lts as lts
-use Rattle.day.proofs.after_of.Reads as after-of-reads
-use Rattle.day.proofs.jump_of.Reads as jump-of-reads
-use Rattle.day.proofs.rate_of.Reads as rate-of-reads
 
--- src/lib.rt:94:15
 rate-of-requires : tie.Need-rate-of-requires
 rate-of-requires c κs = search needs
 
--- src/lib.rt:94:15
 mul-run : tie.Need-mul-run
 mul-run c = omega (arith, product-fits (c .rate-of .result) (c .before .before .before .args .hold) 0 (c .rate-of .ensures .1) (c .before .before .before .pre .1) (omega arith))
 
--- src/lib.rt:95:8
 after-of-requires : tie.Need-after-of-requires
 after-of-requires c κs = search needs
 
--- src/lib.rt:96:22
 jump-of-requires : tie.Need-jump-of-requires
 jump-of-requires c κs = search needs
 
--- src/lib.rt:96:16
 add-result : tie.Need-add-result
 add-result c = let b = c .before .before .before in omega (arith, product-fits (b .rate-of .result) (b .before .before .before .args .hold) (c .jump-of .result) (b .rate-of .ensures .1) (b .before .before .before .pre .1) (c .jump-of .ensures .1))
 
--- src/lib.rt:96:9
 returns : tie.Need-returns
 returns c = let b = c .before .before .before in rw (b .rate-of .ensures .0, c .jump-of .ensures .0) (sym (cost-over _ _ _ (rw (c .before .before .after-of .ensures .0) at (c .before .if1 .taken))))
 
--- src/lib.rt:90:1
 returns-2 : tie.Need-returns-2
 returns-2 c = let b = c .before .before in rw (b .rate-of .ensures .0) (sym (cost-under _ _ _ (rw (c .before .after-of .ensures .0) at (c .if1 .left))))
 

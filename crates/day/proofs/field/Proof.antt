@@ -1,33 +1,26 @@
+-- The element read, and that it is of 32 bits.
+-- Assumes nothing.
 use Prim.Native.Nat.{_+_, _*_}
 use native.Mathlib.Omega.{arith}
 use borrow.Author.Needs.{needs}
 use Rattle.day.proofs.field.Statement.{statement}
 use Rattle.day.proofs.field.Tie as tie
-use Rattle.day.proofs.field.Reads as reads
-use Rattle.day.proofs.field.Lts as lts
-use Rattle.day.proofs.wide.Reads as wide-reads
 
--- src/lib.rt:29:18
 mul-wide : tie.Need-mul-wide
 mul-wide c = search needs
 
--- src/lib.rt:29:18
 add-wide : tie.Need-add-wide
 add-wide c = search needs
 
--- src/lib.rt:29:10
 mul-wide-2 : tie.Need-mul-wide-2
 mul-wide-2 c = search needs
 
--- src/lib.rt:29:10
 shared-slice-read-wide : tie.Need-shared-slice-read-wide
 shared-slice-read-wide c = search needs
 
--- src/lib.rt:29:5
 wide-requires : tie.Need-wide-requires
 wide-requires c κs = search needs
 
--- src/lib.rt:25:1
 returns : tie.Need-returns
 returns c = (c .wide .ensures, omega (arith, c .wide .ensures, c .before .shared-slice-known2 .given (let a = c .before .before .before .args in a .i * 6 + a .j)))
 

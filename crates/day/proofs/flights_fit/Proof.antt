@@ -1,3 +1,5 @@
+-- The loop passes the flights that are in range and have a new number.
+-- Assumes nothing.
 use borrow.Author.Tests.{not-true, not-false}
 use borrow.Author.Needs.{needs}
 use Prim.Native.Nat.{_≤_, _-_}
@@ -8,10 +10,6 @@ use Rattle.day.specs.Day.{day, all, inRange, isNew}
 use Rattle.day.proofs.Tests.{all-next, all-not-one, all-not-other, true-and}
 use Rattle.day.proofs.flights_fit.Statement.{statement}
 use Rattle.day.proofs.flights_fit.Tie as tie
-use Rattle.day.proofs.flights_fit.Reads as reads
-use Rattle.day.proofs.flights_fit.Lts as lts
-use Rattle.day.proofs.is_in_range.Reads as is-in-range-reads
-use Rattle.day.proofs.is_new.Reads as is-new-reads
 
 abbrev Inv-loop : tie.InvT-loop
 Inv-loop capacities flights n i₀ i =
@@ -20,42 +18,33 @@ Inv-loop capacities flights n i₀ i =
 abbrev μ-loop : tie.MeasureT-loop
 μ-loop capacities flights n i₀ i = n - i
 
--- src/lib.rt:174:5
 loop-holds : tie.Need-loop-holds Inv-loop μ-loop
 unfolding all
 loop-holds c = (search needs, refl, refl)
 
--- src/lib.rt:175:13
 is-in-range-requires : tie.Need-is-in-range-requires Inv-loop μ-loop
 is-in-range-requires c κs = search needs
 
--- src/lib.rt:176:13
 returns : tie.Need-returns Inv-loop μ-loop
 returns c = all-not-one _ _ _ (c .before .before .before .loop .i) (c .before .before .loop-test .taken) (sym (c .before .is-in-range .ensures) ∙ not-true _ (c .if1 .taken))
 
--- src/lib.rt:178:13
 is-new-requires : tie.Need-is-new-requires Inv-loop μ-loop
 is-new-requires c κs = search needs
 
--- src/lib.rt:179:13
 returns-2 : tie.Need-returns-2 Inv-loop μ-loop
 returns-2 c = all-not-other _ _ _ (c .before .before .before .before .before .loop .i) (c .before .before .before .before .loop-test .taken) (sym (c .before .is-new .ensures) ∙ not-true _ (c .if2 .taken))
 
--- src/lib.rt:181:9
 add-i : tie.Need-add-i Inv-loop μ-loop
 add-i c = search needs
 
--- src/lib.rt:174:5
 loop-less : tie.Need-loop-less Inv-loop μ-loop
 loop-less c = search needs
 
--- src/lib.rt:174:5
 loop-again : tie.Need-loop-again Inv-loop μ-loop
 loop-again c =
     let s = c .before .before .before .before .before .loop in
     (search needs, all-next _ _ (s .inv .1) (sym (c .before .before .before .is-in-range .ensures) ∙ not-false _ (c .before .before .if1 .left)), all-next _ _ (s .inv .2) (sym (c .before .is-new .ensures) ∙ not-false _ (c .if2 .left)))
 
--- src/lib.rt:169:1
 returns-3 : tie.Need-returns-3 Inv-loop μ-loop
 returns-3 c =
     let s = c .before .loop in

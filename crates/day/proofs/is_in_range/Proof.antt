@@ -1,80 +1,55 @@
+-- The tests of the six numbers, joined in the order of the definition.
+-- Assumes nothing.
 use Rattle.day.specs.Day.{inRange}
 use borrow.Author.Needs.{needs}
 use Rattle.day.proofs.is_in_range.Statement.{statement}
 use Rattle.day.proofs.is_in_range.Tie as tie
-use Rattle.day.proofs.is_in_range.Reads as reads
-use Rattle.day.proofs.is_in_range.Lts as lts
-use Rattle.day.proofs.after_of.Reads as after-of-reads
-use Rattle.day.proofs.both.Reads as both-reads
-use Rattle.day.proofs.due_of.Reads as due-of-reads
-use Rattle.day.proofs.is_inside.Reads as is-inside-reads
-use Rattle.day.proofs.jump_of.Reads as jump-of-reads
-use Rattle.day.proofs.limit_fits.Reads as limit-fits-reads
-use Rattle.day.proofs.limit_of.Reads as limit-of-reads
-use Rattle.day.proofs.number_of.Reads as number-of-reads
-use Rattle.day.proofs.rate_of.Reads as rate-of-reads
 
--- src/lib.rt:138:28
 number-of-requires : tie.Need-number-of-requires
 number-of-requires c κs = search needs
 
--- src/lib.rt:138:9
 is-inside-requires : tie.Need-is-inside-requires
 is-inside-requires c κs = search needs
 
--- src/lib.rt:139:40
 due-of-requires : tie.Need-due-of-requires
 due-of-requires c κs = search needs
 
--- src/lib.rt:139:9
 is-inside-requires-2 : tie.Need-is-inside-requires-2
 is-inside-requires-2 c κs = search needs
 
--- src/lib.rt:137:9
 both-requires : tie.Need-both-requires
 both-requires c κs = search needs
 
--- src/lib.rt:141:49
 rate-of-requires : tie.Need-rate-of-requires
 rate-of-requires c κs = search needs
 
--- src/lib.rt:141:29
 is-inside-requires-3 : tie.Need-is-inside-requires-3
 is-inside-requires-3 c κs = search needs
 
--- src/lib.rt:141:9
 both-requires-2 : tie.Need-both-requires-2
 both-requires-2 c κs = search needs
 
--- src/lib.rt:142:35
 after-of-requires : tie.Need-after-of-requires
 after-of-requires c κs = search needs
 
--- src/lib.rt:142:23
 both-requires-3 : tie.Need-both-requires-3
 both-requires-3 c κs = search needs
 
--- src/lib.rt:142:64
 jump-of-requires : tie.Need-jump-of-requires
 jump-of-requires c κs = search needs
 
--- src/lib.rt:142:9
 both-requires-4 : tie.Need-both-requires-4
 both-requires-4 c κs = search needs
 
--- src/lib.rt:143:29
 limit-of-requires : tie.Need-limit-of-requires
 limit-of-requires c κs = search needs
 
--- src/lib.rt:143:18
 limit-fits-requires : tie.Need-limit-fits-requires
 limit-fits-requires c κs = search needs
 
--- src/lib.rt:143:5
 both-requires-5 : tie.Need-both-requires-5
 both-requires-5 c κs = search needs
 
--- src/lib.rt:133:1
 returns : tie.Need-returns
 unfolding inRange
 returns c = rw (c .both5 .ensures, c .before .before .before .both4 .ensures, c .before .before .before .before .before .both3 .ensures, c .before .before .before .before .before .before .before .both2 .ensures, c .before .before .before .before .before .before .before .before .before .before .both .ensures, c .before .before .before .before .before .before .before .before .before .before .before .before .before .is-inside .ensures, c .before .before .before .before .before .before .before .before .before .before .before .before .before .before .number-of .ensures .0, c .before .before .before .before .before .before .before .before .before .before .before .is-inside2 .ensures, c .before .before .before .before .before .before .before .before .before .before .before .before .due-of .ensures .0, c .before .before .before .before .before .before .before .before .is-inside3 .ensures, c .before .before .before .before .before .before .before .before .before .rate-of .ensures .0, c .before .before .before .before .before .before .after-of .ensures .0, c .before .before .before .before .jump-of .ensures .0, c .before .limit-fits .ensures, c .before .before .limit-of .ensures .0)

@@ -1,3 +1,5 @@
+-- The refusals in the order of the definition.
+-- Assumes nothing.
 use Rattle.legality.proofs.Laws.{check-bad-day, check-bad-length, check-not-legal, check-legal}
 use mathlib.Core.Path.{sym, _∙_}
 use borrow.Author.Tests.{not-true, not-false}
@@ -5,46 +7,32 @@ use Rattle.day.specs.Day.{N}
 use borrow.Author.Needs.{needs}
 use Rattle.legality.proofs.check_plan.Statement.{statement}
 use Rattle.legality.proofs.check_plan.Tie as tie
-use Rattle.legality.proofs.check_plan.Reads as reads
-use Rattle.legality.proofs.check_plan.Lts as lts
-use Rattle.day.proofs.flight_count.Reads as flight-count-reads
-use Rattle.day.proofs.is_valid.Reads as is-valid-reads
-use Rattle.legality.proofs.first_break.Reads as first-break-reads
-use Rattle.legality.proofs.total_of.Reads as total-of-reads
 
--- src/lib.rt:97:9
 is-valid-requires : tie.Need-is-valid-requires
 is-valid-requires c κs = search needs
 
--- src/lib.rt:98:9
 returns : tie.Need-returns
 returns c = check-bad-day _ _ (sym (c .before .is-valid .ensures) ∙ not-true _ (c .if1 .taken))
 
--- src/lib.rt:100:9
 flight-count-requires : tie.Need-flight-count-requires
 flight-count-requires c κs = search needs
 
--- src/lib.rt:102:9
 returns-2 : tie.Need-returns-2
 unfolding N
 returns-2 c = check-bad-length _ _ (sym (c .before .before .before .is-valid .ensures) ∙ not-false _ (c .before .before .if1 .left)) (c .before .flight-count .ensures) (c .if2 .taken)
 
--- src/lib.rt:104:9
 first-break-requires : tie.Need-first-break-requires
 unfolding N
 first-break-requires c κs = ((sym (c .before .before .before .is-valid .ensures) ∙ not-false _ (c .before .before .if1 .left)), c .if2 .left ∙ c .before .flight-count .ensures)
 
--- src/lib.rt:106:9
 returns-3 : tie.Need-returns-3
 unfolding N
 returns-3 c = check-not-legal _ _ (sym (c .before .before .before .before .before .is-valid .ensures) ∙ not-false _ (c .before .before .before .before .if1 .left)) (c .before .before .before .flight-count .ensures) (c .before .before .if2 .left) (c .before .first-break .ensures) (c .if3 .taken)
 
--- src/lib.rt:109:16
 total-of-requires : tie.Need-total-of-requires
 unfolding N
 total-of-requires c κs = ((sym (c .before .before .before .before .before .is-valid .ensures) ∙ not-false _ (c .before .before .before .before .if1 .left)), c .before .before .if2 .left ∙ c .before .before .before .flight-count .ensures)
 
--- src/lib.rt:94:1
 returns-4 : tie.Need-returns-4
 unfolding N
 returns-4 c = check-legal _ _ (sym (c .before .before .before .before .before .before .is-valid .ensures) ∙ not-false _ (c .before .before .before .before .before .if1 .left)) (c .before .before .before .before .flight-count .ensures) (c .before .before .before .if2 .left) (c .before .before .first-break .ensures) (c .before .if3 .left) (c .total-of .ensures)

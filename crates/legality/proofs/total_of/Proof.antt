@@ -1,3 +1,5 @@
+-- The costs of the flights passed are summed.
+-- Assumes nothing.
 use native.Mathlib.Omega.{arith}
 use Rattle.legality.proofs.Laws.{sum-start}
 use borrow.Author.Needs.{needs}
@@ -8,10 +10,6 @@ use Rattle.legality.specs.Loop.{Summed}
 use Rattle.legality.proofs.Laws.{sum-place, sum-fits, cost-fits, sum-next, sum-end}
 use Rattle.legality.proofs.total_of.Statement.{statement}
 use Rattle.legality.proofs.total_of.Tie as tie
-use Rattle.legality.proofs.total_of.Reads as reads
-use Rattle.legality.proofs.total_of.Lts as lts
-use Rattle.day.proofs.cost_of.Reads as cost-of-reads
-use Rattle.day.proofs.wide.Reads as wide-reads
 
 abbrev Inv-loop : tie.InvT-loop
 Inv-loop capacities flights holds sum₀ i₀ sum i = Summed (day capacities flights) holds sum i
@@ -19,43 +17,33 @@ Inv-loop capacities flights holds sum₀ i₀ sum i = Summed (day capacities fli
 abbrev μ-loop : tie.MeasureT-loop
 μ-loop capacities flights holds sum₀ i₀ sum i = length holds - i
 
--- src/lib.rt:69:5
 loop-holds : tie.Need-loop-holds Inv-loop μ-loop
 loop-holds c = sum-start (c .before .before .before .pre .0) (c .before .before .before .pre .1)
 
--- src/lib.rt:70:63
 mul-wide : tie.Need-mul-wide Inv-loop μ-loop
 mul-wide c = search needs
 
--- src/lib.rt:70:63
 shared-slice-read-wide : tie.Need-shared-slice-read-wide Inv-loop μ-loop
 shared-slice-read-wide c = search needs
 
--- src/lib.rt:70:53
 wide-requires : tie.Need-wide-requires Inv-loop μ-loop
 wide-requires c κs = search needs
 
--- src/lib.rt:70:16
 cost-of-requires : tie.Need-cost-of-requires Inv-loop μ-loop
 cost-of-requires c κs = (sum-place (c .before .before .before .loop .inv) (c .before .before .loop-test .taken), omega (arith, c .wide .ensures, c .before .shared-slice-known4 .given (c .before .before .before .loop .i)))
 
--- src/lib.rt:70:9
 add-sum : tie.Need-add-sum Inv-loop μ-loop
 add-sum c = omega (arith, sum-fits (c .before .before .before .before .loop .inv), cost-fits (c .before .before .before .before .loop .inv) (c .before .before .before .loop-test .taken) (c .before .before .shared-slice-known4 .given (c .before .before .before .before .loop .i) .fits) (rw (c .before .wide .ensures) at (c .cost-of .ensures)))
 
--- src/lib.rt:71:9
 add-i : tie.Need-add-i Inv-loop μ-loop
 add-i c = search needs
 
--- src/lib.rt:69:5
 loop-less : tie.Need-loop-less Inv-loop μ-loop
 loop-less c = search needs
 
--- src/lib.rt:69:5
 loop-again : tie.Need-loop-again Inv-loop μ-loop
 loop-again c = sum-next (c .before .before .before .before .loop .inv) (c .before .before .before .loop-test .taken) (c .before .before .shared-slice-known4 .given (c .before .before .before .before .loop .i) .fits) (rw (c .before .wide .ensures) at (c .cost-of .ensures))
 
--- src/lib.rt:62:1
 returns : tie.Need-returns Inv-loop μ-loop
 returns c = sum-end (c .before .loop .inv) (c .loop-test .left)
 

@@ -1,3 +1,5 @@
+-- The flights passed break nothing, and their landings are counted by period.
+-- Assumes nothing.
 use native.Mathlib.Omega.{arith}
 use mathlib.Core.Path.{sym, _∙_}
 use Rattle.day.proofs.Valid.{valid-means}
@@ -9,11 +11,6 @@ use Rattle.legality.specs.Loop.{Walked}
 use Rattle.legality.proofs.Laws.{walk-place, walk-long, walk-in, walk-fits, walk-over, walk-next, walk-end}
 use Rattle.legality.proofs.walk.Statement.{statement}
 use Rattle.legality.proofs.walk.Tie as tie
-use Rattle.legality.proofs.walk.Reads as reads
-use Rattle.legality.proofs.walk.Lts as lts
-use Rattle.legality.proofs.is_over.Reads as is-over-reads
-use Rattle.legality.proofs.is_too_long.Reads as is-too-long-reads
-use Rattle.legality.proofs.land_of.Reads as land-of-reads
 
 abbrev Inv-loop : tie.InvT-loop
 Inv-loop capacities flights holds loads₀ place₀ loads place = Walked (day capacities flights) holds loads place
@@ -21,75 +18,57 @@ Inv-loop capacities flights holds loads₀ place₀ loads place = Walked (day ca
 abbrev μ-loop : tie.MeasureT-loop
 μ-loop capacities flights holds loads₀ place₀ loads place = length holds - place
 
--- src/lib.rt:53:5
 loop-holds : tie.Need-loop-holds Inv-loop μ-loop
 loop-holds c = search needs
 
--- src/lib.rt:54:13
 land-of-requires : tie.Need-land-of-requires Inv-loop μ-loop
 land-of-requires c κs = (c .loop-test .taken, walk-place (c .before .loop .inv) (c .loop-test .taken))
 
--- src/lib.rt:55:12
 is-too-long-requires : tie.Need-is-too-long-requires Inv-loop μ-loop
 is-too-long-requires c κs = (walk-place (c .before .before .loop .inv) (c .before .loop-test .taken), valid-means (c .before .before .loop .inv .good) .periods-to)
 
--- src/lib.rt:56:13
 same-length : tie.Need-same-length Inv-loop μ-loop
 same-length c = search needs
 
--- src/lib.rt:56:13
 returns : tie.Need-returns Inv-loop μ-loop
 returns c = walk-long (c .before .before .before .before .loop .inv) (c .before .before .before .loop-test .taken) (c .before .before .land-of .ensures .0) (sym (c .before .is-too-long .ensures) ∙ c .if1 .taken)
 
--- src/lib.rt:58:20
 mul-load : tie.Need-mul-load Inv-loop μ-loop
 mul-load c = search needs
 
--- src/lib.rt:58:20
 slice-read-load : tie.Need-slice-read-load Inv-loop μ-loop
 slice-read-load c = omega (arith, walk-in (c .before .before .before .before .before .loop .inv) (c .before .before .before .before .loop-test .taken) (c .before .before .before .land-of .ensures .0) (sym (c .before .before .is-too-long .ensures) ∙ c .before .if1 .left), c .before .before .before .before .before .loop .inv .sizes)
 
--- src/lib.rt:58:20
 add-load : tie.Need-add-load Inv-loop μ-loop
 add-load c = omega (arith, walk-fits (c .before .before .before .before .before .loop .inv) (c .before .before .before .before .loop-test .taken) (c .before .before .before .land-of .ensures .0) (sym (c .before .before .is-too-long .ensures) ∙ c .before .if1 .left))
 
--- src/lib.rt:59:12
 is-over-requires : tie.Need-is-over-requires Inv-loop μ-loop
 is-over-requires c κs = search needs
 
--- src/lib.rt:60:13
 same-length-2 : tie.Need-same-length-2 Inv-loop μ-loop
 same-length-2 c = search needs
 
--- src/lib.rt:60:13
 returns-2 : tie.Need-returns-2 Inv-loop μ-loop
 returns-2 c = walk-over (c .before .before .before .before .before .before .before .loop .inv) (c .before .before .before .before .before .before .loop-test .taken) (c .before .before .before .before .before .land-of .ensures .0) (sym (c .before .before .before .before .is-too-long .ensures) ∙ c .before .before .before .if1 .left) (sym (c .before .is-over .ensures) ∙ c .if2 .taken)
 
--- src/lib.rt:62:9
 mul-loads : tie.Need-mul-loads Inv-loop μ-loop
 mul-loads c = search needs
 
--- src/lib.rt:62:9
 slice-write-loads : tie.Need-slice-write-loads Inv-loop μ-loop
 slice-write-loads c = omega (arith, walk-in (c .before .before .before .before .before .before .before .loop .inv) (c .before .before .before .before .before .before .loop-test .taken) (c .before .before .before .before .before .land-of .ensures .0) (sym (c .before .before .before .before .is-too-long .ensures) ∙ c .before .before .before .if1 .left), c .before .before .before .before .before .before .before .loop .inv .sizes)
 
--- src/lib.rt:63:9
 add-place : tie.Need-add-place Inv-loop μ-loop
 add-place c = search needs
 
--- src/lib.rt:53:5
 loop-less : tie.Need-loop-less Inv-loop μ-loop
 loop-less c = search needs
 
--- src/lib.rt:53:5
 loop-again : tie.Need-loop-again Inv-loop μ-loop
 loop-again c = walk-next (c .before .before .before .before .before .before .before .loop .inv) (c .before .before .before .before .before .before .loop-test .taken) (c .before .before .before .before .before .land-of .ensures .0) (sym (c .before .before .before .before .is-too-long .ensures) ∙ c .before .before .before .if1 .left) (sym (c .before .is-over .ensures) ∙ c .if2 .left)
 
--- src/lib.rt:48:1
 same-length-3 : tie.Need-same-length-3 Inv-loop μ-loop
 same-length-3 c = search needs
 
--- src/lib.rt:48:1
 returns-3 : tie.Need-returns-3 Inv-loop μ-loop
 returns-3 c = walk-end (c .before .loop .inv) (c .loop-test .left)
 

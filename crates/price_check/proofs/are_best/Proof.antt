@@ -1,3 +1,5 @@
+-- The flights passed land where they pay least.
+-- Assumes nothing.
 use borrow.Author.Needs.{needs}
 use borrow.Author.Count.{below-more}
 use borrow.Author.Tests.{not-true, not-false}
@@ -9,9 +11,6 @@ use Rattle.price_check.specs.Decides.{Best}
 use Rattle.price_check.proofs.Laws.{say-yes, say-no}
 use Rattle.price_check.proofs.are_best.Statement.{statement}
 use Rattle.price_check.proofs.are_best.Tie as tie
-use Rattle.price_check.proofs.are_best.Reads as reads
-use Rattle.price_check.proofs.are_best.Lts as lts
-use Rattle.price_check.proofs.is_best.Reads as is-best-reads
 
 abbrev Inv-loop : tie.InvT-loop
 Inv-loop capacities flights holds prices i₀ i = (i ≤ length holds) × ((j : ℕ) → j < i → Best (day capacities flights) holds prices j)
@@ -19,31 +18,24 @@ Inv-loop capacities flights holds prices i₀ i = (i ≤ length holds) × ((j : 
 abbrev μ-loop : tie.MeasureT-loop
 μ-loop capacities flights holds prices i₀ i = length holds - i
 
--- src/lib.rt:76:5
 loop-holds : tie.Need-loop-holds Inv-loop μ-loop
 loop-holds c = (search needs, λ j b. absurd (omega arith))
 
--- src/lib.rt:77:13
 is-best-requires : tie.Need-is-best-requires Inv-loop μ-loop
 is-best-requires c κs = search needs
 
--- src/lib.rt:78:13
 returns : tie.Need-returns Inv-loop μ-loop
 returns c = say-no (λ said. c .before .is-best .ensures .no (not-true _ (c .if1 .taken)) (said (c .before .before .before .loop .i) (c .before .before .loop-test .taken)))
 
--- src/lib.rt:80:9
 add-i : tie.Need-add-i Inv-loop μ-loop
 add-i c = search needs
 
--- src/lib.rt:76:5
 loop-less : tie.Need-loop-less Inv-loop μ-loop
 loop-less c = search needs
 
--- src/lib.rt:76:5
 loop-again : tie.Need-loop-again Inv-loop μ-loop
 loop-again c = (search needs, below-more _ _ (c .before .before .before .loop .inv .1) (c .before .is-best .ensures .yes (not-false _ (c .if1 .left))))
 
--- src/lib.rt:71:1
 returns-2 : tie.Need-returns-2 Inv-loop μ-loop
 returns-2 c = say-yes (λ j b. c .before .loop .inv .1 j (omega arith))
 

@@ -1,15 +1,13 @@
+-- The periods passed are full or have no price.
+-- Assumes nothing.
 use borrow.Author.Needs.{needs}
-use Prim.Native.Nat.{ℕ, _≤_, _<_, _+_, _-_}
+use Prim.Native.Nat.{_≤_, _+_, _-_}
 use native.Mathlib.Omega.{arith}
 use lib.ListN.{length}
 use Rattle.day.specs.Day.{day}
 use Rattle.price_check.proofs.Laws.{say-yes, say-no, UnsoldTo, unsold-free, unsold-full, unsold-not}
 use Rattle.price_check.proofs.are_unsold.Statement.{statement}
 use Rattle.price_check.proofs.are_unsold.Tie as tie
-use Rattle.price_check.proofs.are_unsold.Reads as reads
-use Rattle.price_check.proofs.are_unsold.Lts as lts
-use Rattle.day.proofs.of_period.Reads as of-period-reads
-use Rattle.price_check.proofs.landings_of.Reads as landings-of-reads
 
 abbrev Inv-loop : tie.InvT-loop
 Inv-loop capacities flights holds prices k₀ k = (1 ≤ k) × (k ≤ length capacities + 1) × UnsoldTo (day capacities flights) holds prices k
@@ -17,47 +15,36 @@ Inv-loop capacities flights holds prices k₀ k = (1 ≤ k) × (k ≤ length cap
 abbrev μ-loop : tie.MeasureT-loop
 μ-loop capacities flights holds prices k₀ k = length capacities + 1 - k
 
--- src/lib.rt:36:5
 loop-holds : tie.Need-loop-holds Inv-loop μ-loop
 loop-holds c = (search needs, search needs, λ j a b. absurd (omega arith))
 
--- src/lib.rt:38:9
 add-k : tie.Need-add-k Inv-loop μ-loop
 add-k c = search needs
 
--- src/lib.rt:39:12
 of-period-requires : tie.Need-of-period-requires Inv-loop μ-loop
 of-period-requires c κs = search needs
 
--- src/lib.rt:40:16
 landings-of-requires : tie.Need-landings-of-requires Inv-loop μ-loop
 landings-of-requires c κs = search needs
 
--- src/lib.rt:40:66
 of-period-requires-2 : tie.Need-of-period-requires-2 Inv-loop μ-loop
 of-period-requires-2 c κs = search needs
 
--- src/lib.rt:41:17
 returns : tie.Need-returns Inv-loop μ-loop
 returns c = say-no (unsold-not (c .before .before .before .before .before .before .loop .inv .0) (c .before .before .before .before .before .loop-test .taken) (c .before .before .before .before .of-period .ensures .0) (c .before .before .before .if1 .taken) (c .before .before .landings-of .ensures) (c .before .of-period2 .ensures .0) (c .if2 .taken))
 
--- src/lib.rt:36:5
 loop-less : tie.Need-loop-less Inv-loop μ-loop
 loop-less c = search needs
 
--- src/lib.rt:36:5
 loop-again : tie.Need-loop-again Inv-loop μ-loop
 loop-again c = (omega arith, omega arith, unsold-full (c .before .before .before .before .before .before .loop .inv .2) (c .before .before .landings-of .ensures) (c .before .of-period2 .ensures .0) (c .if2 .left))
 
--- src/lib.rt:36:5
 loop-less-2 : tie.Need-loop-less-2 Inv-loop μ-loop
 loop-less-2 c = search needs
 
--- src/lib.rt:36:5
 loop-again-2 : tie.Need-loop-again-2 Inv-loop μ-loop
 loop-again-2 c = (omega arith, omega arith, unsold-free (c .before .before .before .loop .inv .2) (c .before .of-period .ensures .0) (c .if1 .left))
 
--- src/lib.rt:30:1
 returns-2 : tie.Need-returns-2 Inv-loop μ-loop
 returns-2 c = say-yes (λ j a b. c .before .loop .inv .2 j a (omega arith))
 

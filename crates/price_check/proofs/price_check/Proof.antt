@@ -1,39 +1,29 @@
+-- The parts of the check make up the definition.
+-- Assumes nothing.
 use borrow.Author.Tests.{not-true, not-false}
 use Rattle.price_check.proofs.Laws.{no-plan, no-length, no-unsold, by-best}
 use borrow.Author.Needs.{needs}
 use Rattle.price_check.proofs.price_check.Statement.{statement}
 use Rattle.price_check.proofs.price_check.Tie as tie
-use Rattle.price_check.proofs.price_check.Reads as reads
-use Rattle.price_check.proofs.price_check.Lts as lts
-use Rattle.price_check.proofs.are_best.Reads as are-best-reads
-use Rattle.price_check.proofs.are_unsold.Reads as are-unsold-reads
-use Rattle.price_check.proofs.is_legal.Reads as is-legal-reads
 
--- src/lib.rt:103:9
 is-legal-requires : tie.Need-is-legal-requires
 is-legal-requires c κs = search needs
 
--- src/lib.rt:104:9
 returns : tie.Need-returns
 returns c = no-plan _ _ _ (c .before .is-legal .ensures .no (not-true _ (c .if1 .taken)))
 
--- src/lib.rt:107:9
 returns-2 : tie.Need-returns-2
 returns-2 c = no-length _ _ _ (c .if2 .taken)
 
--- src/lib.rt:109:9
 are-unsold-requires : tie.Need-are-unsold-requires
 are-unsold-requires c κs = let s = (c .before .before .is-legal .ensures .yes (not-false _ (c .before .if1 .left))) in (s .0, s .1 .each)
 
--- src/lib.rt:110:9
 returns-3 : tie.Need-returns-3
 returns-3 c = no-unsold _ _ _ (c .before .are-unsold .ensures .no (not-true _ (c .if3 .taken)))
 
--- src/lib.rt:112:5
 are-best-requires : tie.Need-are-best-requires
 are-best-requires c κs = (c .before .before .before .before .is-legal .ensures .yes (not-false _ (c .before .before .before .if1 .left)))
 
--- src/lib.rt:99:1
 returns-4 : tie.Need-returns-4
 returns-4 c = by-best _ _ _ (c .before .before .before .before .before .is-legal .ensures .yes (not-false _ (c .before .before .before .before .if1 .left))) (c .before .before .before .if2 .left) (c .before .before .are-unsold .ensures .yes (not-false _ (c .before .if3 .left))) (c .are-best .ensures)
 

@@ -1,0 +1,73 @@
+//! The planning core of a hold desk, called from Rust. Each function lends its slices to the C function of the same name;
+//! include/hold_desk.h says what each answers. The core takes rows of any content and length, so every wrapper is safe.
+
+#[repr(C)]
+#[derive(Clone, Copy, Debug, PartialEq, Eq)]
+pub struct Answer {
+    pub number: u64,
+    pub first: u64,
+    pub second: u64,
+}
+
+#[repr(C)]
+#[derive(Clone, Copy, Debug, PartialEq, Eq)]
+pub struct Card {
+    pub number: u64,
+    pub first: u64,
+    pub second: u64,
+    pub low: u64,
+    pub high: u64,
+    pub size: u64,
+}
+
+mod raw {
+    use super::{Answer, Card};
+    extern "C" {
+        pub fn hold_desk_read_sheet(s: *const u8, sn: usize, c: *mut u32, cn: usize, f: *mut u32, fnn: usize) -> Answer;
+        pub fn hold_desk_write_sheet(c: *const u32, cn: usize, f: *const u32, fnn: usize, t: *mut u8, tn: usize, place: usize) -> Answer;
+        pub fn hold_desk_quick_plan(c: *const u32, cn: usize, f: *const u32, fnn: usize, h: *mut u32, hn: usize) -> Answer;
+        pub fn hold_desk_period_card(c: *const u32, cn: usize, f: *const u32, fnn: usize, period: u32) -> Card;
+        pub fn hold_desk_full_plan(c: *const u32, cn: usize, f: *const u32, fnn: usize, h: *mut u32, hn: usize, p: *mut u32, pn: usize) -> Answer;
+        pub fn hold_desk_price_check(c: *const u32, cn: usize, f: *const u32, fnn: usize, h: *const u32, hn: usize, p: *const u32, pn: usize) -> bool;
+        pub fn hold_desk_choice(c: *const u32, cn: usize, f: *const u32, fnn: usize, a: *const u32, an: usize, b: *const u32, bn: usize) -> u32;
+        pub fn hold_desk_board(c: *const u32, cn: usize, f: *const u32, fnn: usize, h: *const u32, hn: usize, b: *mut u32, bn: usize) -> Answer;
+        pub fn hold_desk_plan_text(c: *const u32, cn: usize, f: *const u32, fnn: usize, h: *const u32, hn: usize, t: *mut u8, tn: usize, place: usize) -> Answer;
+    }
+}
+
+pub fn read_sheet(sheet: &[u8], capacities: &mut [u32], flights: &mut [u32]) -> Answer {
+    unsafe { raw::hold_desk_read_sheet(sheet.as_ptr(), sheet.len(), capacities.as_mut_ptr(), capacities.len(), flights.as_mut_ptr(), flights.len()) }
+}
+
+pub fn write_sheet(capacities: &[u32], flights: &[u32], text: &mut [u8], place: usize) -> Answer {
+    unsafe { raw::hold_desk_write_sheet(capacities.as_ptr(), capacities.len(), flights.as_ptr(), flights.len(), text.as_mut_ptr(), text.len(), place) }
+}
+
+pub fn quick_plan(capacities: &[u32], flights: &[u32], holds: &mut [u32]) -> Answer {
+    unsafe { raw::hold_desk_quick_plan(capacities.as_ptr(), capacities.len(), flights.as_ptr(), flights.len(), holds.as_mut_ptr(), holds.len()) }
+}
+
+pub fn period_card(capacities: &[u32], flights: &[u32], period: u32) -> Card {
+    unsafe { raw::hold_desk_period_card(capacities.as_ptr(), capacities.len(), flights.as_ptr(), flights.len(), period) }
+}
+
+pub fn full_plan(capacities: &[u32], flights: &[u32], holds: &mut [u32], prices: &mut [u32]) -> Answer {
+    unsafe { raw::hold_desk_full_plan(capacities.as_ptr(), capacities.len(), flights.as_ptr(), flights.len(), holds.as_mut_ptr(), holds.len(), prices.as_mut_ptr(), prices.len()) }
+}
+
+pub fn price_check(capacities: &[u32], flights: &[u32], holds: &[u32], prices: &[u32]) -> bool {
+    unsafe { raw::hold_desk_price_check(capacities.as_ptr(), capacities.len(), flights.as_ptr(), flights.len(), holds.as_ptr(), holds.len(), prices.as_ptr(), prices.len()) }
+}
+
+/// 1 for the first row, 2 for the second, 0 for neither.
+pub fn choice(capacities: &[u32], flights: &[u32], first: &[u32], second: &[u32]) -> u32 {
+    unsafe { raw::hold_desk_choice(capacities.as_ptr(), capacities.len(), flights.as_ptr(), flights.len(), first.as_ptr(), first.len(), second.as_ptr(), second.len()) }
+}
+
+pub fn board(capacities: &[u32], flights: &[u32], holds: &[u32], board: &mut [u32]) -> Answer {
+    unsafe { raw::hold_desk_board(capacities.as_ptr(), capacities.len(), flights.as_ptr(), flights.len(), holds.as_ptr(), holds.len(), board.as_mut_ptr(), board.len()) }
+}
+
+pub fn plan_text(capacities: &[u32], flights: &[u32], holds: &[u32], text: &mut [u8], place: usize) -> Answer {
+    unsafe { raw::hold_desk_plan_text(capacities.as_ptr(), capacities.len(), flights.as_ptr(), flights.len(), holds.as_ptr(), holds.len(), text.as_mut_ptr(), text.len(), place) }
+}

@@ -1,0 +1,139 @@
+-- The search for a place for a new flight need look no farther than the first period f that has room. Costs rise along a window and the
+-- price of f is 0, so whoever may land in f lands no later; and if nobody gains by going to f, nobody gains by going beyond it.
+-- Assumes nothing.
+use mathlib.Core.Path.{_≡_, refl}
+use mathlib.Core.Logic.{_⊎_, inl, inr}
+use mathlib.Core.Bool.{Bool, true, false, not, cond, _&&_}
+use Prim.Native.Nat.{ℕ, _+_, _≤_, _<_, min}
+use native.Mathlib.Omega.{arith}
+use lib.Dec.{T, leb, leb→le, le→leb, not-T}
+use Rattle.assignment.specs.Sum.{gate}
+use Rattle.assignment.specs.Assignment.{Instance, In, mustLand, room, Short}
+use Rattle.assignment.proofs.Tests.{lt?, gate-on, gate-le, and-T, T-and}
+use Rattle.assignment.proofs.Sums.{sum-le}
+use Rattle.assignment.proofs.Insertion.{Sound}
+
+-- a later landing costs more
+pub record Rising (d : Instance) : Type 0 where
+  pub dearer : (i j k : ℕ) → i < d .n → In d i j → In d i k → j < k → d .cost i j < d .cost i k
+
+-- the last period of a window, but f if it reaches beyond f from there or before
+unfoldable pub until : ℕ → ℕ → ℕ → ℕ
+until f lo hi = cond (leb lo f) (min hi f) hi
+
+pub until-near : {f lo : ℕ} (hi : ℕ) → lo ≤ f → until f lo hi ≡ min hi f
+unfolding until
+until-near {f} {lo} hi l = on (leb lo f) (le→leb lo f l)
+  where
+    on : (b : Bool) → T b → cond b (min hi f) hi ≡ min hi f
+    on true t = refl
+    on false t = absurd t
+
+until-far : {f lo : ℕ} (hi : ℕ) → f < lo → until f lo hi ≡ hi
+unfolding until
+until-far {f} {lo} hi l = off (leb lo f) (not-T (leb lo f) (λ t. omega (arith, leb→le lo f t)))
+  where
+    off : (b : Bool) → T (not b) → cond b (min hi f) hi ≡ hi
+    off true t = absurd t
+    off false t = refl
+
+pub until-le : (f lo hi : ℕ) → until f lo hi ≤ hi
+until-le f lo hi = elim (lt? f lo) [ inl a ↦ omega (arith, until-far hi a) | inr a ↦ omega (arith, until-near hi a) ]
+
+abbrev pub restricted : Instance → ℕ → Instance
+restricted d f = record {
+  n = d .n;
+  m = d .m;
+  lo = d .lo;
+  hi = λ i. until f (d .lo i) (d .hi i);
+  cost = d .cost;
+  cap = d .cap;
+  within = λ i. omega (arith, d .within i, until-le f (d .lo i) (d .hi i));
+}
+
+module _ (d : Instance) (f : ℕ) where
+  pub wider-in : {i k : ℕ} → In (restricted d f) i k → In d i k
+  wider-in {i} {k} w = record { from = w .from; to = omega (arith, w .to, until-le f (d .lo i) (d .hi i)) }
+
+  -- beyond f, the old window has f itself
+  pub stay-in : {i k : ℕ} → In d i k → In (restricted d f) i k ⊎ (In (restricted d f) i f × (f < k))
+  stay-in {i} {k} w = elim (lt? f (d .lo i)) [
+    | inl a ↦ inl (record { from = w .from; to = omega (arith, w .to, until-far (d .hi i) a) })
+    | inr a ↦ elim (lt? f k) [
+      | inl b ↦ inr (record { from = a; to = omega (arith, w .to, until-near (d .hi i) a) }, b)
+      | inr b ↦ inl (record { from = w .from; to = omega (arith, w .to, until-near (d .hi i) a) })
+    ]
+  ]
+
+  module _ {x p : ℕ → ℕ} (rise : Rising d) (free : p f ≡ 0) (s : Sound d x p) where
+    -- nobody pays as much as beyond f
+    less : (i k : ℕ) → i < d .n → In d i k → In (restricted d f) i f → f < k → d .cost i (x i) + p (x i) < d .cost i k
+    less i k l w v b = omega (arith, s .accepted .best i f l (wider-in v), rise .dearer i f k l (wider-in v) w b)
+
+    fits : (i k : ℕ) → i < d .n → In d i k → d .cost i k + p k ≤ d .cost i (x i) + p (x i) → In (restricted d f) i k
+    fits i k l w best = elim (stay-in w) [ inl a ↦ a | inr a ↦ absurd (omega (arith, less i k l w (a .0) (a .1))) ]
+
+    pub restrict : Sound (restricted d f) x p
+    restrict = record {
+      accepted = record {
+        legal = record {
+          window = λ i l. fits i (x i) l (s .accepted .legal .window i l) (omega arith);
+          room = s .accepted .legal .room;
+        };
+        unsold = s .accepted .unsold;
+        best = λ i k l w. s .accepted .best i k l (wider-in w);
+      };
+      rank = s .rank;
+      held = λ k. elim (s .held k) [
+        | inl e ↦ inl e
+        | inr a ↦ inr (record {
+          by = a .by;
+          who = a .who;
+          fits = fits (a .by) k (a .who) (a .fits) (omega (arith, a .tie));
+          lower = a .lower;
+          tie = a .tie;
+        })
+      ];
+    }
+
+  pub widen : {x p : ℕ → ℕ} → Rising d → p f ≡ 0 → Sound (restricted d f) x p → Sound d x p
+  widen {x} {p} rise free s = record {
+    accepted = record {
+      legal = record { window = λ i l. wider-in (s .accepted .legal .window i l); room = s .accepted .legal .room };
+      unsold = s .accepted .unsold;
+      best = λ i k l w. elim (stay-in w) [
+        | inl a ↦ s .accepted .best i k l a
+        | inr a ↦ omega (arith, s .accepted .best i f l (a .0), rise .dearer i f k l (wider-in (a .0)) w (a .1))
+      ];
+    };
+    rank = s .rank;
+    held = λ k. elim (s .held k) [
+      | inl e ↦ inl e
+      | inr a ↦ inr (record { by = a .by; who = a .who; fits = wider-in (a .fits); lower = a .lower; tie = a .tie })
+    ];
+  }
+
+  -- a stretch before f is as short as it was
+  pub widen-short : {a b : ℕ} → b < f → Short (restricted d f) a b → Short d a b
+  unfolding room mustLand
+  widen-short {a} {b} l s = record {
+    short = omega (
+      arith,
+      s .short,
+      sum-le (d .n) (λ i. gate (leb a (d .lo i) && leb (until f (d .lo i) (d .hi i)) b) 1) (λ i. gate (leb a (d .lo i) && leb (d .hi i) b) 1)
+          (λ i _. gate-le (leb a (d .lo i) && leb (until f (d .lo i) (d .hi i)) b) 1 _ (λ t. same i (and-T (leb a (d .lo i)) _ t))),
+    );
+  }
+    where
+      high : (i : ℕ) → until f (d .lo i) (d .hi i) ≤ b → d .hi i ≤ b
+      high i h = elim (lt? f (d .lo i)) [
+        | inl c ↦ omega (arith, until-far (d .hi i) c)
+        | inr c ↦ omega (arith, until-near (d .hi i) c)
+      ]
+
+      same : (i : ℕ) → T (leb a (d .lo i)) × T (leb (until f (d .lo i) (d .hi i)) b) → 1 ≤ gate (leb a (d .lo i) && leb (d .hi i) b) 1
+      same i t = omega (
+        arith,
+        gate-on (leb a (d .lo i) && leb (d .hi i) b) 1 (T-and (leb a (d .lo i)) (leb (d .hi i) b) (t .0)
+            (le→leb (d .hi i) b (high i (leb→le (until f (d .lo i) (d .hi i)) b (t .1))))),
+      )

@@ -1,0 +1,110 @@
+-- A legal plan of a day exists exactly when no stretch is short.
+-- Assumes nothing.
+use mathlib.Core.Path.{_≡_, refl, ap, _∙_}
+use mathlib.Core.Logic.{_⊎_, inl, inr, _↔_}
+use mathlib.Core.Bool.{_&&_}
+use mathlib.Core.List.{List, [], _∷_, _++_}
+use Prim.Native.Nat.{ℕ, zero, suc, _+_, _-_, _≤_, _<_}
+use native.Mathlib.Omega.{arith}
+use lib.ListN.{length, getD, length-append, List·getD-append}
+use lib.Seq.{getD-at}
+use lib.Dec.{leb, le→leb}
+use Rattle.assignment.specs.Sum.{gate}
+use Rattle.assignment.specs.Assignment as A
+use Rattle.assignment.proofs.Tests.{lt?, eq?, gate-on, gate-le}
+use Rattle.assignment.proofs.Sums.{sum-le, sum-ones, sum-member, count-ext}
+use Rattle.assignment.proofs.Existence as existence
+use Rattle.day.specs.Day.{Day, P, N, due, limit, land}
+use Rattle.day.specs.Plan.{Legal, Short}
+use Rattle.day.proofs.Costs.{latest-missing, latest-given}
+use Rattle.day.proofs.Valid.{Valid}
+use Rattle.day.proofs.Instance.{instance, last, places, places-closing, instance-legal, instance-short, short-has-no-plan}
+
+pub record HasPlan (d : Day) : Type 0 where
+  pub holds : List ℕ
+  pub legal : Legal d holds
+
+pub record HasShort (d : Day) : Type 0 where
+  pub a : ℕ
+  pub b : ℕ
+  pub short : Short d a b
+
+-- the row g 0, .., g (n - 1)
+row : ℕ → (ℕ → ℕ) → List ℕ
+row zero g = []
+row (suc n) g = row n g ++ (g n ∷ [])
+
+row-length : (n : ℕ) (g : ℕ → ℕ) → length (row n g) ≡ n
+unfolding row
+row-length zero g = refl
+row-length (suc n) g = simp length-append (omega (arith, row-length n g))
+
+row-at : (n : ℕ) (g : ℕ → ℕ) (i : ℕ) → i < n → getD (row n g) i 0 ≡ g i
+unfolding row
+row-at zero g i l = absurd (omega arith)
+row-at (suc n) g i l = elim (eq? i n) [
+  | inl e ↦ rw e (getD-at (row n g) (g n) [] 0 n (row-length n g))
+  | inr e ↦ List·getD-append (row n g) (g n ∷ []) 0 i (omega (arith, row-length n g)) ∙ row-at n g i (omega arith)
+]
+
+module _ {d : Day} (v : Valid d) where
+  due-le-last : (i : ℕ) → i < N d → due d i ≤ last d i
+  unfolding last
+  due-le-last i l = elim (eq? (limit d i) 255) [
+    | inl e ↦ omega (arith, latest-missing d i e, v .flight i l .due-to)
+    | inr e ↦ omega (arith, latest-given d i e, v .flight i l .due-to)
+  ]
+
+  plan-of-day : existence.HasPlan (instance d) → HasPlan d
+  plan-of-day p = record { holds = holds; legal = instance-legal v (row-length (N d) _) legal }
+    where
+      holds : List ℕ
+      holds = row (N d) (λ i. p .plan i - due d i)
+
+      lands : (i : ℕ) → i < N d → land d holds i ≡ p .plan i
+      lands i l = omega (arith, row-at (N d) (λ o. p .plan o - due d o) i l, p .legal .window i l .from)
+
+      legal : A.Legal (instance d) (land d holds)
+      legal = record {
+        window = λ i l. rw (lands i l) (p .legal .window i l);
+        room = λ k. omega (arith, count-ext (N d) (p .plan) (land d holds) lands k, p .legal .room k);
+      }
+
+  -- a short stretch ends before the closing period, which alone has room for every flight
+  short-to : {a b : ℕ} → a ≤ b → A.Short (instance d) a b → b < P d + 2 → b ≤ P d
+  unfolding A.room A.mustLand
+  short-to {a} {b} stretch s m = elim (lt? (P d) b) [
+    | inr to ↦ to
+    | inl past ↦
+        let e : b ≡ P d + 1 = omega arith in
+        absurd (omega (
+          arith,
+          s .short,
+          sum-member (b + 1) b (λ k. gate (leb a k) (places d k)) (omega arith),
+          gate-on (leb a b) (places d b) (le→leb a b stretch),
+          ap (places d) e,
+          places-closing d,
+          sum-le (N d) (λ i. gate (leb a (due d i) && leb (last d i) b) 1) (λ i. 1)
+              (λ i l. gate-le (leb a (due d i) && leb (last d i) b) 1 1 (λ t. omega arith)),
+          sum-ones (N d) (λ i. 1) (λ i. refl),
+          v .flights-to,
+        ))
+  ]
+
+  short-of-day : existence.HasShort (instance d) → HasShort d
+  short-of-day s =
+      let to = short-to (s .stretch) (s .short) (s .to) in
+      record { a = s .a; b = s .b; short = instance-short d (s .a) (s .b) to (s .from) (s .stretch) (s .short) }
+
+  pub plan-or-short : HasPlan d ⊎ HasShort d
+  plan-or-short = elim (existence.plan-or-short (instance d) proper) [ inl p ↦ inl (plan-of-day p) | inr s ↦ inr (short-of-day s) ]
+    where
+      proper : existence.Proper (instance d)
+      proper = record { from = λ i l. v .flight i l .due-from; some = due-le-last }
+
+  -- "A legal plan exists exactly when no stretch is short."
+  pub plan-exactly : HasPlan d ↔ ((a b : ℕ) → Short d a b → ⊥)
+  plan-exactly = (
+    λ p a b s. short-has-no-plan v s (p .legal),
+    λ none. elim plan-or-short [ inl p ↦ p | inr s ↦ absurd (none (s .a) (s .b) (s .short)) ],
+  )

@@ -1,0 +1,37 @@
+-- What the exports answer in numbers, where it is not `codeOf` alone.
+-- Assumes nothing.
+use mathlib.Core.Path.{_≡_}
+use mathlib.Core.List.{List}
+use Prim.Native.Nat.{ℕ}
+use Rattle.answers.specs.declared.Answer.{Answer}
+use Rattle.answers.specs.declared.Code.{Code}
+use Rattle.answers.specs.Answers.{codeOf}
+use Rattle.choice.specs.declared.Which.{Which}
+use Rattle.choice.specs.declared.Which.the-variants.{First, Second, Neither}
+use Rattle.day.specs.Day.{Day}
+use Rattle.full_plan.specs.FullPlan.{FullPlan}
+use Rattle.period_card.specs.declared.Card.{Card}
+use Rattle.desk.specs.declared.CardCode.{CardCode}
+
+-- 1 for the first row, 2 for the second, 0 for neither
+abbrev pub rowNumber : Which → ℕ
+rowNumber First = 1
+rowNumber Second = 2
+rowNumber Neither = 0
+
+-- the card's answer in numbers, beside its words and its size
+abbrev pub cardCode : Card → CardCode
+cardCode c = record {
+  number = codeOf (c .answer) .number;
+  first = codeOf (c .answer) .first;
+  second = codeOf (c .answer) .second;
+  low = c .low;
+  high = c .high;
+  size = c .size;
+}
+
+-- the full plan's answer in numbers, and what that answer says of the rows
+pub record Exported (d : Day) (code : Code) (holds₀ prices₀ holds prices : List ℕ) : Type 0 where
+  pub answer : Answer
+  pub code-is : code ≡ codeOf answer
+  pub outcome : FullPlan d answer holds₀ prices₀ holds prices

@@ -1,0 +1,158 @@
+// The core for other languages: each export hands its rows to the core's call and gives the answer in document 01's numbers.
+// include/hold_desk.h documents them for C.
+ghost use mathlib.Core.Path.{_≡_};
+ghost use mathlib.Core.Bool.{true};
+ghost use Rattle.answers.specs.Answers.{codeOf};
+ghost use Rattle.day.specs.Day.{day, valid};
+ghost use Rattle.day.specs.Plan.{Cheapest, Accepted};
+ghost use Rattle.sheet.specs.Sheet.{reading, answerOf, capacitiesAfter, flightsAfter};
+ghost use Rattle.sheet_writer.specs.Write.{writeAnswer, writeAfter};
+ghost use Rattle.quick_plan.specs.Calls.{quickPlan};
+ghost use Rattle.period_card.specs.PeriodCard.{periodCard};
+ghost use Rattle.price_check.specs.Decides.{Decides};
+ghost use Rattle.choice.specs.Choice.{choice};
+ghost use Rattle.board.specs.Board.{boardAnswer, BoardAfter};
+ghost use Rattle.plan_text.specs.PlanText.{planTextAnswer, planTextAfter};
+ghost use Rattle.desk.specs.Desk.{rowNumber, cardCode, Exported};
+use answers::Code;
+use answers::code_of;
+use choice::Which;
+
+#[repr(C)]
+pub struct CardCode {
+    pub number: u64,
+    pub first: u64,
+    pub second: u64,
+    pub low: u64,
+    pub high: u64,
+    pub size: u64,
+}
+
+#[no_mangle]
+pub extern "C" fn hold_desk_read_sheet(
+    sheet: &[u8],
+    capacities: &mut [u32],
+    flights: &mut [u32],
+) -> Code
+    ensures { λ r. ⌜ r ≡ codeOf (answerOf (reading (now (sheet .entry)) (now (capacities .entry)) (now (flights .entry)))) ⌝ }
+    ensures { λ _. ⌜ now (capacities .exit) ≡ capacitiesAfter (reading (now (sheet .entry)) (now (capacities .entry)) (now (flights .entry))) (now (capacities .entry)) ⌝ }
+    ensures { λ _. ⌜ now (flights .exit) ≡ flightsAfter (reading (now (sheet .entry)) (now (capacities .entry)) (now (flights .entry))) (now (flights .entry)) ⌝ }
+{
+    code_of(sheet_reader::read_sheet(sheet, capacities, flights))
+}
+
+#[no_mangle]
+pub extern "C" fn hold_desk_write_sheet(
+    capacities: &[u32],
+    flights: &[u32],
+    text: &mut [u8],
+    place: usize,
+) -> Code
+    ensures { λ r. ⌜ r ≡ codeOf (writeAnswer (day (now (capacities .entry)) (now (flights .entry))) (now (text .entry)) place) ⌝ }
+    ensures { λ _. ⌜ now (text .exit) ≡ writeAfter (day (now (capacities .entry)) (now (flights .entry))) (now (text .entry)) place ⌝ }
+{
+    code_of(sheet_writer::write_sheet(capacities, flights, text, place))
+}
+
+#[no_mangle]
+pub extern "C" fn hold_desk_quick_plan(
+    capacities: &[u32],
+    flights: &[u32],
+    holds: &mut [u32],
+) -> Code
+    ensures { λ r. ⌜ r ≡ codeOf (quickPlan (day (now (capacities .entry)) (now (flights .entry))) (now (holds .entry)) .answer) ⌝ }
+    ensures { λ _. ⌜ now (holds .exit) ≡ quickPlan (day (now (capacities .entry)) (now (flights .entry))) (now (holds .entry)) .holds ⌝ }
+{
+    code_of(quick_plan::quick_plan(capacities, flights, holds))
+}
+
+#[no_mangle]
+pub extern "C" fn hold_desk_period_card(
+    capacities: &[u32],
+    flights: &[u32],
+    period: u32,
+) -> CardCode
+    ensures { λ r. ⌜ r ≡ cardCode (periodCard (day (now (capacities .entry)) (now (flights .entry))) period) ⌝ }
+{
+    let card = period_card::period_card(capacities, flights, period);
+    let answer = card.answer;
+    let code = code_of(answer);
+    let size = card.size;
+    CardCode {
+        number: code.number,
+        first: code.first,
+        second: code.second,
+        low: card.low,
+        high: card.high,
+        size: day::wide(size) as u64,
+    }
+}
+
+#[no_mangle]
+pub extern "C" fn hold_desk_full_plan(
+    capacities: &[u32],
+    flights: &[u32],
+    holds: &mut [u32],
+    prices: &mut [u32],
+) -> Code
+    ensures { λ r. ⌜ Exported (day (now (capacities .entry)) (now (flights .entry))) r (now (holds .entry)) (now (prices .entry)) (now (holds .exit)) (now (prices .exit)) ⌝ }
+{
+    code_of(full_plan::full_plan(capacities, flights, holds, prices))
+}
+
+#[no_mangle]
+pub extern "C" fn hold_desk_price_check(
+    capacities: &[u32],
+    flights: &[u32],
+    holds: &[u32],
+    prices: &[u32],
+) -> bool
+    ensures exact { λ r. ⌜ Decides r ((valid (day (now (capacities .entry)) (now (flights .entry))) ≡ true) × Accepted (day (now (capacities .entry)) (now (flights .entry))) (now (holds .entry)) (now (prices .entry))) ⌝ }
+    ensures cheapest { λ r. ⌜ (r ≡ true → Cheapest (day (now (capacities .entry)) (now (flights .entry))) (now (holds .entry))) ⌝ }
+{
+    price_check::price_check(capacities, flights, holds, prices)
+}
+
+#[no_mangle]
+pub extern "C" fn hold_desk_choice(
+    capacities: &[u32],
+    flights: &[u32],
+    first: &[u32],
+    second: &[u32],
+) -> u32
+    ensures { λ r. ⌜ r ≡ rowNumber (choice (day (now (capacities .entry)) (now (flights .entry))) (now (first .entry)) (now (second .entry))) ⌝ }
+{
+    let chosen = choice::which_row(capacities, flights, first, second);
+    match chosen {
+        Which::First => 1,
+        Which::Second => 2,
+        Which::Neither => 0,
+    }
+}
+
+#[no_mangle]
+pub extern "C" fn hold_desk_board(
+    capacities: &[u32],
+    flights: &[u32],
+    holds: &[u32],
+    board: &mut [u32],
+) -> Code
+    ensures { λ r. ⌜ r ≡ codeOf (boardAnswer (day (now (capacities .entry)) (now (flights .entry))) (now (holds .entry)) (now (board .entry))) ⌝ }
+    ensures { λ _. ⌜ BoardAfter (day (now (capacities .entry)) (now (flights .entry))) (now (holds .entry)) (now (board .entry)) (now (board .exit)) ⌝ }
+{
+    code_of(board::make_board(capacities, flights, holds, board))
+}
+
+#[no_mangle]
+pub extern "C" fn hold_desk_plan_text(
+    capacities: &[u32],
+    flights: &[u32],
+    holds: &[u32],
+    text: &mut [u8],
+    place: usize,
+) -> Code
+    ensures { λ r. ⌜ r ≡ codeOf (planTextAnswer (day (now (capacities .entry)) (now (flights .entry))) (now (holds .entry)) (now (text .entry)) place) ⌝ }
+    ensures { λ _. ⌜ now (text .exit) ≡ planTextAfter (day (now (capacities .entry)) (now (flights .entry))) (now (holds .entry)) (now (text .entry)) place ⌝ }
+{
+    code_of(plan_text::write_plan(capacities, flights, holds, text, place))
+}

@@ -1,0 +1,99 @@
+-- The periods before k have their new prices; outside the searched periods nothing is nearer than the target. Assumes nothing.
+use native.Mathlib.Omega.{arith}
+use Prim.Native.Nat.{_-_}
+use Rattle.insertion.proofs.Steps.{Raising, raise-room, raising-start, raising-room, raising-small, raising-keep, raising-up, raising-end}
+use Rattle.insertion.proofs.raise.Statement.{statement}
+use Rattle.insertion.proofs.raise.Tie as tie
+
+abbrev Inv-loop : tie.InvT-loop
+Inv-loop price₀ dist first target goal k₀ price k = Raising price₀ price dist first target goal k
+
+abbrev μ-loop : tie.MeasureT-loop
+μ-loop price₀ dist first target goal k₀ price k = target - k
+
+mul-goal : tie.Need-mul-goal Inv-loop μ-loop
+mul-goal c = omega (arith, c .pre .within)
+
+shared-slice-read-goal : tie.Need-shared-slice-read-goal Inv-loop μ-loop
+shared-slice-read-goal c = raise-room (c .before .pre)
+
+loop-holds : tie.Need-loop-holds Inv-loop μ-loop
+loop-holds c = raising-start (c .before .pre)
+
+add-k : tie.Need-add-k Inv-loop μ-loop
+add-k c = omega (arith, raising-room (c .before .loop .inv) (c .loop-test .taken))
+
+mul-if1 : tie.Need-mul-if1 Inv-loop μ-loop
+mul-if1 c = omega (arith, raising-room (c .before .loop .inv) (c .loop-test .taken))
+
+shared-slice-read-if1 : tie.Need-shared-slice-read-if1 Inv-loop μ-loop
+shared-slice-read-if1 c = raising-room (c .before .before .loop .inv) (c .before .loop-test .taken) .0
+
+mul-price : tie.Need-mul-price Inv-loop μ-loop
+mul-price c = omega (arith, raising-room (c .before .before .before .loop .inv) (c .before .before .loop-test .taken))
+
+slice-read-price : tie.Need-slice-read-price Inv-loop μ-loop
+slice-read-price c = raising-room (c .before .before .before .before .loop .inv) (c .before .before .before .loop-test .taken) .1
+
+mul-price-2 : tie.Need-mul-price-2 Inv-loop μ-loop
+mul-price-2 c = omega (arith, raising-room (c .before .before .before .before .loop .inv) (c .before .before .before .loop-test .taken))
+
+shared-slice-read-price : tie.Need-shared-slice-read-price Inv-loop μ-loop
+shared-slice-read-price c = raising-room (c .before .before .before .before .before .loop .inv) (c .before .before .before .before .loop-test .taken) .0
+
+sub-price : tie.Need-sub-price Inv-loop μ-loop
+sub-price c = omega (arith, c .before .before .if1 .taken)
+
+add-price : tie.Need-add-price Inv-loop μ-loop
+add-price c = omega (arith, raising-small (c .before .before .before .before .before .loop .inv) (c .before .before .before .before .loop-test .taken))
+
+mul-price-3 : tie.Need-mul-price-3 Inv-loop μ-loop
+mul-price-3 c = omega (arith, raising-room (c .before .before .before .before .before .loop .inv) (c .before .before .before .before .loop-test .taken))
+
+slice-write-price : tie.Need-slice-write-price Inv-loop μ-loop
+slice-write-price c = raising-room (c .before .before .before .before .before .loop .inv) (c .before .before .before .before .loop-test .taken) .1
+
+loop-less : tie.Need-loop-less Inv-loop μ-loop
+loop-less c = omega (arith, c .before .before .before .before .loop-test .taken)
+
+loop-again : tie.Need-loop-again Inv-loop μ-loop
+loop-again c = raising-up (c .before .before .before .before .before .loop .inv) (c .before .before .before .before .loop-test .taken)
+
+loop-less-2 : tie.Need-loop-less-2 Inv-loop μ-loop
+loop-less-2 c = omega (arith, c .before .before .loop-test .taken)
+
+loop-again-2 : tie.Need-loop-again-2 Inv-loop μ-loop
+loop-again-2 c = raising-keep (c .before .before .before .loop .inv) (c .before .before .loop-test .taken) (c .if1 .left)
+
+same-length : tie.Need-same-length Inv-loop μ-loop
+same-length c = c .before .loop .inv .same
+
+returns : tie.Need-returns Inv-loop μ-loop
+returns c = raising-end (c .before .loop .inv) (c .loop-test .left)
+
+pub raise-spec : {M : Type 1} → statement M
+raise-spec =
+    tie.close
+    (tie.spec
+    Inv-loop
+    μ-loop
+    mul-goal
+    shared-slice-read-goal
+    loop-holds
+    add-k
+    mul-if1
+    shared-slice-read-if1
+    mul-price
+    slice-read-price
+    mul-price-2
+    shared-slice-read-price
+    sub-price
+    add-price
+    mul-price-3
+    slice-write-price
+    loop-less
+    loop-again
+    loop-less-2
+    loop-again-2
+    same-length
+    returns)

@@ -1,0 +1,5 @@
+pub mod Rows
+pub mod Scan
+pub mod Offering
+pub mod Reaching
+pub mod Expanding

@@ -1,0 +1,263 @@
+-- The steps of the search: it starts with what the new flight offers, reaches the nearest period, hears the flights that land there, and ends
+-- at the target. Where the target were far, a stretch before it would be short.
+-- Assumes nothing.
+use mathlib.Core.Path.{_≡_, refl, _∙_}
+use mathlib.Core.Logic.{inl, inr, _≢_}
+use mathlib.Core.Bool.{Bool}
+use mathlib.Core.List.{List}
+use Prim.Native.Nat.{ℕ, _+_, _*_, _≤_, _<_}
+use native.Mathlib.Omega.{arith}
+use lib.Dec.{T, ltb, ltb→lt, lt→ltb}
+use lib.ListN.{length, set, length-set, replicate, length-replicate, getD-replicate, List·getD-eq-default}
+use Rattle.assignment.specs.Assignment.{Instance, In}
+use Rattle.assignment.proofs.Tests.{eq?, lt?, gate-eq, gate-ne}
+use Rattle.assignment.proofs.Sums.{count-move, count-member, count-all}
+use Rattle.assignment.proofs.Moves.{Moved}
+use Rattle.assignment.proofs.Near.{Offered, offered, near-start, near-reach, near-pass, near-offer, offer-kept, offer-falls}
+use Rattle.assignment.proofs.Stuck.{Stuck, stuck-is-short}
+use Rattle.path.specs.Path.{el, far, away, dearest, Scene, Search, Around, CanNear, Nearest, Searched}
+use Rattle.path.proofs.Rows.{set-moved}
+
+-- ---- the start
+
+pub blank : (m k : ℕ) → el (replicate m 0) k ≡ 0
+blank m k = elim (lt? k m) [
+  | inl l ↦ getD-replicate {A = ℕ} m k 0 0 l
+  | inr l ↦ List·getD-eq-default (replicate m 0) 0 {n = k} (omega (arith, length-replicate {A = ℕ} m 0))
+]
+
+pub blank-far : (m k : ℕ) → away (replicate m far) k ≡ far
+blank-far m k = elim (lt? k m) [
+  | inl l ↦ getD-replicate {A = ℕ} m k far far l
+  | inr l ↦ List·getD-eq-default (replicate m far) far {n = k} (omega (arith, length-replicate {A = ℕ} m far))
+]
+
+module _ {d : Instance} {x p : ℕ → ℕ} {target : ℕ} (dist via : List ℕ) {hi : ℕ} (scene : Scene d x p target) (to : hi ≡ d .hi (d .n))
+    (dists : length dist ≡ 98) (vias : length via ≡ 98)
+    (o : Offered (d .lo (d .n)) hi (λ k. d .cost (d .n) k + p k) (d .n) 0 0 (away (replicate 98 far)) (away dist) (el (replicate 98 (d .n))) (el via)) where
+  fits : (k : ℕ) → d .lo (d .n) ≤ k → k ≤ hi → In d (d .n) k
+  fits k a b = record { from = a; to = omega arith }
+
+  small : (k : ℕ) → In d (d .n) k → d .cost (d .n) k + p k ≤ dearest
+  small k w = scene .pays (d .n) k (omega arith) w
+
+  -- a period of the window is no longer far
+  heard : (k : ℕ) → In d (d .n) k → (away dist k ≡ d .cost (d .n) k + p k) × (el via k ≡ d .n)
+  heard k w =
+      let h = o .nearer k (w .from) (omega (arith, w .to)) (omega (arith, small k w, blank-far 98 k)) in
+      (omega (arith, h .0), h .1)
+
+  other : (k : ℕ) → (In d (d .n) k → ⊥) → (away dist k ≡ far) × (el via k ≡ el (replicate 98 (d .n)) k)
+  other k out = elim (offered o k) [
+    | inl c ↦ absurd (out (fits k (c .0) (c .1)))
+    | inr e ↦ (e .0 ∙ blank-far 98 k, e .1)
+  ]
+
+  near-in : (k : ℕ) → away dist k < far → In d (d .n) k
+  near-in k near = elim (offered o k) [
+    | inl c ↦ fits k (c .0) (c .1)
+    | inr e ↦ absurd (omega (arith, e .0, blank-far 98 k))
+  ]
+
+  pub search-start : Search d x p target dist (replicate 98 0) via 0 (d .n)
+  search-start = record {
+    rows = record { dists = dists; ranks = length-replicate {A = ℕ} 98 0; vias = vias };
+    root = away dist;
+    rooted = λ k near. let w = near-in k near in (w, heard k w .0);
+    reach = λ k w. omega (arith, heard k w .0);
+    near = near-start (record { window = scene .sound .accepted .legal .window; best = scene .sound .accepted .best }) (λ _. refl)
+        (λ k l. elim (offered o k) [
+          | inl c ↦ heard k (fits k (c .0) (c .1)) .1
+          | inr e ↦ e .1 ∙ getD-replicate {A = ℕ} 98 k (d .n) 0 (omega (arith, scene .periods))
+        ]) (blank 98);
+    most = λ k. elim (offered o k) [
+      | inl c ↦ let w = fits k (c .0) (c .1) in omega (arith, heard k w .0, small k w)
+      | inr e ↦ omega (arith, e .0, blank-far 98 k)
+    ];
+    inside = λ k near.
+        let w = near-in k near in
+        omega (arith, w .from, w .to, scene .ceiling (d .n) (omega arith) (scene .before), heard k w .0, small k w);
+    reached = λ k some. absurd (omega (arith, blank 98 k));
+    zeros = omega (arith, count-all 98 0 (el (replicate 98 0)) (blank 98));
+  }
+
+-- ---- a period is reached
+
+module _ {d : Instance} {x p : ℕ → ℕ} {target : ℕ} {dist rank via : List ℕ} {t : ℕ} (s : Search d x p target dist rank via t (d .n))
+    (scene : Scene d x p target) where
+  pub search-near : {first : ℕ} → first ≡ d .lo (d .n) → CanNear dist rank first target
+  search-near e = record {
+    dists = s .rows .dists;
+    ranks = s .rows .ranks;
+    before = omega (arith, scene .before);
+    within = omega (arith, scene .within, scene .periods);
+  }
+
+  -- the target is not reached
+  target-fresh : el rank target ≡ 0
+  target-fresh = elim (lt? 0 (el rank target)) [ inl some ↦ absurd (omega (arith, s .reached target some)) | inr none ↦ omega arith ]
+
+  module _ {first k : ℕ} (first-is : first ≡ d .lo (d .n)) (a : Nearest dist rank first target k) where
+    -- nothing that is not reached is nearer
+    nearest-least : (j : ℕ) → el rank j ≡ 0 → away dist k ≤ away dist j
+    nearest-least j none = elim (lt? (away dist j) far) [
+      | inr out ↦ omega (arith, a .target-least, s .most target)
+      | inl near ↦ elim (eq? j target) [
+        | inl e ↦ rw e (a .target-least)
+        | inr e ↦ a .least j (omega (arith, s .inside j near)) (omega (arith, s .inside j near)) none
+      ]
+    ]
+
+    module _ (e : k ≢ target) where
+      pub reach-in : (k < target) × (k < 98) × (t < 98) × (k < length rank) × (away dist k ≤ 98 * dearest)
+      reach-in =
+          let b : k < 98 = omega (arith, a .to, scene .within, scene .periods) in
+          let c : t < 98 = omega (arith, s .zeros, count-member 98 k 0 (el rank) b (a .fresh e)) in
+          omega (arith, a .to, s .rows .ranks, s .inside k (omega (arith, a .nearer e, s .most target)))
+
+      pub reach-next : Around d x p target dist (set rank k (t + 1)) via (t + 1) k 0
+      reach-next = record {
+        so-far = record {
+          rows = record { dists = s .rows .dists; ranks = length-set rank k (t + 1) ∙ s .rows .ranks; vias = s .rows .vias };
+          root = s .root;
+          rooted = s .rooted;
+          reach = s .reach;
+          near = near-reach (s .near) (omega arith) (a .fresh e) nearest-least v;
+          most = s .most;
+          inside = λ j near. omega (arith, s .inside j near);
+          reached = λ j some. elim (eq? j k) [
+            | inl f ↦ rw f (omega (arith, reach-in .0, a .from, s .inside k (omega (arith, a .nearer e, s .most target))))
+            | inr f ↦ omega (arith, s .reached j (omega (arith, v .others j f)))
+          ];
+          zeros = omega (
+            arith,
+            s .zeros,
+            count-move 98 k (el rank) (el (set rank k (t + 1))) (reach-in .1) (λ j _ f. v .others j f) 0,
+            gate-eq (el rank k) 0 1 (a .fresh e),
+            gate-ne (el (set rank k (t + 1)) k) 0 1 (omega (arith, v .here)),
+          );
+        };
+        some = omega arith;
+        here = v .here;
+        only = λ j f. elim (eq? j k) [ inl g ↦ g | inr g ↦ absurd (omega (arith, v .others j g, s .near .top j)) ];
+      }
+        where
+          v : Moved (el rank) (el (set rank k (t + 1))) k (t + 1)
+          v = set-moved rank k (t + 1) (reach-in .3)
+
+    -- ---- the end
+
+    module _ (e : k ≡ target) where
+      least : (j : ℕ) → el rank j ≡ 0 → away dist target ≤ away dist j
+      least j none = rw e at (nearest-least j none)
+
+      r : ℕ → Bool
+      r j = ltb 0 (el rank j)
+
+      -- with the target far, whatever is near is reached
+      near-is-reached : far ≤ away dist target → (j : ℕ) → away dist j < far → T (r j)
+      unfolding r
+      near-is-reached out j near = elim (lt? 0 (el rank j)) [
+        | inl some ↦ lt→ltb 0 (el rank j) some
+        | inr none ↦ absurd (omega (arith, least j (omega arith)))
+      ]
+
+      stuck : far ≤ away dist target → Stuck d x r
+      unfolding r
+      stuck out = record {
+        window = scene .sound .accepted .legal .window;
+        within = λ j t. omega (arith, s .reached j (ltb→lt 0 (el rank j) t), scene .from, scene .within);
+        full = λ j t. let b = s .reached j (ltb→lt 0 (el rank j) t) in scene .full j (b .0) (b .1);
+        closed = λ i j l t w.
+            let some = ltb→lt 0 (el rank (x i)) t in
+            near-is-reached out j (omega (arith, s .near .near i j l w some (inr l), s .reached (x i) some, scene .pays i j (omega arith) w, s .zeros));
+        new = λ j w. near-is-reached out j (omega (arith, s .near .low j, s .reach j w, scene .pays (d .n) j (omega arith) w));
+        some = scene .some;
+      }
+
+      not-far : away dist target < far
+      unfolding r
+      not-far = elim (lt? (away dist target) far) [
+        | inl near ↦ near
+        | inr out ↦
+            let h = stuck-is-short (stuck out) in
+            let last = s .reached (h .b) (ltb→lt 0 (el rank (h .b)) (h .inside (h .b) (h .stretch) (omega arith))) in
+            absurd (scene .none-short (h .a) (h .b) (h .from) (h .stretch) (last .1) (h .short))
+      ]
+
+      pub search-end : Searched d x p target dist rank via
+      search-end = record { t = t; so-far = s; least = least; near = not-far }
+
+-- ---- the flights that land in the period reached last
+
+module _ {d : Instance} {x p : ℕ → ℕ} {target : ℕ} {dist rank via : List ℕ} {t k m : ℕ} (s : Around d x p target dist rank via t k m) where
+  pub around-pass : x m ≢ k → Around d x p target dist rank via t k (m + 1)
+  around-pass e = record {
+    so-far = record {
+      rows = s .so-far .rows;
+      root = s .so-far .root;
+      rooted = s .so-far .rooted;
+      reach = s .so-far .reach;
+      near = near-pass (s .so-far .near) (λ f. e (s .only (x m) f));
+      most = s .so-far .most;
+      inside = s .so-far .inside;
+      reached = s .so-far .reached;
+      zeros = s .so-far .zeros;
+    };
+    some = s .some;
+    here = s .here;
+    only = s .only;
+  }
+
+  module _ (dist₂ via₂ : List ℕ) {hi from base : ℕ} (scene : Scene d x p target) (l : m < d .n) (lands : x m ≡ k) (to : hi ≡ d .hi m)
+      (from-is : from ≡ away dist k) (base-is : base ≡ d .cost m k + p k) (dists : length dist₂ ≡ length dist) (vias : length via₂ ≡ length via)
+      (o : Offered (d .lo m) hi (λ k. d .cost m k + p k) m from base (away dist) (away dist₂) (el via) (el via₂)) where
+    here : el rank (x m) ≡ t
+    here = rw lands (s .here)
+
+    from-x : from ≡ away dist (x m)
+    from-x = rw lands from-is
+
+    base-x : base ≡ d .cost m (x m) + p (x m)
+    base-x = rw lands base-is
+
+    kept : (j : ℕ) → 0 < el rank j → away dist₂ j ≡ away dist j
+    kept j q = offer-kept (s .so-far .near) l (s .some) here to from-x base-x o j q
+
+    pub around-kept : away dist₂ k ≡ away dist k
+    around-kept = kept k (omega (arith, s .here, s .some))
+
+    at-home : (d .lo m ≤ k) × (k < target)
+    at-home = (rw lands at (scene .sound .accepted .legal .window m l .from), s .so-far .reached k (omega (arith, s .here, s .some)) .1)
+
+    pub around-offered : Around d x p target dist₂ rank via₂ t k (m + 1)
+    around-offered = record {
+      so-far = record {
+        rows = record { dists = dists ∙ s .so-far .rows .dists; ranks = s .so-far .rows .ranks; vias = vias ∙ s .so-far .rows .vias };
+        root = s .so-far .root;
+        rooted = s .so-far .rooted;
+        reach = s .so-far .reach;
+        near = near-offer (s .so-far .near) l (s .some) here to from-x base-x o;
+        most = λ j. omega (arith, offer-falls (s .so-far .near) l (s .some) here to from-x base-x o j, s .so-far .most j);
+        inside = λ j near. elim (offered o j) [
+          | inr f ↦ omega (arith, f .0, s .so-far .inside j (omega (arith, f .0)))
+          | inl c ↦ omega (
+            arith,
+            c .0,
+            c .1,
+            to,
+            scene .floor m l,
+            scene .ceiling m (omega arith) (omega (arith, at-home)),
+            o .nearer j (c .0) (c .1) (c .2) .0,
+            scene .pays m j (omega arith) (record { from = c .0; to = omega (arith, c .1) }),
+            from-is,
+            s .so-far .reached k (omega (arith, s .here, s .some)),
+          )
+        ];
+        reached = λ j some. omega (arith, kept j some, s .so-far .reached j some);
+        zeros = s .so-far .zeros;
+      };
+      some = s .some;
+      here = s .here;
+      only = s .only;
+    }

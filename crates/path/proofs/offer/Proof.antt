@@ -1,0 +1,133 @@
+-- The periods before k have been offered, the others are as they were. Assumes nothing.
+use native.Mathlib.Omega.{arith}
+use Prim.Native.Nat.{_+_, _-_, min}
+use mathlib.Core.Path.{_∙_, ap}
+use Rattle.day.specs.Day.{day}
+use Rattle.path.proofs.Offering.{Numbers, cost-is, Offering, offering-start, offering-room, offering-fits, offering-small, offering-keep, offering-take, offering-end}
+use Rattle.path.proofs.offer.Statement.{statement}
+use Rattle.path.proofs.offer.Tie as tie
+
+abbrev Inv-loop : tie.InvT-loop
+Inv-loop capacities flights price dist₀ via₀ target i who from base due rate after jump last k₀ dist via k = Offering (day capacities flights) price dist₀ dist via₀ via target i who from base k × Numbers (day capacities flights) target i due rate after jump last
+
+abbrev μ-loop : tie.MeasureT-loop
+μ-loop capacities flights price dist₀ via₀ target i who from base due rate after jump last k₀ dist via k = (last + 1) - k
+
+due-of-requires : tie.Need-due-of-requires Inv-loop μ-loop
+due-of-requires c κs = c .before .before .before .before .before .pre .room
+
+rate-of-requires : tie.Need-rate-of-requires Inv-loop μ-loop
+rate-of-requires c κs = c .before .before .before .before .before .before .pre .room
+
+after-of-requires : tie.Need-after-of-requires Inv-loop μ-loop
+after-of-requires c κs = c .before .before .before .before .before .before .before .pre .room
+
+jump-of-requires : tie.Need-jump-of-requires Inv-loop μ-loop
+jump-of-requires c κs = c .before .before .before .before .before .before .before .before .pre .room
+
+latest-of-requires : tie.Need-latest-of-requires Inv-loop μ-loop
+latest-of-requires c κs = (c .before .before .before .before .before .before .before .before .before .pre .room, c .before .before .before .before .before .before .before .before .before .pre .few)
+
+smaller-requires : tie.Need-smaller-requires Inv-loop μ-loop
+smaller-requires c κs = tt
+
+loop-holds : tie.Need-loop-holds Inv-loop μ-loop
+loop-holds c = (offering-start (c .before .before .before .before .before .before .before .before .before .before .before .pre) (c .before .before .before .before .before .due-of .ensures .0), record { due-is = c .before .before .before .before .before .due-of .ensures .0; rate-is = c .before .before .before .before .rate-of .ensures .0; after-is = c .before .before .before .after-of .ensures .0; jump-is = c .before .before .jump-of .ensures .0; last-is = c .smaller .ensures ∙ ap (λ z. min z (c .before .before .before .before .before .before .before .before .before .before .before .args .target)) (c .before .latest-of .ensures) })
+
+add-k : tie.Need-add-k Inv-loop μ-loop
+add-k c = omega (arith, offering-room (c .before .loop .inv .0) (c .before .loop .inv .1) (c .loop-test .taken))
+
+sub-hold-cost : tie.Need-sub-hold-cost Inv-loop μ-loop
+sub-hold-cost c = omega (arith, offering-room (c .before .loop .inv .0) (c .before .loop .inv .1) (c .loop-test .taken))
+
+hold-cost-requires : tie.Need-hold-cost-requires Inv-loop μ-loop
+hold-cost-requires c κs = omega (arith, offering-fits (c .before .loop .inv .0) (c .before .loop .inv .1) (c .loop-test .taken))
+
+mul-away : tie.Need-mul-away Inv-loop μ-loop
+mul-away c = omega (arith, offering-room (c .before .before .loop .inv .0) (c .before .before .loop .inv .1) (c .before .loop-test .taken))
+
+shared-slice-read-away : tie.Need-shared-slice-read-away Inv-loop μ-loop
+shared-slice-read-away c = offering-room (c .before .before .before .loop .inv .0) (c .before .before .before .loop .inv .1) (c .before .before .loop-test .taken) .2
+
+add-away : tie.Need-add-away Inv-loop μ-loop
+add-away c = omega (arith, offering-small (c .before .before .before .loop .inv .0) (c .before .before .before .loop .inv .1) (c .before .before .loop-test .taken) (cost-is (c .before .before .before .loop .k) (c .before .before .before .loop .inv .1) (c .before .hold-cost .ensures)))
+
+add-away-2 : tie.Need-add-away-2 Inv-loop μ-loop
+add-away-2 c = omega (arith, offering-small (c .before .before .before .loop .inv .0) (c .before .before .before .loop .inv .1) (c .before .before .loop-test .taken) (cost-is (c .before .before .before .loop .k) (c .before .before .before .loop .inv .1) (c .before .hold-cost .ensures)))
+
+sub-away : tie.Need-sub-away Inv-loop μ-loop
+sub-away c = omega (arith, offering-small (c .before .before .before .loop .inv .0) (c .before .before .before .loop .inv .1) (c .before .before .loop-test .taken) (cost-is (c .before .before .before .loop .k) (c .before .before .before .loop .inv .1) (c .before .hold-cost .ensures)))
+
+mul-if1 : tie.Need-mul-if1 Inv-loop μ-loop
+mul-if1 c = omega (arith, offering-room (c .before .before .before .loop .inv .0) (c .before .before .before .loop .inv .1) (c .before .before .loop-test .taken))
+
+slice-read-if1 : tie.Need-slice-read-if1 Inv-loop μ-loop
+slice-read-if1 c = offering-room (c .before .before .before .before .loop .inv .0) (c .before .before .before .before .loop .inv .1) (c .before .before .before .loop-test .taken) .0
+
+mul-dist : tie.Need-mul-dist Inv-loop μ-loop
+mul-dist c = omega (arith, offering-room (c .before .before .before .before .before .loop .inv .0) (c .before .before .before .before .before .loop .inv .1) (c .before .before .before .before .loop-test .taken))
+
+slice-write-dist : tie.Need-slice-write-dist Inv-loop μ-loop
+slice-write-dist c = offering-room (c .before .before .before .before .before .loop .inv .0) (c .before .before .before .before .before .loop .inv .1) (c .before .before .before .before .loop-test .taken) .0
+
+mul-via : tie.Need-mul-via Inv-loop μ-loop
+mul-via c = omega (arith, offering-room (c .before .before .before .before .before .loop .inv .0) (c .before .before .before .before .before .loop .inv .1) (c .before .before .before .before .loop-test .taken))
+
+slice-write-via : tie.Need-slice-write-via Inv-loop μ-loop
+slice-write-via c = offering-room (c .before .before .before .before .before .loop .inv .0) (c .before .before .before .before .before .loop .inv .1) (c .before .before .before .before .loop-test .taken) .1
+
+loop-less : tie.Need-loop-less Inv-loop μ-loop
+loop-less c = omega (arith, c .before .before .before .before .loop-test .taken)
+
+loop-again : tie.Need-loop-again Inv-loop μ-loop
+loop-again c = (offering-take (c .before .before .before .before .before .loop .inv .0) (c .before .before .before .before .before .loop .inv .1) (c .before .before .before .before .loop-test .taken) (cost-is (c .before .before .before .before .before .loop .k) (c .before .before .before .before .before .loop .inv .1) (c .before .before .before .hold-cost .ensures)) (c .if1 .taken), c .before .before .before .before .before .loop .inv .1)
+
+loop-less-2 : tie.Need-loop-less-2 Inv-loop μ-loop
+loop-less-2 c = omega (arith, c .before .before .before .before .loop-test .taken)
+
+loop-again-2 : tie.Need-loop-again-2 Inv-loop μ-loop
+loop-again-2 c = (offering-keep (c .before .before .before .before .before .loop .inv .0) (c .before .before .before .before .before .loop .inv .1) (c .before .before .before .before .loop-test .taken) (cost-is (c .before .before .before .before .before .loop .k) (c .before .before .before .before .before .loop .inv .1) (c .before .before .before .hold-cost .ensures)) (c .if1 .left), c .before .before .before .before .before .loop .inv .1)
+
+same-length : tie.Need-same-length Inv-loop μ-loop
+same-length c = c .before .loop .inv .0 .same-d
+
+same-length-2 : tie.Need-same-length-2 Inv-loop μ-loop
+same-length-2 c = c .before .loop .inv .0 .same-v
+
+returns : tie.Need-returns Inv-loop μ-loop
+returns c = offering-end (c .before .loop .inv .0) (c .before .loop .inv .1) (c .loop-test .left)
+
+pub offer-spec : {M : Type 1} → statement M
+offer-spec =
+    tie.close
+    (tie.spec
+    Inv-loop
+    μ-loop
+    due-of-requires
+    rate-of-requires
+    after-of-requires
+    jump-of-requires
+    latest-of-requires
+    smaller-requires
+    loop-holds
+    add-k
+    sub-hold-cost
+    hold-cost-requires
+    mul-away
+    shared-slice-read-away
+    add-away
+    add-away-2
+    sub-away
+    mul-if1
+    slice-read-if1
+    mul-dist
+    slice-write-dist
+    mul-via
+    slice-write-via
+    loop-less
+    loop-again
+    loop-less-2
+    loop-again-2
+    same-length
+    same-length-2
+    returns)

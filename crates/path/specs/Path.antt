@@ -1,0 +1,146 @@
+-- What the search for the cheapest chain of moves asks and gives. Only private contracts cite it.
+-- Assumes nothing.
+use mathlib.Core.Path.{_≡_}
+use mathlib.Core.Logic.{_≢_}
+use mathlib.Core.List.{List}
+use Prim.Native.Nat.{ℕ, _+_, _-_, _*_, _≤_, _<_, min}
+use lib.ListN.{getD, length}
+use Rattle.assignment.specs.Sum.{count}
+use Rattle.assignment.specs.Assignment.{Instance, In, Short}
+use Rattle.assignment.proofs.Near.{Near, Offered}
+use Rattle.assignment.proofs.Insertion.{Sound, grown}
+use Rattle.assignment.proofs.Permuted.{ordered}
+use Rattle.assignment.proofs.Restricted.{restricted}
+use Rattle.day.specs.Day.{Day, day, width, P, N, due, rate, jump, cost, latest}
+use Rattle.day.proofs.Valid.{Valid}
+use Rattle.day.proofs.Instance.{instance}
+use Rattle.due_order.specs.DueOrder.{DueOrder}
+
+-- rows are read at the period or the place itself; a distance that does not stand in its row is far
+abbrev pub el : List ℕ → ℕ → ℕ
+el row k = getD row k 0
+
+abbrev pub far : ℕ
+far = 4611686018427387904
+
+abbrev pub away : List ℕ → ℕ → ℕ
+away dist k = getD dist k far
+
+-- more than any flight pays in any period
+abbrev pub dearest : ℕ
+dearest = 5000000000
+
+-- the first n flights of the order, none of which is to land beyond the target
+abbrev pub scope : List ℕ → List ℕ → List ℕ → ℕ → ℕ → Instance
+scope capacities flights order n target = restricted (ordered (instance (day capacities flights)) (el order) n) target
+
+-- what a flight pays in period k
+abbrev pub payment : Day → List ℕ → ℕ → ℕ → ℕ
+payment d price i k = cost d i (k - due d i) + el price k
+
+-- a day that passes the check, and all of its table places, due falling
+pub record Table (d : Day) (order : List ℕ) : Type 0 where
+  pub valid : Valid d
+  pub by-due : DueOrder d order
+
+-- a plan x of n flights with prices p, and a new flight; from its due period on, the target is the first period with room
+pub record Scene (d : Instance) (x p : ℕ → ℕ) (target : ℕ) : Type 0 where
+  pub sound : Sound d x p
+  pub periods : d .m ≤ 98
+  pub pays : (i k : ℕ) → i ≤ d .n → In d i k → d .cost i k + p k ≤ dearest
+  pub floor : (i : ℕ) → i < d .n → d .lo (d .n) ≤ d .lo i
+  pub ceiling : (i : ℕ) → i ≤ d .n → d .lo i ≤ target → d .hi i ≤ target
+  pub from : 1 ≤ d .lo (d .n)
+  pub some : d .lo (d .n) ≤ d .hi (d .n)
+  pub before : d .lo (d .n) ≤ target
+  pub within : target < d .m
+  pub full : (k : ℕ) → d .lo (d .n) ≤ k → k < target → d .cap k ≤ count (d .n) x k
+  pub free : count (d .n) x target < d .cap target
+  pub none-short : (a b : ℕ) → 1 ≤ a → a ≤ b → b < target → Short (grown d) a b → ⊥
+
+-- the rows of a search
+pub record Rows (dist rank via : List ℕ) : Type 0 where
+  pub dists : length dist ≡ 98
+  pub ranks : length rank ≡ 98
+  pub vias : length via ≡ 98
+
+-- t periods are reached, and from the last of them the flights before m have offered; root is what the new flight pays
+pub record Search (d : Instance) (x p : ℕ → ℕ) (target : ℕ) (dist rank via : List ℕ) (t m : ℕ) : Type 0 where
+  pub rows : Rows dist rank via
+  pub root : ℕ → ℕ
+  pub rooted : (k : ℕ) → root k < far → In d (d .n) k × (root k ≡ d .cost (d .n) k + p k)
+  pub reach : (k : ℕ) → In d (d .n) k → root k ≤ d .cost (d .n) k + p k
+  pub near : Near d x p root (away dist) (el rank) (el via) t m
+  pub most : (k : ℕ) → away dist k ≤ far
+  pub inside : (k : ℕ) → away dist k < far → (d .lo (d .n) ≤ k) × (k ≤ target) × (away dist k ≤ (t + 1) * dearest)
+  pub reached : (k : ℕ) → 0 < el rank k → (d .lo (d .n) ≤ k) × (k < target) × (away dist k ≤ t * dearest)
+  pub zeros : t + count 98 (el rank) 0 ≡ 98
+
+-- period k was reached last
+pub record Around (d : Instance) (x p : ℕ → ℕ) (target : ℕ) (dist rank via : List ℕ) (t k m : ℕ) : Type 0 where
+  pub so-far : Search d x p target dist rank via t m
+  pub some : 0 < t
+  pub here : el rank k ≡ t
+  pub only : (j : ℕ) → el rank j ≡ t → j ≡ k
+
+pub record CanNear (dist rank : List ℕ) (first target : ℕ) : Type 0 where
+  pub dists : length dist ≡ 98
+  pub ranks : length rank ≡ 98
+  pub before : first ≤ target
+  pub within : target < 98
+
+-- k is the nearest period of first .. target that is not reached
+pub record Nearest (dist rank : List ℕ) (first target k : ℕ) : Type 0 where
+  pub from : first ≤ k
+  pub to : k ≤ target
+  pub fresh : k ≢ target → el rank k ≡ 0
+  pub nearer : k ≢ target → away dist k < away dist target
+  pub least : (j : ℕ) → first ≤ j → j < target → el rank j ≡ 0 → away dist k ≤ away dist j
+  pub target-least : away dist k ≤ away dist target
+
+pub record CanOffer (d : Day) (price dist via : List ℕ) (target i from base : ℕ) : Type 0 where
+  pub few : P d ≤ 96
+  pub room : (i + 1) * width ≤ length (d .flights)
+  pub rates : rate d i ≤ 10000
+  pub jumps : jump d i ≤ 1000000
+  pub within : target < 98
+  pub prices : length price ≡ 98
+  pub dists : length dist ≡ 98
+  pub vias : length via ≡ 98
+  pub low : from ≤ 98 * dearest
+  pub pays : (k : ℕ) → due d i ≤ k → k ≤ min (latest d i) target → (base ≤ from + payment d price i k) × (payment d price i k ≤ dearest)
+
+abbrev pub Offers : (d : Day) (price : List ℕ) (target i who from base : ℕ) (dist dist₂ via via₂ : List ℕ) → Type 0
+Offers d price target i who from base dist dist₂ via via₂ =
+    Offered (due d i) (min (latest d i) target) (payment d price i) who from base (away dist) (away dist₂) (el via) (el via₂)
+
+pub record CanExpand (capacities flights order lands price dist via : List ℕ) (n target k : ℕ) : Type 0 where
+  pub table : Table (day capacities flights) order
+  pub scene : Scene (scope capacities flights order n target) (el lands) (el price) target
+  pub upto : n < N (day capacities flights)
+  pub lands-room : n ≤ length lands
+  pub prices : length price ≡ 98
+  pub dists : length dist ≡ 98
+  pub vias : length via ≡ 98
+  pub to : k < target
+  pub near : away dist k ≤ 98 * dearest
+
+-- the flights that land in k have offered
+pub record Expanded (d : Instance) (x p : ℕ → ℕ) (target : ℕ) (dist dist₂ via via₂ : List ℕ) (k m : ℕ) : Type 0 where
+  pub keeps : (rank : List ℕ) (t : ℕ) → Around d x p target dist rank via t k 0 → Around d x p target dist₂ rank via₂ t k m
+
+pub record CanSearch (capacities flights order lands price dist rank via : List ℕ) (n first target : ℕ) : Type 0 where
+  pub table : Table (day capacities flights) order
+  pub scene : Scene (scope capacities flights order n target) (el lands) (el price) target
+  pub upto : n < N (day capacities flights)
+  pub lands-room : n ≤ length lands
+  pub prices : length price ≡ 98
+  pub so-far : Search (scope capacities flights order n target) (el lands) (el price) target dist rank via 0 n
+  pub first-is : first ≡ due (day capacities flights) (el order n)
+
+-- the target is the nearest of the periods that are not reached, and it is not far
+pub record Searched (d : Instance) (x p : ℕ → ℕ) (target : ℕ) (dist rank via : List ℕ) : Type 0 where
+  pub t : ℕ
+  pub so-far : Search d x p target dist rank via t (d .n)
+  pub least : (k : ℕ) → el rank k ≡ 0 → away dist target ≤ away dist k
+  pub near : away dist target < far

@@ -1,0 +1,171 @@
+// The search for the cheapest chain of moves that makes room for a new flight: periods are reached in the order of their distances.
+ghost use mathlib.Core.Path.{_≡_};
+ghost use Prim.Native.Nat.{ℕ, _+_, _*_, _^_, _<_, _≤_, min};
+ghost use lib.Dec.{ltb};
+ghost use Rattle.assignment.specs.Sum.{gate};
+ghost use Rattle.day.specs.Day.{day};
+ghost use Rattle.path.specs.Path.{el, scope, CanNear, Nearest, CanOffer, Offers, CanExpand, Expanded, CanSearch, Searched};
+use day::after_of;
+use day::cost_of;
+use day::due_of;
+use day::jump_of;
+use day::latest_of;
+use day::rate_of;
+use day::wide;
+
+// A distance that no chain of moves has.
+pub const FAR: usize = 4611686018427387904;
+
+fn smaller(a: usize, b: usize) -> usize
+    ensures { λ r. ⌜ r ≡ min a b ⌝ }
+{
+    if a < b {
+        return a;
+    }
+    b
+}
+
+// What a hold costs a flight of these numbers.
+fn hold_cost(rate: usize, after: usize, jump: usize, hold: usize) -> usize
+    requires { ⌜ rate * hold + jump < 2 ^ 64 ⌝ }
+    ensures { λ r. ⌜ r ≡ rate * hold + gate (ltb after hold) jump ⌝ }
+{
+    let run = rate * hold;
+    if after < hold {
+        return run + jump;
+    }
+    run
+}
+
+// The nearest period from first to target that has no rank yet.
+fn nearest(dist: &[usize], rank: &[usize], first: usize, target: usize) -> usize
+    requires { ⌜ CanNear (now dist) (now rank) first target ⌝ }
+    ensures { λ k. ⌜ Nearest (now (dist .entry)) (now (rank .entry)) first target k ⌝ }
+{
+    let mut best = dist[target];
+    let mut at = target;
+    let mut k = first;
+    while k < target {
+        let here = k;
+        k += 1;
+        if rank[here] == 0 {
+            if dist[here] < best {
+                best = dist[here];
+                at = here;
+            }
+        }
+    }
+    at
+}
+
+// The flight at table place i, who is known to the search as `who`, offers the periods of its window up to the target: from distance `from`,
+// where it pays `base`, to what it pays there.
+pub fn offer(
+    capacities: &[u32],
+    flights: &[u32],
+    price: &[usize],
+    dist: &mut [usize],
+    via: &mut [usize],
+    target: usize,
+    i: usize,
+    who: usize,
+    from: usize,
+    base: usize,
+)
+    requires { ⌜ CanOffer (day (now capacities) (now flights)) (now price) (now dist) (now via) target i from base ⌝ }
+    ensures { λ _. ⌜ Offers (day (now (capacities .entry)) (now (flights .entry))) (now (price .entry)) target i who from base (now (dist .entry)) (now (dist .exit)) (now (via .entry)) (now (via .exit)) ⌝ }
+{
+    let due = due_of(flights, i);
+    let rate = rate_of(flights, i);
+    let after = after_of(flights, i);
+    let jump = jump_of(flights, i);
+    let last = smaller(latest_of(capacities, flights, i), target);
+    let mut k = due;
+    while k <= last {
+        let at = k;
+        k += 1;
+        let away = from + (hold_cost(rate, after, jump, at - due) + price[at]) - base;
+        if away < dist[at] {
+            dist[at] = away;
+            via[at] = who;
+        }
+    }
+}
+
+// The flights that land in period k offer the periods of their windows.
+fn expand(
+    capacities: &[u32],
+    flights: &[u32],
+    order: &[u32],
+    lands: &[usize],
+    price: &[usize],
+    dist: &mut [usize],
+    via: &mut [usize],
+    n: usize,
+    target: usize,
+    k: usize,
+)
+    requires { ⌜ CanExpand (now capacities) (now flights) (now order) (now lands) (now price) (now dist) (now via) n target k ⌝ }
+    ensures { λ _. ⌜ Expanded (scope (now (capacities .entry)) (now (flights .entry)) (now (order .entry)) n target) (el (now (lands .entry))) (el (now (price .entry))) target (now (dist .entry)) (now (dist .exit)) (now (via .entry)) (now (via .exit)) k n ⌝ }
+{
+    let from = dist[k];
+    let mut m = 0;
+    while m < n {
+        let who = m;
+        m += 1;
+        if lands[who] == k {
+            let i = wide(order[who]);
+            let base = cost_of(capacities, flights, i, k - due_of(flights, i)) + price[k];
+            offer(
+                capacities,
+                flights,
+                price,
+                dist,
+                via,
+                target,
+                i,
+                who,
+                from,
+                base,
+            );
+        }
+    }
+}
+
+// Reaches the nearest period again and again, until that is the target.
+pub fn find_path(
+    capacities: &[u32],
+    flights: &[u32],
+    order: &[u32],
+    lands: &[usize],
+    price: &[usize],
+    dist: &mut [usize],
+    rank: &mut [usize],
+    via: &mut [usize],
+    n: usize,
+    first: usize,
+    target: usize,
+)
+    requires { ⌜ CanSearch (now capacities) (now flights) (now order) (now lands) (now price) (now dist) (now rank) (now via) n first target ⌝ }
+    ensures { λ _. ⌜ Searched (scope (now (capacities .entry)) (now (flights .entry)) (now (order .entry)) n target) (el (now (lands .entry))) (el (now (price .entry))) target (now (dist .exit)) (now (rank .exit)) (now (via .exit)) ⌝ }
+{
+    let mut t = 0;
+    let mut k = nearest(dist, rank, first, target);
+    while k != target {
+        t += 1;
+        rank[k] = t;
+        expand(
+            capacities,
+            flights,
+            order,
+            lands,
+            price,
+            dist,
+            via,
+            n,
+            target,
+            k,
+        );
+        k = nearest(dist, rank, first, target);
+    }
+}

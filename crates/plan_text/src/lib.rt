@@ -1,0 +1,191 @@
+// The text of a plan, put into a lent byte buffer from a given place on.
+ghost use mathlib.Core.Path.{_≡_};
+ghost use mathlib.Core.Bool.{true};
+ghost use mathlib.Core.List.{List, [], _∷_, _++_};
+ghost use Prim.Native.Nat.{ℕ, _+_, _*_, _≤_, _<_};
+ghost use lib.ListN.{length};
+ghost use Rattle.text.specs.Digits.{ended};
+ghost use Rattle.text.specs.Writing.{Put, textAnswer, textAfter};
+ghost use Rattle.day.specs.Day.{day, N, number, due, cost, hold, land, total, valid};
+ghost use Rattle.plan_text.specs.PlanText.{planNames, totalName, planLine, planLines, planText, planTextAnswer, planTextAfter};
+use answers::Answer;
+use legality::PlanCheck;
+
+const LINE_END: u8 = 10;
+
+const PLAN_NAMES: [u8; 27] = *b"flight,due,lands,hold,cost\n";
+
+const TOTAL_NAME: [u8; 6] = *b"total\n";
+
+// Both fixed lines together.
+const NAMES_LEN: usize = 33;
+
+// The numbers of a flight's line but for its cost.
+fn values_of(capacities: &[u32], flights: &[u32], holds: &[u32], i: usize) -> [usize; 4]
+    requires { ⌜ (i < length (now holds)) × ((i + 1) * 6 ≤ length (now flights)) ⌝ }
+    ensures { λ r. ⌜ r ≡ number (day (now (capacities .entry)) (now (flights .entry))) i ∷ due (day (now (capacities .entry)) (now (flights .entry))) i ∷ land (day (now (capacities .entry)) (now (flights .entry))) (now (holds .entry)) i ∷ hold (now (holds .entry)) i ∷ [] ⌝ }
+{
+    [
+        day::number_of(flights, i),
+        day::due_of(flights, i),
+        legality::land_of(capacities, flights, holds, i),
+        day::wide(holds[i]),
+    ]
+}
+
+fn cost_at(capacities: &[u32], flights: &[u32], holds: &[u32], i: usize) -> usize
+    requires { ⌜ (i < length (now holds)) × ((i + 1) * 6 ≤ length (now flights)) ⌝ }
+    ensures { λ r. ⌜ r ≡ cost (day (now (capacities .entry)) (now (flights .entry))) i (hold (now (holds .entry)) i) ⌝ }
+{
+    day::cost_of(capacities, flights, i, day::wide(holds[i]))
+}
+
+// The line of the flight at table place i from `at` on: the part that starts there is lent on.
+fn put_plan_line(
+    out: &mut [u8],
+    at: usize,
+    capacities: &[u32],
+    flights: &[u32],
+    holds: &[u32],
+    i: usize,
+) -> usize
+    requires { ⌜ (i < length (now holds)) × ((i + 1) * 6 ≤ length (now flights)) × (at + length (planLine (day (now capacities) (now flights)) (now holds) i) ≤ length (now out)) ⌝ }
+    ensures { λ r. ⌜ Put (now (out .entry)) at (planLine (day (now (capacities .entry)) (now (flights .entry))) (now (holds .entry)) i) r (now (out .exit)) ⌝ }
+{
+    let values = values_of(capacities, flights, holds, i);
+    let cost = cost_at(capacities, flights, holds, i);
+    let k = text::put_line(&mut out[at..], &values, cost);
+    at + k
+}
+
+fn plan_line_len(capacities: &[u32], flights: &[u32], holds: &[u32], i: usize) -> usize
+    requires { ⌜ (i < length (now holds)) × ((i + 1) * 6 ≤ length (now flights)) ⌝ }
+    ensures { λ r. ⌜ (r ≡ length (planLine (day (now (capacities .entry)) (now (flights .entry))) (now (holds .entry)) i)) × (r ≤ 105) ⌝ }
+{
+    let values = values_of(capacities, flights, holds, i);
+    text::line_len(&values, cost_at(capacities, flights, holds, i))
+}
+
+fn put_plan_lines(
+    out: &mut [u8],
+    start: usize,
+    capacities: &[u32],
+    flights: &[u32],
+    holds: &[u32],
+) -> usize
+    requires { ⌜ (length (now holds) * 6 ≤ length (now flights)) × (start + length (planLines (day (now capacities) (now flights)) (now holds) (length (now holds)) 0) ≤ length (now out)) ⌝ }
+    ensures { λ r. ⌜ Put (now (out .entry)) start (planLines (day (now (capacities .entry)) (now (flights .entry))) (now (holds .entry)) (length (now (holds .entry))) 0) r (now (out .exit)) ⌝ }
+{
+    let mut at = start;
+    let mut i: usize = 0;
+    while i < holds.len() {
+        at = put_plan_line(out, at, capacities, flights, holds, i);
+        i += 1;
+    }
+    at
+}
+
+fn plan_lines_len(capacities: &[u32], flights: &[u32], holds: &[u32]) -> usize
+    requires { ⌜ (length (now holds) * 6 ≤ length (now flights)) × (length (now holds) ≤ 128) ⌝ }
+    ensures { λ r. ⌜ (r ≡ length (planLines (day (now (capacities .entry)) (now (flights .entry))) (now (holds .entry)) (length (now (holds .entry))) 0)) × (r ≤ 13440) ⌝ }
+{
+    let mut sum: usize = 0;
+    let mut i: usize = 0;
+    while i < holds.len() {
+        sum += plan_line_len(capacities, flights, holds, i);
+        i += 1;
+    }
+    sum
+}
+
+fn put_plan_names(out: &mut [u8]) -> usize
+    requires { ⌜ length planNames ≤ length (now out) ⌝ }
+    ensures { λ r. ⌜ Put (now (out .entry)) 0 planNames r (now (out .exit)) ⌝ }
+{
+    text::put_fixed(out, &PLAN_NAMES)
+}
+
+fn put_total_name(out: &mut [u8], at: usize) -> usize
+    requires { ⌜ at + length totalName ≤ length (now out) ⌝ }
+    ensures { λ r. ⌜ Put (now (out .entry)) at totalName r (now (out .exit)) ⌝ }
+{
+    let k = text::put_fixed(&mut out[at..], &TOTAL_NAME);
+    at + k
+}
+
+fn put_total(out: &mut [u8], at: usize, sum: usize) -> usize
+    requires { ⌜ at + length (ended 10 sum) ≤ length (now out) ⌝ }
+    ensures { λ r. ⌜ Put (now (out .entry)) at (ended 10 sum) r (now (out .exit)) ⌝ }
+{
+    let k = text::put_number(&mut out[at..], sum, LINE_END);
+    at + k
+}
+
+// The whole text, at the front of out.
+fn fill_plan(
+    out: &mut [u8],
+    capacities: &[u32],
+    flights: &[u32],
+    holds: &[u32],
+    sum: usize,
+) -> usize
+    requires { ⌜ (length (now holds) ≡ N (day (now capacities) (now flights))) × (sum ≡ total (day (now capacities) (now flights)) (now holds)) × (length (now holds) * 6 ≤ length (now flights)) × (length (planText (day (now capacities) (now flights)) (now holds)) ≤ length (now out)) ⌝ }
+    ensures { λ r. ⌜ Put (now (out .entry)) 0 (planText (day (now (capacities .entry)) (now (flights .entry))) (now (holds .entry))) r (now (out .exit)) ⌝ }
+{
+    let a = put_plan_names(out);
+    let b = put_plan_lines(out, a, capacities, flights, holds);
+    let c = put_total_name(out, b);
+    put_total(out, c, sum)
+}
+
+// How many bytes the text takes.
+fn plan_len(capacities: &[u32], flights: &[u32], holds: &[u32], sum: usize) -> usize
+    requires { ⌜ (length (now holds) ≡ N (day (now capacities) (now flights))) × (sum ≡ total (day (now capacities) (now flights)) (now holds)) × (length (now holds) * 6 ≤ length (now flights)) × (length (now holds) ≤ 128) ⌝ }
+    ensures { λ r. ⌜ r ≡ length (planText (day (now (capacities .entry)) (now (flights .entry))) (now (holds .entry))) ⌝ }
+{
+    plan_lines_len(capacities, flights, holds) + text::number_len(sum) + NAMES_LEN
+}
+
+// The text of a legal plan, with its total, from the place on. The line writers get the part of the buffer that starts there.
+fn write_legal(
+    capacities: &[u32],
+    flights: &[u32],
+    holds: &[u32],
+    sum: usize,
+    buffer: &mut [u8],
+    place: usize,
+) -> Answer
+    requires { ⌜ (length (now holds) ≡ N (day (now capacities) (now flights))) × (sum ≡ total (day (now capacities) (now flights)) (now holds)) × (length (now holds) * 6 ≤ length (now flights)) × (length (now holds) ≤ 128) ⌝ }
+    ensures { λ r. ⌜ r ≡ textAnswer (now (buffer .entry)) place (planText (day (now (capacities .entry)) (now (flights .entry))) (now (holds .entry))) ⌝ }
+    ensures { λ _. ⌜ now (buffer .exit) ≡ textAfter (now (buffer .entry)) place (planText (day (now (capacities .entry)) (now (flights .entry))) (now (holds .entry))) ⌝ }
+{
+    let needed = plan_len(capacities, flights, holds, sum);
+    if buffer.len() < place {
+        return Answer::BadLength { needed };
+    }
+    if buffer.len() - place < needed {
+        return Answer::BadLength { needed };
+    }
+    fill_plan(&mut buffer[place..], capacities, flights, holds, sum);
+    Answer::Written { bytes: needed }
+}
+
+// Writes the text of a plan into the buffer from the place on, for a day and rows of any content and length.
+pub fn write_plan(
+    capacities: &[u32],
+    flights: &[u32],
+    holds: &[u32],
+    text: &mut [u8],
+    place: usize,
+) -> Answer
+    ensures { λ r. ⌜ r ≡ planTextAnswer (day (now (capacities .entry)) (now (flights .entry))) (now (holds .entry)) (now (text .entry)) place ⌝ }
+    ensures { λ _. ⌜ now (text .exit) ≡ planTextAfter (day (now (capacities .entry)) (now (flights .entry))) (now (holds .entry)) (now (text .entry)) place ⌝ }
+{
+    let found = legality::check_plan(capacities, flights, holds);
+    match found {
+        PlanCheck::BadDay => Answer::BadDay,
+        PlanCheck::BadLength { needed } => Answer::BadLength { needed },
+        PlanCheck::NotLegal { place: flight } => Answer::NotLegal { place: flight },
+        PlanCheck::Legal { total } => write_legal(capacities, flights, holds, total, text, place),
+    }
+}

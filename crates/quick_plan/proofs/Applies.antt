@@ -1,0 +1,41 @@
+-- Where the flights of a day stand in their row, and what the walk for jumps and limits shows of them.
+-- Assumes nothing.
+use mathlib.Core.Path.{_≡_, refl}
+use mathlib.Core.Bool.{Bool, true, false, not, _||_}
+use Prim.Native.Nat.{ℕ, _+_, _*_, _/_, _≤_, _<_}
+use native.Mathlib.Omega.{arith}
+use lib.ListN.{length}
+use lib.Dec.{ltb, eqb}
+use borrow.Author.Tests.{eqb-true, ltb-false, not-false}
+use Rattle.day.specs.Day.{Day, N, width, jump, limit}
+use Rattle.day.specs.Plan.{jumpOrLimit, firstJumpOrLimit}
+use Rattle.day.proofs.Tests.{none-passes}
+
+pub flight-total : (d : Day) {n : ℕ} → n ≡ length (d .flights) / width → n ≡ N d
+unfolding N
+flight-total d e = e
+
+-- the row has the numbers of every flight
+pub there : (d : Day) (i : ℕ) → i < N d → (i + 1) * width ≤ length (d .flights)
+unfolding N
+there d i l = omega arith
+
+-- neither of two tests passes
+neither : (a b : Bool) → (a || b) ≡ false → (a ≡ false) × (b ≡ false)
+neither false b e = (refl, e)
+neither true b e = (e, after b e)
+  where
+    after : (b : Bool) → true ≡ false → b ≡ false
+    after true e = e
+    after false e = refl
+
+module _ (d : Day) (applies : firstJumpOrLimit d ≡ N d) (i : ℕ) (l : i < N d) where
+  plain : (ltb 0 (jump d i) ≡ false) × (not (eqb (limit d i) 255) ≡ false)
+  unfolding firstJumpOrLimit jumpOrLimit
+  plain = neither (ltb 0 (jump d i)) (not (eqb (limit d i) 255)) (none-passes (N d) (jumpOrLimit d) applies i l)
+
+  pub no-jump : jump d i ≡ 0
+  no-jump = omega (arith, ltb-false 0 (jump d i) (plain .0))
+
+  pub no-limit : limit d i ≡ 255
+  no-limit = eqb-true (limit d i) 255 (not-false (eqb (limit d i) 255) (plain .1))

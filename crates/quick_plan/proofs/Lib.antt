@@ -1,0 +1,10 @@
+pub mod Row
+pub mod Applies
+pub mod First
+pub mod Meaning
+pub mod Plan
+pub mod Cheapest
+pub mod Rows
+pub mod Steps
+pub mod Calls
+pub mod Cases

@@ -1,0 +1,52 @@
+-- What the quick plan's definition says: of a set the capacity's number lands, or all if fewer; and who lands goes before who is left.
+-- Assumes nothing.
+use mathlib.Core.Path.{_≡_, refl, ap, _∙_}
+use mathlib.Core.Logic.{inl, inr}
+use mathlib.Core.Bool.{Bool, true, false, not, _&&_}
+use Prim.Native.Nat.{ℕ, _+_, _≤_, zero-le, min}
+use native.Mathlib.Omega.{arith}
+use lib.Dec.{T, leb, ltb, ltb→lt, nltb→le, le→leb, T-not, not-T}
+use Rattle.assignment.specs.Sum.{gate, sum}
+use Rattle.assignment.proofs.Tests.{and-T, T-and, gate-le, gate-on, eq?}
+use Rattle.assignment.proofs.Sums.{sum-ext, sum-add, sum-le}
+use Rattle.day.specs.Day.{Day, N, rate}
+use Rattle.quick_plan.specs.Quick.{ahead, rank, highest}
+use Rattle.quick_plan.proofs.Row.{on}
+use Rattle.quick_plan.proofs.First.{rest, crowd, landed, left-over, first-in, ahead-trans, ahead-total}
+
+module _ (d : Day) (m : ℕ) (e : ℕ → Bool) where
+  all-crowd : (a : ℕ → Bool) → crowd d 0 a ≡ sum (N d) (λ i. gate (a i) 1)
+  unfolding crowd
+  all-crowd a = sum-ext (N d) (λ i. gate (leb 0 (rate d i) && a i) 1) (λ i. gate (a i) 1) (λ i l. rw (on (leb 0 (rate d i)) (le→leb 0 (rate d i) zero-le)))
+
+  parted : sum (N d) (λ i. gate (e i) 1) ≡ sum (N d) (λ i. gate (highest d m e i) 1) + sum (N d) (λ i. gate (rest d m e i) 1)
+  parted = sum-ext (N d) (λ i. gate (e i) 1) (λ i. gate (highest d m e i) 1 + gate (rest d m e i) 1) (λ i l. go (e i) (highest d m e i) (first-in d m e i))
+      ∙ sum-add (N d) (λ i. gate (highest d m e i) 1) (λ i. gate (rest d m e i) 1)
+    where
+      go : (x y : Bool) → (T y → T x) → gate x 1 ≡ gate y 1 + gate (x && not y) 1
+      go true true h = refl
+      go true false h = refl
+      go false true h = absurd (h tt)
+      go false false h = refl
+
+  -- m land, or all if fewer
+  pub highest-number : sum (N d) (λ i. gate (highest d m e i) 1) ≡ min m (sum (N d) (λ i. gate (e i) 1))
+  highest-number = omega (arith, landed d m e, left-over d 0 m e, all-crowd e, all-crowd (rest d m e), parted)
+
+  rank-mono : (k i : ℕ) → T (ahead d k i) → rank d e k ≤ rank d e i
+  unfolding rank
+  rank-mono k i t = sum-le (N d) (λ a. gate (e a && ahead d a k) 1) (λ a. gate (e a && ahead d a i) 1) (λ a l.
+      gate-le (e a && ahead d a k) 1 (gate (e a && ahead d a i) 1) (λ s. let w = and-T (e a) (ahead d a k) s in
+      omega (arith, gate-on (e a && ahead d a i) 1 (T-and (e a) (ahead d a i) (w .0) (ahead-trans d a k i (w .1) t)))))
+
+  -- who lands goes before who is left
+  pub highest-leads : (i k : ℕ) → T (highest d m e i) → T (rest d m e k) → T (ahead d i k)
+  unfolding highest
+  highest-leads i k s t =
+      let q = and-T (e k) (not (e k && ltb (rank d e k) m)) t in
+      let low = ltb→lt (rank d e i) m (and-T (e i) (ltb (rank d e i) m) s .1) in
+      let high = nltb→le (rank d e k) m (not-T (ltb (rank d e k) m) (λ z. T-not (e k && ltb (rank d e k) m) (q .1) (T-and (e k) (ltb (rank d e k) m) (q .0) z))) in
+      elim (eq? i k) [
+        | inl u ↦ absurd (omega (arith, ap (rank d e) u))
+        | inr ne ↦ elim (ahead-total d i k ne) [ inl a ↦ a | inr a ↦ absurd (omega (arith, rank-mono k i a)) ]
+      ]

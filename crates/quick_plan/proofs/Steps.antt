@@ -1,0 +1,265 @@
+-- What the steps of the code come to, a law for each way through a function or a loop.
+-- Assumes nothing.
+use mathlib.Core.Path.{_≡_, refl, sym, ap, _∙_}
+use mathlib.Core.Logic.{inl, inr, _≢_}
+use mathlib.Core.Bool.{Bool, true, false, _||_}
+use mathlib.Core.List.{List, [], _∷_, _++_}
+use Prim.Native.Nat.{ℕ, zero, suc, _+_, _-_, _*_, _≤_, _<_}
+use native.Mathlib.Omega.{arith}
+use native.Mathlib.Numerals.{add-one}
+use lib.ListN.{length, getD, set, take, length-set}
+use lib.Seq.{take-suc-set, take-all}
+use lib.Dec.{ltb, eqb}
+use borrow.Author.Tests.{eq-eqb, ne-eqb, le-leb, lt-leb, lt-ltb, le-ltb}
+use Rattle.day.specs.Day.{Day, P, N, width, due, rate, capacity, jump, limit, valid}
+use Rattle.day.specs.Plan.{jumpOrLimit, firstJumpOrLimit}
+use Rattle.day.proofs.Tests.{first-at, first-none}
+use Rattle.assignment.proofs.Tests.{eq?}
+use Rattle.day.proofs.Valid.{valid-means}
+use Rattle.quick_plan.specs.Quick.{row, ahead}
+use Rattle.quick_plan.specs.Loop.{pick, bestTo, waiting, top, put, landAll, rowTo}
+use Rattle.quick_plan.proofs.Applies.{there}
+use Rattle.quick_plan.proofs.First.{Found, found}
+use Rattle.quick_plan.proofs.Rows.{top-found, waits-due, land-none, land-one}
+
+or-false : (x : Bool) → x ≡ x || false
+or-false true = refl
+or-false false = refl
+
+-- ---- which flight goes before
+
+module _ (d : Day) (k i : ℕ) {ri rk : ℕ} (er : ri ≡ rate d i) (ek : rk ≡ rate d k) where
+  pub ahead-rates : ri ≢ rk → ltb ri rk ≡ ahead d k i
+  unfolding ahead
+  ahead-rates ne = rw (← er, ← ek, ne-eqb ri rk ne) (or-false (ltb ri rk))
+
+  module _ {di dk : ℕ} (ed : di ≡ due d i) (el : dk ≡ due d k) (e : ri ≡ rk) where
+    pub ahead-dues : dk ≢ di → ltb dk di ≡ ahead d k i
+    unfolding ahead
+    ahead-dues ne = rw (← er, ← ek, ← ed, ← el, le-ltb ri rk (omega arith), eq-eqb ri rk e, ne-eqb dk di ne) (or-false (ltb dk di))
+
+    pub ahead-places : dk ≡ di → ltb k i ≡ ahead d k i
+    unfolding ahead
+    ahead-places q = rw (← er, ← ek, ← ed, ← el, le-ltb ri rk (omega arith), eq-eqb ri rk e, le-ltb dk di (omega arith), eq-eqb dk di q)
+
+-- ---- who waits
+
+module _ (d : Day) (h : List ℕ) (j i : ℕ) {from : ℕ} (ed : from ≡ due d i) where
+  pub waits-early : j < from → false ≡ waiting d h j i
+  unfolding waiting
+  waits-early l = rw (← ed, lt-leb from j l)
+
+  pub waits-late : {x : ℕ} → x ≡ getD h i 0 → from ≤ j → eqb (from + x) (P d + 1) ≡ waiting d h j i
+  unfolding waiting
+  waits-late ex l = rw (← ed, ← ex, le-leb from j l)
+
+-- ---- the best one
+
+-- b is the best of the flights below i that wait
+pub record Scan (d : Day) (h : List ℕ) (j n i b : ℕ) : Type 0 where
+  pub so-far : b ≡ bestTo d (waiting d h j) n i
+  pub within : i ≤ n
+  pub size : n ≡ N d
+
+pub scan-start : {d : Day} {h : List ℕ} {j n : ℕ} → n ≡ N d → Scan d h j n 0 n
+unfolding bestTo
+scan-start e = record { so-far = refl; within = omega arith; size = e }
+
+module _ {d : Day} {h : List ℕ} {j n i b : ℕ} (s : Scan d h j n i b) where
+  pub scan-below : b ≢ n → b < i
+  scan-below ne = go (bestTo d (waiting d h j) n i) (s .so-far) (found d (waiting d h j) n i (s .within))
+    where
+      go : (x : ℕ) → b ≡ x → Found d i (waiting d h j) n x → b < i
+      go x q (inl w) = absurd (omega (arith, w .0))
+      go x q (inr w) = omega (arith, w .below)
+
+  -- the flight looked at, and the best so far, are flights of the row
+  pub scan-there : i < n → (i + 1) * width ≤ length (d .flights)
+  scan-there l = there d i (omega (arith, s .size))
+
+  pub best-there : i < n → b ≢ n → (b + 1) * width ≤ length (d .flights)
+  best-there l ne = there d b (omega (arith, s .size, scan-below ne))
+
+  module _ {r : Bool} (l : i < n) (er : r ≡ waiting d h j i) where
+    pub scan-skip : r ≡ false → Scan d h j n (i + 1) b
+    unfolding bestTo pick
+    scan-skip t = record { so-far = rw (add-one, ← er, t) (s .so-far); within = omega arith; size = s .size }
+
+    pub scan-fresh : r ≡ true → b ≡ n → Scan d h j n (i + 1) i
+    unfolding bestTo pick
+    scan-fresh t q = record { so-far = rw (add-one, ← er, t, ← s .so-far, eq-eqb b n q); within = omega arith; size = s .size }
+
+    module _ {g : Bool} (eg : g ≡ ahead d i b) (t : r ≡ true) (q : b ≢ n) where
+      pub scan-better : g ≡ true → Scan d h j n (i + 1) i
+      unfolding bestTo pick
+      scan-better u = record { so-far = rw (add-one, ← er, t, ← s .so-far, ne-eqb b n q, ← eg, u); within = omega arith; size = s .size }
+
+      pub scan-worse : g ≡ false → Scan d h j n (i + 1) b
+      unfolding bestTo pick
+      scan-worse u = record { so-far = rw (add-one, ← er, t, ← s .so-far, ne-eqb b n q, ← eg, u); within = omega arith; size = s .size }
+
+pub scan-end : {d : Day} {h : List ℕ} {j n i b : ℕ} → Scan d h j n i b → n ≤ i → b ≡ top d j h
+unfolding top
+scan-end {d = d} {i = i} s g = let a : i ≡ N d = omega (arith, s .within, s .size) in s .so-far ∙ rw (a, s .size)
+
+-- ---- the landings of a period
+
+-- the best one, where there is one, can land
+pub top-lands : (d : Day) (h : List ℕ) (j : ℕ) {b : ℕ} → b ≡ top d j h → b ≢ N d → (b < N d) × (due d b ≤ j)
+top-lands d h j {b = b} e ne = go (top d j h) e (top-found d h j)
+  where
+    go : (x : ℕ) → b ≡ x → Found d (N d) (waiting d h j) (N d) x → (b < N d) × (due d b ≤ j)
+    go x q (inl w) = absurd (omega (arith, w .0))
+    go x q (inr w) = rw q (w .below, waits-due d h j x (w .is-in))
+
+-- the row h₀ and m landings come to the row h and the landings that are left
+pub record Landing (d : Day) (j m : ℕ) (h₀ : List ℕ) (left : ℕ) (h : List ℕ) : Type 0 where
+  pub open-period : j ≤ P d
+  pub rows : length h₀ ≡ N d
+  pub same-length : length h ≡ length h₀
+  pub same-row : landAll d j m h₀ ≡ landAll d j left h
+
+pub landing-start : {d : Day} {j m : ℕ} {h : List ℕ} → j ≤ P d → length h ≡ N d → Landing d j m h m h
+landing-start p e = record { open-period = p; rows = e; same-length = refl; same-row = refl }
+
+module _ {d : Day} {j m left : ℕ} {h₀ h : List ℕ} (s : Landing d j m h₀ left h) where
+  module _ {b : ℕ} (eb : b ≡ top d j h) where
+    pub landing-stop : b ≡ length h₀ → h ≡ landAll d j m h₀
+    landing-stop q = sym (s .same-row ∙ land-none d j (s .open-period) left h (sym eb ∙ q ∙ s .rows))
+
+    -- the flight found is one of the row, and due by now
+    pub landing-flight : b ≢ length h₀ → (b < length h) × ((b + 1) * width ≤ length (d .flights)) × (due d b ≤ j)
+    landing-flight q =
+        let w = top-lands d h j eb (λ e. q (e ∙ sym (s .rows))) in
+        (omega (arith, w .0, s .same-length, s .rows), there d b (w .0), w .1)
+
+    pub landing-more : 0 < left → b ≢ length h₀ → {from : ℕ} → from ≡ due d b → Landing d j m h₀ (left - 1) (set h b (j - from))
+    landing-more l q ed = record {
+      open-period = s .open-period;
+      rows = s .rows;
+      same-length = length-set h b _ ∙ s .same-length;
+      same-row = rw (ed, eb) (s .same-row ∙ go left l);
+    }
+      where
+        pred : (k : ℕ) → suc k - 1 ≡ k
+        pred k = omega arith
+
+        go : (left : ℕ) → 0 < left → landAll d j left h ≡ landAll d j (left - 1) (put d j h (top d j h))
+        go zero l = absurd (omega arith)
+        go (suc k) l = rw (pred k) (land-one d j (s .open-period) k h (λ z. q (eb ∙ z ∙ sym (s .rows))))
+
+  pub landing-end : left ≤ 0 → h ≡ landAll d j m h₀
+  unfolding landAll
+  landing-end l = go left l (s .same-row)
+    where
+      go : (left : ℕ) → left ≤ 0 → landAll d j m h₀ ≡ landAll d j left h → h ≡ landAll d j m h₀
+      go zero l e = sym e
+      go (suc k) l e = absurd (omega arith)
+
+-- ---- the start
+
+abbrev pub closing : Day → ℕ → ℕ
+closing d i = P d + 1 - due d i
+
+-- the first i entries stand at the closing period
+pub record Started (d : Day) (h₀ h : List ℕ) (i : ℕ) : Type 0 where
+  pub is-valid : valid d ≡ true
+  pub rows : length h₀ ≡ N d
+  pub within : i ≤ length h
+  pub same-length : length h ≡ length h₀
+  pub front : take i h ≡ row i (closing d)
+
+pub started-none : {d : Day} {h : List ℕ} → valid d ≡ true → length h ≡ N d → Started d h h 0
+unfolding row
+started-none v e = record { is-valid = v; rows = e; within = omega arith; same-length = refl; front = refl }
+
+module _ {d : Day} {h₀ h : List ℕ} {i : ℕ} (s : Started d h₀ h i) where
+  pub started-periods : P d ≤ 96
+  started-periods = valid-means (s .is-valid) .periods-to
+
+  pub started-there : i < length h → (i + 1) * width ≤ length (d .flights)
+  started-there l = there d i (omega (arith, s .same-length, s .rows))
+
+  pub started-due : {from : ℕ} → i < length h → from ≡ due d i → from ≤ P d + 1
+  started-due l e = omega (arith, valid-means (s .is-valid) .flight i (omega (arith, s .same-length, s .rows)) .due-to)
+
+  pub started-more : {from : ℕ} → i < length h → from ≡ due d i → Started d h₀ (set h i (P d + 1 - from)) (i + 1)
+  unfolding row
+  started-more l ed = record {
+    is-valid = s .is-valid;
+    rows = s .rows;
+    within = simp length-set (omega arith);
+    same-length = length-set h i _ ∙ s .same-length;
+    front = rw (add-one, ed) (take-suc-set h i (closing d i) l ∙ ap (λ x. x ++ (closing d i ∷ [])) (s .front));
+  }
+
+  pub started-end : length h ≤ i → h ≡ rowTo d 0
+  unfolding rowTo
+  started-end g =
+      let q : i ≡ N d = omega (arith, s .within, s .same-length, s .rows) in
+      sym (take-all i h (omega arith)) ∙ s .front ∙ ap (λ n. row n (closing d)) q
+
+-- ---- the periods
+
+-- h is the row after the periods 1 to j
+pub record Planned (d : Day) (h : List ℕ) (j : ℕ) : Type 0 where
+  pub is-valid : valid d ≡ true
+  pub rows : length h ≡ N d
+  pub so-far : h ≡ rowTo d j
+
+pub planned-start : {d : Day} {h : List ℕ} → valid d ≡ true → length h ≡ N d → h ≡ rowTo d 0 → Planned d h 0
+planned-start v q e = record { is-valid = v; rows = q; so-far = e }
+
+module _ {d : Day} {h : List ℕ} {j : ℕ} (s : Planned d h j) where
+  pub planned-periods : P d ≤ 96
+  planned-periods = valid-means (s .is-valid) .periods-to
+
+  pub planned-next : {x : List ℕ} {m : ℕ} → m ≡ capacity d (j + 1) → length x ≡ length h → x ≡ landAll d (j + 1) m h → Planned d x (j + 1)
+  unfolding rowTo
+  planned-next em q ex = record { is-valid = s .is-valid; rows = q ∙ s .rows; so-far = rw add-one (ex ∙ rw (em, s .so-far, add-one)) }
+
+  pub planned-end : {stop : ℕ} → j ≤ stop → stop ≤ j → h ≡ rowTo d stop
+  planned-end l g = s .so-far ∙ ap (rowTo d) (omega arith)
+
+-- ---- the first jump or limit
+
+-- none of the flights below i has a jump or a limit
+pub record Plain (d : Day) (n i : ℕ) : Type 0 where
+  pub size : n ≡ N d
+  pub within : i ≤ n
+  pub none : (k : ℕ) → k < i → jumpOrLimit d k ≡ false
+
+pub plain-start : {d : Day} {n : ℕ} → n ≡ N d → Plain d n 0
+plain-start e = record { size = e; within = omega arith; none = λ k l. absurd (omega arith) }
+
+module _ {d : Day} {n i : ℕ} (s : Plain d n i) where
+  pub plain-there : i < n → (i + 1) * width ≤ length (d .flights)
+  plain-there l = there d i (omega (arith, s .size))
+
+  stops : i < n → jumpOrLimit d i ≡ true → i ≡ firstJumpOrLimit d
+  unfolding firstJumpOrLimit
+  stops l e = sym (first-at (N d) (jumpOrLimit d) i (omega (arith, s .size)) (s .none) e)
+
+  pub plain-jump : {x : ℕ} → i < n → x ≡ jump d i → 0 < x → i ≡ firstJumpOrLimit d
+  unfolding jumpOrLimit
+  plain-jump {x = x} l e h = stops l (rw (← e, lt-ltb 0 x h))
+
+  module _ {x y : ℕ} (l : i < n) (ex : x ≡ jump d i) (h : x ≤ 0) (ey : y ≡ limit d i) where
+    pub plain-limit : y ≢ 255 → i ≡ firstJumpOrLimit d
+    unfolding jumpOrLimit
+    plain-limit o = stops l (rw (← ex, ← ey, le-ltb 0 x h, ne-eqb y 255 o))
+
+    pub plain-next : y ≡ 255 → Plain d n (i + 1)
+    unfolding jumpOrLimit
+    plain-next o = record {
+      size = s .size;
+      within = omega arith;
+      none = λ k b. elim (eq? k i) [
+        | inl q ↦ rw (q, ← ex, ← ey, le-ltb 0 x h, eq-eqb y 255 o)
+        | inr q ↦ s .none k (omega arith)
+      ];
+    }
+
+  pub plain-end : n ≤ i → n ≡ firstJumpOrLimit d
+  unfolding firstJumpOrLimit
+  plain-end g = s .size ∙ sym (first-none (N d) (jumpOrLimit d) (λ k l. s .none k (omega (arith, s .size, s .within))))

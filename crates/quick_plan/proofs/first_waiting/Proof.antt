@@ -1,0 +1,73 @@
+-- The loop keeps the first of the flights looked at that wait; a flight that waits takes its place where it goes before it.
+-- Assumes nothing.
+use borrow.Author.Needs.{needs}
+use Prim.Native.Nat.{_-_}
+use Rattle.day.specs.Day.{day}
+use Rattle.quick_plan.proofs.Steps.{Scan, scan-start, scan-there, best-there, scan-skip, scan-fresh, scan-better, scan-worse, scan-end}
+use Rattle.quick_plan.proofs.first_waiting.Statement.{statement}
+use Rattle.quick_plan.proofs.first_waiting.Tie as tie
+
+abbrev Inv-loop : tie.InvT-loop
+Inv-loop capacities flights holds j n best₀ i₀ best i = Scan (day capacities flights) holds j n i best
+
+abbrev μ-loop : tie.MeasureT-loop
+μ-loop capacities flights holds j n best₀ i₀ best i = n - i
+
+loop-holds : tie.Need-loop-holds Inv-loop μ-loop
+loop-holds c = scan-start (c .before .before .before .pre .0)
+
+add-i : tie.Need-add-i Inv-loop μ-loop
+add-i c = search needs
+
+is-waiting-requires : tie.Need-is-waiting-requires Inv-loop μ-loop
+is-waiting-requires c κs = (scan-there (c .before .loop .inv) (c .loop-test .taken), search needs, search needs)
+
+loop-less : tie.Need-loop-less Inv-loop μ-loop
+loop-less c = search needs
+
+loop-again : tie.Need-loop-again Inv-loop μ-loop
+loop-again c = scan-fresh (c .before .before .before .before .loop .inv) (c .before .before .before .loop-test .taken) (c .before .before .is-waiting .ensures) (c .before .if1 .taken) (c .if2 .taken)
+
+goes-before-requires : tie.Need-goes-before-requires Inv-loop μ-loop
+goes-before-requires c κs = (scan-there (c .before .before .before .before .loop .inv) (c .before .before .before .loop-test .taken), best-there (c .before .before .before .before .loop .inv) (c .before .before .before .loop-test .taken) (c .if2 .left))
+
+loop-less-2 : tie.Need-loop-less-2 Inv-loop μ-loop
+loop-less-2 c = search needs
+
+loop-again-2 : tie.Need-loop-again-2 Inv-loop μ-loop
+loop-again-2 c = scan-better (c .before .before .before .before .before .before .loop .inv) (c .before .before .before .before .before .loop-test .taken) (c .before .before .before .before .is-waiting .ensures) (c .before .goes-before .ensures) (c .before .before .before .if1 .taken) (c .before .before .if2 .left) (c .if3 .taken)
+
+loop-less-3 : tie.Need-loop-less-3 Inv-loop μ-loop
+loop-less-3 c = search needs
+
+loop-again-3 : tie.Need-loop-again-3 Inv-loop μ-loop
+loop-again-3 c = scan-worse (c .before .before .before .before .before .before .loop .inv) (c .before .before .before .before .before .loop-test .taken) (c .before .before .before .before .is-waiting .ensures) (c .before .goes-before .ensures) (c .before .before .before .if1 .taken) (c .before .before .if2 .left) (c .if3 .left)
+
+loop-less-4 : tie.Need-loop-less-4 Inv-loop μ-loop
+loop-less-4 c = search needs
+
+loop-again-4 : tie.Need-loop-again-4 Inv-loop μ-loop
+loop-again-4 c = scan-skip (c .before .before .before .loop .inv) (c .before .before .loop-test .taken) (c .before .is-waiting .ensures) (c .if1 .left)
+
+returns : tie.Need-returns Inv-loop μ-loop
+returns c = scan-end (c .before .loop .inv) (c .loop-test .left)
+
+pub first-waiting-spec : {M : Type 1} → statement M
+first-waiting-spec =
+    tie.close
+    (tie.spec
+    Inv-loop
+    μ-loop
+    loop-holds
+    add-i
+    is-waiting-requires
+    loop-less
+    loop-again
+    goes-before-requires
+    loop-less-2
+    loop-again-2
+    loop-less-3
+    loop-again-3
+    loop-less-4
+    loop-again-4
+    returns)

@@ -1,0 +1,59 @@
+-- The row is the one after the periods 1 to j.
+-- Assumes nothing.
+use borrow.Author.Needs.{needs}
+use native.Mathlib.Omega.{arith}
+use mathlib.Core.Path.{sym, _∙_}
+use Prim.Native.Nat.{_-_, _≤_}
+use Rattle.day.specs.Day.{day}
+use Rattle.quick_plan.proofs.Steps.{Planned, planned-start, planned-periods, planned-next, planned-end}
+use Rattle.quick_plan.proofs.plan_to.Statement.{statement}
+use Rattle.quick_plan.proofs.plan_to.Tie as tie
+
+abbrev Inv-loop : tie.InvT-loop
+Inv-loop capacities flights holds₀ stop j₀ holds j = (j ≤ stop) × Planned (day capacities flights) holds j
+
+abbrev μ-loop : tie.MeasureT-loop
+μ-loop capacities flights holds₀ stop j₀ holds j = stop - j
+
+start-row-requires : tie.Need-start-row-requires Inv-loop μ-loop
+start-row-requires c κs = search needs
+
+loop-holds : tie.Need-loop-holds Inv-loop μ-loop
+loop-holds c = (omega arith, planned-start (c .before .before .before .before .before .before .before .pre .0 .0) (c .before .before .start-row .kept .1 .1 .0 ∙ c .before .before .before .before .before .before .before .pre .0 .1) (c .before .before .start-row .ensures))
+
+add-j : tie.Need-add-j Inv-loop μ-loop
+add-j c = search needs
+
+of-period-requires : tie.Need-of-period-requires Inv-loop μ-loop
+of-period-requires c κs = search needs
+
+land-period-requires : tie.Need-land-period-requires Inv-loop μ-loop
+land-period-requires c κs = (c .before .before .before .loop .inv .1 .rows, planned-periods (c .before .before .before .loop .inv .1), omega arith)
+
+loop-less : tie.Need-loop-less Inv-loop μ-loop
+loop-less c = search needs
+
+loop-again : tie.Need-loop-again Inv-loop μ-loop
+loop-again c = (omega arith, planned-next (c .before .before .before .before .before .before .loop .inv .1) (c .before .before .before .of-period .ensures .0) (c .before .before .land-period .kept .1 .1 .0) (c .before .before .land-period .ensures))
+
+same-length : tie.Need-same-length Inv-loop μ-loop
+same-length c = c .before .loop .inv .1 .rows ∙ sym (c .before .before .before .before .before .before .before .before .before .pre .0 .1)
+
+returns : tie.Need-returns Inv-loop μ-loop
+returns c = planned-end (c .before .loop .inv .1) (c .before .loop .inv .0) (c .loop-test .left)
+
+pub plan-to-spec : {M : Type 1} → statement M
+plan-to-spec =
+    tie.close
+    (tie.spec
+    Inv-loop
+    μ-loop
+    start-row-requires
+    loop-holds
+    add-j
+    of-period-requires
+    land-period-requires
+    loop-less
+    loop-again
+    same-length
+    returns)

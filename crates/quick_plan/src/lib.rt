@@ -1,0 +1,161 @@
+// The quick plan: period by period, those of the flights that wait land that go first. A hold row starts with every flight at the closing
+// period, so that a flight that stands there has yet to land.
+use answers::Answer;
+use day::due_of;
+use day::flight_count;
+use day::is_valid;
+use day::jump_of;
+use day::limit_of;
+use day::of_period;
+use day::rate_of;
+use day::wide;
+use legality::total_of;
+ghost use mathlib.Core.Path.{_≡_};
+ghost use mathlib.Core.Bool.{true};
+ghost use Prim.Native.Nat.{_+_, _*_, _<_, _≤_};
+ghost use lib.ListN.{length};
+ghost use Rattle.day.specs.Day.{day, N, width, valid};
+ghost use Rattle.day.specs.Plan.{firstJumpOrLimit};
+ghost use Rattle.quick_plan.specs.Quick.{ahead};
+ghost use Rattle.quick_plan.specs.Loop.{waiting, top, landAll, rowTo};
+ghost use Rattle.quick_plan.specs.Calls.{quickPlan};
+
+// Flight k goes before flight i.
+fn goes_before(capacities: &[u32], flights: &[u32], k: usize, i: usize) -> bool
+    requires { ⌜ ((k + 1) * width ≤ length (now flights)) × ((i + 1) * width ≤ length (now flights)) ⌝ }
+    ensures { λ r. ⌜ r ≡ ahead (day (now (capacities .entry)) (now (flights .entry))) k i ⌝ }
+{
+    let rate_k = rate_of(flights, k);
+    let rate_i = rate_of(flights, i);
+    if rate_i != rate_k {
+        return rate_i < rate_k;
+    }
+    let due_k = due_of(flights, k);
+    let due_i = due_of(flights, i);
+    if due_k != due_i {
+        return due_k < due_i;
+    }
+    k < i
+}
+
+// Flight i is due by period j, and stands at the closing period yet.
+pub fn is_waiting(capacities: &[u32], flights: &[u32], holds: &[u32], j: usize, i: usize) -> bool
+    requires { ⌜ ((i + 1) * width ≤ length (now flights)) × (i < length (now holds)) × (length (now capacities) ≤ 96) ⌝ }
+    ensures { λ r. ⌜ r ≡ waiting (day (now (capacities .entry)) (now (flights .entry))) (now (holds .entry)) j i ⌝ }
+{
+    let due = due_of(flights, i);
+    if j < due {
+        return false;
+    }
+    due + wide(holds[i]) == capacities.len() + 1
+}
+
+// The flight that goes first of those that wait in period j, or the number of flights where none waits.
+fn first_waiting(capacities: &[u32], flights: &[u32], holds: &[u32], j: usize) -> usize
+    requires { ⌜ (length (now holds) ≡ N (day (now capacities) (now flights))) × (length (now capacities) ≤ 96) ⌝ }
+    ensures { λ r. ⌜ r ≡ top (day (now (capacities .entry)) (now (flights .entry))) j (now (holds .entry)) ⌝ }
+{
+    let n = holds.len();
+    let mut best = n;
+    let mut i = 0;
+    while i < n {
+        let k = i;
+        i += 1;
+        if is_waiting(capacities, flights, holds, j, k) {
+            if best == n {
+                best = k;
+            } else {
+                if goes_before(capacities, flights, k, best) {
+                    best = k;
+                }
+            }
+        }
+    }
+    best
+}
+
+// Lands as many flights as period j takes, or all that wait.
+fn land_period(capacities: &[u32], flights: &[u32], holds: &mut [u32], j: usize, capacity: usize)
+    requires { ⌜ (length (now holds) ≡ N (day (now capacities) (now flights))) × (length (now capacities) ≤ 96) × (j ≤ length (now capacities)) ⌝ }
+    ensures { λ _. ⌜ now (holds .exit) ≡ landAll (day (now (capacities .entry)) (now (flights .entry))) j capacity (now (holds .entry)) ⌝ }
+{
+    let n = holds.len();
+    let mut left = capacity;
+    while 0 < left {
+        let i = first_waiting(capacities, flights, holds, j);
+        if i == n {
+            return;
+        }
+        let hold = j - due_of(flights, i);
+        holds[i] = hold as u32;
+        left -= 1;
+    }
+}
+
+// Every flight at the closing period.
+fn start_row(capacities: &[u32], flights: &[u32], holds: &mut [u32])
+    requires { ⌜ (valid (day (now capacities) (now flights)) ≡ true) × (length (now holds) ≡ N (day (now capacities) (now flights))) ⌝ }
+    ensures { λ _. ⌜ now (holds .exit) ≡ rowTo (day (now (capacities .entry)) (now (flights .entry))) 0 ⌝ }
+{
+    let mut i = 0;
+    while i < holds.len() {
+        let hold = capacities.len() + 1 - due_of(flights, i);
+        holds[i] = hold as u32;
+        i += 1;
+    }
+}
+
+// The row after the periods 1 to stop.
+pub fn plan_to(capacities: &[u32], flights: &[u32], holds: &mut [u32], stop: usize)
+    requires { ⌜ (valid (day (now capacities) (now flights)) ≡ true) × (length (now holds) ≡ N (day (now capacities) (now flights))) ⌝ }
+    requires { ⌜ stop ≤ length (now capacities) ⌝ }
+    ensures { λ _. ⌜ now (holds .exit) ≡ rowTo (day (now (capacities .entry)) (now (flights .entry))) stop ⌝ }
+{
+    start_row(capacities, flights, holds);
+    let mut j = 0;
+    while j < stop {
+        j += 1;
+        land_period(capacities, flights, holds, j, of_period(capacities, j));
+    }
+}
+
+// The table place of the first flight with a jump or a limit, or the number of flights.
+pub fn first_jump_or_limit(capacities: &[u32], flights: &[u32]) -> usize
+    ensures { λ r. ⌜ r ≡ firstJumpOrLimit (day (now (capacities .entry)) (now (flights .entry))) ⌝ }
+{
+    let n = flight_count(flights);
+    let mut i = 0;
+    while i < n {
+        if 0 < jump_of(flights, i) {
+            return i;
+        }
+        if limit_of(flights, i) != 255 {
+            return i;
+        }
+        i += 1;
+    }
+    n
+}
+
+// Fills the hold row with the quick plan and answers its total. Refusals, in this order: 6, a bad day; 7, a row that has not one entry
+// for each flight; 8, the first flight with a jump or a limit. They leave the row as it was.
+pub fn quick_plan(capacities: &[u32], flights: &[u32], holds: &mut [u32]) -> Answer
+    ensures { λ r. ⌜ r ≡ quickPlan (day (now (capacities .entry)) (now (flights .entry))) (now (holds .entry)) .answer ⌝ }
+    ensures { λ _. ⌜ now (holds .exit) ≡ quickPlan (day (now (capacities .entry)) (now (flights .entry))) (now (holds .entry)) .holds ⌝ }
+{
+    if !is_valid(capacities, flights) {
+        return Answer::BadDay;
+    }
+    let n = flight_count(flights);
+    if holds.len() != n {
+        return Answer::BadLength { needed: n };
+    }
+    let place = first_jump_or_limit(capacities, flights);
+    if place < n {
+        return Answer::JumpOrLimit { place };
+    }
+    plan_to(capacities, flights, holds, capacities.len());
+    Answer::Planned {
+        total: total_of(capacities, flights, holds),
+    }
+}

@@ -1,0 +1,5 @@
+pub mod Lines
+pub mod Grammar
+pub mod Rows
+pub mod Good
+pub mod RoundTrip

@@ -1,0 +1,4 @@
+pub mod Flights
+pub mod Text
+pub mod Lines
+pub mod Sheet

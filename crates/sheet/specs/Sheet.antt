@@ -1,0 +1,79 @@
+-- A whole sheet read, in document 01's order of tests: "then 1, then lines from the top, in each line 5, 2, 3, 4".
+-- Assumes nothing.
+use Prim.Native.Nat.{ℕ, zero, suc, _+_}
+use mathlib.Core.List.{List, [], _∷_, _++_}
+use mathlib.Core.Bool.{cond, _&&_}
+use lib.Dec.{ltb, leb, eqb}
+use lib.ListN.{length, drop}
+use Rattle.answers.specs.declared.Answer.{Answer}
+use Rattle.answers.specs.declared.Answer.the-variants.{Read, TooLong, BadForm, OutOfRange, NumberUsed, BadCount, BadLength}
+use Rattle.text.specs.Fixed.{startsWith}
+use Rattle.sheet.specs.declared.Flight.{Flight}
+use Rattle.sheet.specs.declared.PeriodLine.{PeriodLine}
+use Rattle.sheet.specs.declared.PeriodLine.the-variants.{Period, NoPeriod}
+use Rattle.sheet.specs.declared.FlightLine.{FlightLine}
+use Rattle.sheet.specs.declared.FlightLine.the-variants.{Row, NoRow}
+use Rattle.sheet.specs.Flights.{rowOf}
+use Rattle.sheet.specs.Text.{periodNames, flightNames}
+use Rattle.sheet.specs.Lines.{periodLine, flightLine, flightFits, used}
+
+-- the day's capacities and flights, or why there is no day
+pub data Reading : Type 0 where
+  read : List ℕ → List Flight → Reading
+  refused : Answer → Reading
+
+-- a flight line that begins at `at`: 2, 3 and 4, else what follows it
+abbrev pub onFlight : ℕ → List ℕ → List Flight → FlightLine → (Flight → ℕ → Reading) → Reading
+onFlight at capacities above NoRow go = refused (BadForm at)
+onFlight at capacities above (Row f next) go =
+    cond (flightFits capacities f) (cond (used (f .number) above) (refused (NumberUsed at)) (go f next)) (refused (OutOfRange at))
+
+-- at most k more flight lines, after the flights above; 5 "where anything follows 128 flight lines"
+unfoldable pub readFlights : ℕ → List ℕ → ℕ → List ℕ → List Flight → Reading
+readFlights zero s at capacities above = cond (eqb at (length s)) (read capacities above) (refused (BadCount at))
+readFlights (suc k) s at capacities above =
+    cond (eqb at (length s)) (read capacities above)
+    (onFlight at capacities above (flightLine s at) (λ f next. readFlights k s next capacities (above ++ (f ∷ []))))
+
+-- the second names line stands at `at`; 5 "where the second names line follows the first directly"
+unfoldable pub named : List ℕ → ℕ → List ℕ → Reading
+named s at capacities = cond (eqb (length capacities) 0) (refused (BadCount at)) (readFlights 128 s (at + length flightNames) capacities [])
+
+-- a period line that begins at `at`: 2 and 3, else what follows it
+abbrev pub onPeriod : ℕ → List ℕ → PeriodLine → (ℕ → ℕ → Reading) → Reading
+onPeriod at above NoPeriod go = refused (BadForm at)
+onPeriod at above (Period j c next) go = cond (eqb j (length above + 1) && leb c 255) (go c next) (refused (OutOfRange at))
+
+-- at most k more period lines, after the capacities above; "The second names line ends the period lines."
+-- 5 "where anything but that line follows 96 period lines", and 2 where the sheet ends there
+unfoldable pub readPeriods : ℕ → List ℕ → ℕ → List ℕ → Reading
+readPeriods zero s at above =
+    cond (startsWith (drop at s) flightNames) (named s at above) (cond (eqb at (length s)) (refused (BadForm at)) (refused (BadCount at)))
+readPeriods (suc k) s at above =
+    cond (startsWith (drop at s) flightNames) (named s at above)
+    (onPeriod at above (periodLine s at) (λ c next. readPeriods k s next (above ++ (c ∷ []))))
+
+-- the sheet's grammar
+unfoldable pub readSheet : List ℕ → Reading
+readSheet s =
+    cond (ltb 8192 (length s)) (refused TooLong)
+    (cond (startsWith s periodNames) (readPeriods 96 s (length periodNames) []) (refused (BadForm 0)))
+
+-- the reader's call: "the reader tests its rows (7; capacity row first)"
+unfoldable pub reading : List ℕ → List ℕ → List ℕ → Reading
+reading s capacities flights =
+    cond (eqb (length capacities) 96) (cond (eqb (length flights) 768) (readSheet s) (refused (BadLength 768))) (refused (BadLength 96))
+
+-- its answer: P and N, or the refusal
+abbrev pub answerOf : Reading → Answer
+answerOf (read capacities flights) = Read (length capacities) (length flights)
+answerOf (refused a) = a
+
+-- the lent rows afterwards: the day and, past it, what stood there; a refusal leaves them
+abbrev pub capacitiesAfter : Reading → List ℕ → List ℕ
+capacitiesAfter (read capacities flights) row = capacities ++ drop (length capacities) row
+capacitiesAfter (refused a) row = row
+
+abbrev pub flightsAfter : Reading → List ℕ → List ℕ
+flightsAfter (read capacities flights) row = rowOf flights ++ drop (length (rowOf flights)) row
+flightsAfter (refused a) row = row

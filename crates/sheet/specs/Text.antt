@@ -1,0 +1,44 @@
+-- The sheet of a day: document 01, "A line of names, then lines of values in that order, twice over."
+-- Assumes nothing.
+use Prim.Native.Nat.{ℕ, suc}
+use mathlib.Core.Bool.{cond}
+use mathlib.Core.List.{List, [], _∷_, _++_}
+use Rattle.text.specs.Digits.{ended, separated, line, lineEnd}
+use Rattle.day.specs.Day.{Day, missing}
+use Rattle.sheet.specs.declared.Flight.{Flight}
+use Rattle.sheet.specs.Flights.{flightsOf}
+
+-- "period,capacity" and the end byte
+unfoldable pub periodNames : List ℕ
+periodNames = 112 ∷ 101 ∷ 114 ∷ 105 ∷ 111 ∷ 100 ∷ 44 ∷ 99 ∷ 97 ∷ 112 ∷ 97 ∷ 99 ∷ 105 ∷ 116 ∷ 121 ∷ 10 ∷ []
+
+-- "flight,due,rate,after,jump,limit" and the end byte
+unfoldable pub flightNames : List ℕ
+flightNames =
+    102 ∷ 108 ∷ 105 ∷ 103 ∷ 104 ∷ 116 ∷ 44 ∷ 100 ∷ 117 ∷ 101 ∷ 44 ∷ 114 ∷ 97 ∷ 116 ∷ 101 ∷ 44 ∷ 97 ∷ 102 ∷ 116 ∷ 101 ∷ 114 ∷ 44 ∷ 106 ∷ 117 ∷ 109 ∷ 112 ∷ 44 ∷ 108 ∷ 105 ∷ 109 ∷ 105 ∷ 116 ∷ 10 ∷ []
+
+-- "A missing limit is the single byte `-`" (45)
+unfoldable pub limitText : ℕ → List ℕ
+limitText l = cond (missing l) (45 ∷ lineEnd ∷ []) (ended lineEnd l)
+
+unfoldable pub flightText : Flight → List ℕ
+flightText f = separated (f .number ∷ f .due ∷ f .rate ∷ f .after ∷ f .jump ∷ []) ++ limitText (f .limit)
+
+unfoldable pub periodText : ℕ → ℕ → List ℕ
+periodText j c = line (j ∷ []) c
+
+-- "Period lines count 1, 2, 3 and so on": the lines from period j on
+unfoldable pub periodsText : ℕ → List ℕ → List ℕ
+periodsText j [] = []
+periodsText j (c ∷ cs) = periodText j c ++ periodsText (suc j) cs
+
+unfoldable pub flightsText : List Flight → List ℕ
+flightsText [] = []
+flightsText (f ∷ fs) = flightText f ++ flightsText fs
+
+unfoldable pub sheetText : List ℕ → List Flight → List ℕ
+sheetText capacities flights = periodNames ++ (periodsText 1 capacities ++ (flightNames ++ flightsText flights))
+
+-- the sheet of a day
+unfoldable pub sheetOf : Day → List ℕ
+sheetOf d = sheetText (d .capacities) (flightsOf d)

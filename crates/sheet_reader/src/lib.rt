@@ -1,0 +1,357 @@
+// The reader of day sheets: it fills two lent rows from a sheet, or says why not.
+ghost use mathlib.Core.Path.{_≡_};
+ghost use mathlib.Core.Bool.{_&&_, _||_};
+ghost use lib.Dec.{leb};
+ghost use mathlib.Core.List.{List, [], _∷_, _++_};
+ghost use Prim.Native.Nat.{ℕ, _+_, _-_, _*_, _≤_, _<_};
+ghost use lib.ListN.{length, take, drop};
+ghost use Rattle.text.specs.Fixed.{startsWith};
+ghost use Rattle.day.specs.Day.{day, inside, missing};
+ghost use Rattle.sheet.specs.Flights.{firstFlights};
+ghost use Rattle.sheet.specs.Text.{periodNames, flightNames};
+ghost use Rattle.sheet.specs.Lines.{limitField, periodLine, flightLine, flightFits, used};
+ghost use Rattle.sheet.specs.Sheet.{readPeriods, readFlights, reading, answerOf, capacitiesAfter, flightsAfter};
+ghost use Rattle.sheet_reader.specs.Loop.{goOn, Ready, filled, Few};
+use answers::Answer;
+use sheet::FLIGHT_NAMES;
+use sheet::Flight;
+use sheet::FlightLine;
+use sheet::PERIOD_NAMES;
+use sheet::PeriodLine;
+use text::Number;
+
+// How many numbers a flight takes in its row.
+const WIDTH: usize = 6;
+
+// The last field of a flight line: a byte 45 for a missing limit, or a number.
+fn limit_at(s: &[u8], at: usize) -> Number
+    requires { ⌜ at ≤ length (now s) ⌝ }
+    ensures { λ r. ⌜ r ≡ limitField (now (s .entry)) at ⌝ }
+{
+    if at < s.len() {
+        if s[at] == 45 {
+            if s.len() - at <= 1 {
+                return Number::Bad;
+            }
+            if s[at + 1] == 10 {
+                return Number::Value {
+                    n: 255,
+                    next: at + 2,
+                };
+            }
+            return Number::Bad;
+        }
+    }
+    let p = text::field_at(s, at, 10);
+    let Number::Value { n, next } = p else {
+        return Number::Bad;
+    };
+    if n <= 96 {
+        return Number::Value { n, next };
+    }
+    Number::Value { n: 256, next }
+}
+
+fn period_line(s: &[u8], at: usize) -> PeriodLine
+    requires { ⌜ at ≤ length (now s) ⌝ }
+    ensures { λ r. ⌜ r ≡ periodLine (now (s .entry)) at ⌝ }
+{
+    let a = text::field_at(s, at, 44);
+    let Number::Value {
+        n: number,
+        next: second,
+    } = a
+    else {
+        return PeriodLine::NoPeriod;
+    };
+    let b = text::field_at(s, second, 10);
+    let Number::Value { n: capacity, next } = b else {
+        return PeriodLine::NoPeriod;
+    };
+    PeriodLine::Period {
+        number,
+        capacity,
+        next,
+    }
+}
+
+fn flight_line(s: &[u8], at: usize) -> FlightLine
+    requires { ⌜ at ≤ length (now s) ⌝ }
+    ensures { λ r. ⌜ r ≡ flightLine (now (s .entry)) at ⌝ }
+{
+    let a = text::field_at(s, at, 44);
+    let Number::Value {
+        n: number,
+        next: at2,
+    } = a
+    else {
+        return FlightLine::NoRow;
+    };
+    let b = text::field_at(s, at2, 44);
+    let Number::Value { n: due, next: at3 } = b else {
+        return FlightLine::NoRow;
+    };
+    let c = text::field_at(s, at3, 44);
+    let Number::Value { n: rate, next: at4 } = c else {
+        return FlightLine::NoRow;
+    };
+    let d = text::field_at(s, at4, 44);
+    let Number::Value {
+        n: after,
+        next: at5,
+    } = d
+    else {
+        return FlightLine::NoRow;
+    };
+    let e = text::field_at(s, at5, 44);
+    let Number::Value { n: jump, next: at6 } = e else {
+        return FlightLine::NoRow;
+    };
+    let l = limit_at(s, at6);
+    let Number::Value { n: limit, next } = l else {
+        return FlightLine::NoRow;
+    };
+    FlightLine::Row {
+        flight: Flight {
+            number,
+            due,
+            rate,
+            after,
+            jump,
+            limit,
+        },
+        next,
+    }
+}
+
+fn is_inside(low: usize, high: usize, x: u32) -> bool
+    ensures { λ r. ⌜ r ≡ inside low high x ⌝ }
+{
+    low <= day::wide(x) && day::wide(x) <= high
+}
+
+fn limit_fits(limit: u32) -> bool
+    ensures { λ r. ⌜ r ≡ (leb limit 96 || missing limit) ⌝ }
+{
+    limit <= 96 || limit == 255
+}
+
+// Whether the flight's numbers are within the table's ranges, on a day of p periods.
+fn flight_fits(p: usize, f: Flight) -> bool
+    ensures { λ r. ⌜ ((capacities : List ℕ) → length capacities ≡ p → r ≡ flightFits capacities f) ⌝ }
+{
+    if !is_inside(1, 9999, f.number) {
+        return false;
+    }
+    if !is_inside(1, p, f.due) {
+        return false;
+    }
+    if !is_inside(1, 10000, f.rate) {
+        return false;
+    }
+    if 96 < f.after {
+        return false;
+    }
+    if 1000000 < f.jump {
+        return false;
+    }
+    limit_fits(f.limit)
+}
+
+// The period lines read: how many, and where the flight lines begin; or why not.
+pub enum Periods {
+    Upto { count: usize, at: usize },
+    Stopped(Answer),
+}
+
+// The flight lines read: how many; or why not.
+pub enum Listing {
+    Listed(usize),
+    Halted(Answer),
+}
+
+// The second names line, with its end byte.
+fn names_here(s: &[u8], at: usize) -> bool
+    requires { ⌜ at ≤ length (now s) ⌝ }
+    ensures { λ r. ⌜ r ≡ startsWith (drop at (now (s .entry))) flightNames ⌝ }
+{
+    text::fixed_at(s, at, &FLIGHT_NAMES)
+}
+
+// The first names line.
+fn top_here(s: &[u8]) -> bool
+    ensures { λ r. ⌜ r ≡ startsWith (now (s .entry)) periodNames ⌝ }
+{
+    text::fixed_at(s, 0, &PERIOD_NAMES)
+}
+
+// Whether one of the first n flights of the row has this number.
+fn number_used(row: &[u32; 768], n: usize, number: u32) -> bool
+    requires { ⌜ n ≤ 128 ⌝ }
+    ensures { λ r. ⌜ r ≡ used number (firstFlights n (now (row .entry))) ⌝ }
+{
+    let mut j = n;
+    while 0 < j {
+        j -= 1;
+        if day::number_of(row, j) == day::wide(number) {
+            return true;
+        }
+    }
+    false
+}
+
+// Stores a flight at place n.
+fn put_flight(row: &mut [u32; 768], n: usize, f: Flight)
+    requires { ⌜ (n < 128) × (length (now row) ≡ 768) ⌝ }
+    ensures { λ _. ⌜ length (now (row .exit)) ≡ 768 ⌝ }
+    ensures { λ _. ⌜ firstFlights (n + 1) (now (row .exit)) ≡ firstFlights n (now (row .entry)) ++ (f ∷ []) ⌝ }
+{
+    row[n * WIDTH] = f.number;
+    row[n * WIDTH + 1] = f.due;
+    row[n * WIDTH + 2] = f.rate;
+    row[n * WIDTH + 3] = f.after;
+    row[n * WIDTH + 4] = f.jump;
+    row[n * WIDTH + 5] = f.limit;
+}
+
+fn read_periods(s: &[u8], caps: &mut [u32; 96]) -> Periods
+    requires { ⌜ (16 ≤ length (now s)) × (length (now caps) ≡ 96) ⌝ }
+    ensures { λ _. ⌜ length (now (caps .exit)) ≡ 96 ⌝ }
+    ensures { λ r. ⌜ readPeriods 96 (now (s .entry)) 16 [] ≡ goOn r (now (s .entry)) (now (caps .exit)) ⌝ }
+    ensures { λ r. ⌜ Ready r (now (s .entry)) ⌝ }
+{
+    let mut n: usize = 0;
+    let mut at: usize = 16;
+    loop {
+        if names_here(s, at) {
+            break;
+        }
+        if n == 96 {
+            if at == s.len() {
+                return Periods::Stopped(Answer::BadForm { line: at });
+            }
+            return Periods::Stopped(Answer::BadCount { line: at });
+        }
+        let line = period_line(s, at);
+        let PeriodLine::Period {
+            number,
+            capacity,
+            next,
+        } = line
+        else {
+            return Periods::Stopped(Answer::BadForm { line: at });
+        };
+        if day::wide(number) != n + 1 {
+            return Periods::Stopped(Answer::OutOfRange { line: at });
+        }
+        if 255 < capacity {
+            return Periods::Stopped(Answer::OutOfRange { line: at });
+        }
+        caps[n] = capacity;
+        n += 1;
+        at = next;
+    }
+    if n == 0 {
+        return Periods::Stopped(Answer::BadCount { line: at });
+    }
+    Periods::Upto {
+        count: n,
+        at: at + 33,
+    }
+}
+
+fn read_flights(s: &[u8], start: usize, p: usize, row: &mut [u32; 768]) -> Listing
+    requires { ⌜ (start ≤ length (now s)) × (p ≤ 96) × (length (now row) ≡ 768) ⌝ }
+    ensures { λ _. ⌜ length (now (row .exit)) ≡ 768 ⌝ }
+    ensures { λ r. ⌜ Few r ⌝ }
+    ensures { λ r. ⌜ ((caps : List ℕ) → length caps ≡ p → readFlights 128 (now (s .entry)) start caps [] ≡ filled r caps (now (row .exit))) ⌝ }
+{
+    let mut n: usize = 0;
+    let mut at = start;
+    while at < s.len() {
+        if n == 128 {
+            return Listing::Halted(Answer::BadCount { line: at });
+        }
+        let line = flight_line(s, at);
+        let FlightLine::Row { flight, next } = line else {
+            return Listing::Halted(Answer::BadForm { line: at });
+        };
+        if !flight_fits(p, flight) {
+            return Listing::Halted(Answer::OutOfRange { line: at });
+        }
+        if number_used(row, n, flight.number) {
+            return Listing::Halted(Answer::NumberUsed { line: at });
+        }
+        put_flight(row, n, flight);
+        n += 1;
+        at = next;
+    }
+    Listing::Listed(n)
+}
+
+// The front n of one row onto the front of another.
+fn copy_front(from: &[u32], to: &mut [u32], n: usize)
+    requires { ⌜ (n ≤ length (now from)) × (n ≤ length (now to)) ⌝ }
+    ensures { λ _. ⌜ now (to .exit) ≡ take n (now (from .entry)) ++ drop n (now (to .entry)) ⌝ }
+{
+    let mut i: usize = 0;
+    while i < n {
+        to[i] = from[i];
+        i += 1;
+    }
+}
+
+// The flight lines and, where they are read too, the day into the lent rows.
+fn read_rest(
+    sheet: &[u8],
+    at: usize,
+    count: usize,
+    caps: &[u32; 96],
+    capacities: &mut [u32],
+    flights: &mut [u32],
+) -> Answer
+    requires { ⌜ (at ≤ length (now sheet)) × (count ≤ 96) × (length (now caps) ≡ 96) × (length (now capacities) ≡ 96) × (length (now flights) ≡ 768) ⌝ }
+    ensures { λ r. ⌜ r ≡ answerOf (readFlights 128 (now (sheet .entry)) at (take count (now (caps .entry))) []) ⌝ }
+    ensures { λ _. ⌜ now (capacities .exit) ≡ capacitiesAfter (readFlights 128 (now (sheet .entry)) at (take count (now (caps .entry))) []) (now (capacities .entry)) ⌝ }
+    ensures { λ _. ⌜ now (flights .exit) ≡ flightsAfter (readFlights 128 (now (sheet .entry)) at (take count (now (caps .entry))) []) (now (flights .entry)) ⌝ }
+{
+    let mut rows = [0u32; 768];
+    let r = read_flights(sheet, at, count, &mut rows);
+    match r {
+        Listing::Halted(a) => a,
+        Listing::Listed(n) => {
+            copy_front(caps, capacities, count);
+            copy_front(&rows, flights, n * WIDTH);
+            Answer::Read {
+                periods: count,
+                flights: n,
+            }
+        }
+    }
+}
+
+// Reads a sheet into lent rows of 96 and 768 numbers.
+pub fn read_sheet(sheet: &[u8], capacities: &mut [u32], flights: &mut [u32]) -> Answer
+    ensures { λ r. ⌜ r ≡ answerOf (reading (now (sheet .entry)) (now (capacities .entry)) (now (flights .entry))) ⌝ }
+    ensures { λ _. ⌜ now (capacities .exit) ≡ capacitiesAfter (reading (now (sheet .entry)) (now (capacities .entry)) (now (flights .entry))) (now (capacities .entry)) ⌝ }
+    ensures { λ _. ⌜ now (flights .exit) ≡ flightsAfter (reading (now (sheet .entry)) (now (capacities .entry)) (now (flights .entry))) (now (flights .entry)) ⌝ }
+{
+    if capacities.len() != 96 {
+        return Answer::BadLength { needed: 96 };
+    }
+    if flights.len() != 768 {
+        return Answer::BadLength { needed: 768 };
+    }
+    if 8192 < sheet.len() {
+        return Answer::TooLong;
+    }
+    if !top_here(sheet) {
+        return Answer::BadForm { line: 0 };
+    }
+    let mut caps = [0u32; 96];
+    let p = read_periods(sheet, &mut caps);
+    match p {
+        Periods::Stopped(a) => a,
+        Periods::Upto { count, at } => read_rest(sheet, at, count, &caps, capacities, flights),
+    }
+}

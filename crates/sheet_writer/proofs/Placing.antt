@@ -1,0 +1,167 @@
+-- How a sheet's lines follow one another in the buffer: one line more, and the whole.
+-- Assumes nothing.
+use Prim.Native.Nat.{ℕ, zero, suc, _≤_, _<_, _+_, _-_, _/_}
+use native.Mathlib.Omega.{arith}
+use native.Mathlib.Numerals.{add-one}
+use mathlib.Core.Path.{_≡_, refl, ap, sym, _∙_}
+use mathlib.Core.List.{List, [], _∷_, _++_, append-assoc}
+use mathlib.Core.Bool.{true, false}
+use lib.ListN.{length, getD, take, drop, set, length-append, take-append-drop}
+use lib.Seq.{take-suc, length-take-le}
+use borrow.Author.Tests.{ne-eqb}
+use Rattle.answers.specs.declared.Answer.the-variants.{Written, BadDay, BadLength}
+use Rattle.text.specs.Digits.{ended, separated, line}
+use Rattle.text.specs.Writing.{Put}
+use Rattle.text.proofs.Writing.{placed-zero, then, not-fits, it-fits}
+use Rattle.day.specs.Day.{Day, column, N, valid}
+use Rattle.sheet.specs.declared.Flight.{Flight}
+use Rattle.sheet.specs.Flights.{flightAt, firstFlights, flightsOf}
+use Rattle.sheet.specs.Text.{periodNames, flightNames, limitText, periodText, flightText, periodsText, flightsText, sheetText, sheetOf}
+use Rattle.sheet.proofs.Grammar.{periods-snoc, flights-snoc, length-top, length-names}
+use Rattle.sheet_writer.specs.Write.{writeAnswer, writeAfter}
+
+-- the limit's field
+
+pub text-missing : (l : ℕ) → l ≡ 255 → limitText l ≡ 45 ∷ 10 ∷ []
+unfolding limitText
+text-missing l e = rw e
+
+pub text-number : (l : ℕ) → (l ≡ 255 → ⊥) → limitText l ≡ ended 10 l
+unfolding limitText
+text-number l e = rw (ne-eqb l 255 e)
+
+pub put-dash : (o : List ℕ) (l : ℕ) → l ≡ 255 → length (limitText l) ≤ length o → Put o 0 (limitText l) 2 (set (set o 0 45) 1 10)
+put-dash o l e h = rw (text-missing l e) (go o (rw (text-missing l e) at h))
+  where
+    go : (o : List ℕ) → 2 ≤ length o → Put o 0 (45 ∷ 10 ∷ []) 2 (set (set o 0 45) 1 10)
+    go [] h = absurd (omega arith)
+    go (x ∷ []) h = absurd (omega arith)
+    go (x ∷ y ∷ o) h = record { place = refl; bytes = sym (placed-zero (x ∷ y ∷ o) (45 ∷ 10 ∷ [])) }
+
+-- one line
+
+pub length-period : (j c : ℕ) → length (periodText j c) ≡ length (line (j ∷ []) c)
+unfolding periodText
+length-period j c = refl
+
+pub period-line : (j c : ℕ) → periodText j c ≡ line (j ∷ []) c
+unfolding periodText
+period-line j c = refl
+
+module _ (row : List ℕ) (i : ℕ) where
+  abbrev pub values : List ℕ
+  values = flightAt row i .number ∷ flightAt row i .due ∷ flightAt row i .rate ∷ flightAt row i .after ∷ flightAt row i .jump ∷ []
+
+  pub values-are : column 0 row i ∷ column 1 row i ∷ column 2 row i ∷ column 3 row i ∷ column 4 row i ∷ [] ≡ values
+  unfolding flightAt
+  values-are = refl
+
+  pub limit-is : column 5 row i ≡ flightAt row i .limit
+  unfolding flightAt
+  limit-is = refl
+
+  pub length-flight : length (flightText (flightAt row i)) ≡ length (separated values) + length (limitText (flightAt row i .limit))
+  unfolding flightText
+  length-flight = length-append (separated values) (limitText (flightAt row i .limit))
+
+  pub flight-put : {o o1 o2 : List ℕ} {a r : ℕ} → length (flightText (flightAt row i)) ≤ length o → Put o 0 (separated values) a o1
+      → Put o1 a (limitText (flightAt row i .limit)) r o2 → Put o 0 (flightText (flightAt row i)) r o2
+  unfolding flightText
+  flight-put h d e = then (omega (arith, length-append (separated values) (limitText (flightAt row i .limit)))) d e
+
+-- one line more
+
+periods-append : (j : ℕ) (xs ys : List ℕ) → periodsText j (xs ++ ys) ≡ periodsText j xs ++ periodsText (j + length xs) ys
+unfolding periodsText
+periods-append j [] ys = let z : j + 0 ≡ j = omega arith in rw z
+periods-append j (x ∷ xs) ys = let z : suc j + length xs ≡ j + suc (length xs) = omega arith in rw (periods-append (suc j) xs ys, z, append-assoc)
+
+pub period-part : (caps : List ℕ) (i : ℕ) → i < length caps
+    → (periodsText 1 (take (i + 1) caps) ≡ periodsText 1 (take i caps) ++ periodText (i + 1) (getD caps i 0))
+    × (length (periodsText 1 (take i caps)) + length (periodText (i + 1) (getD caps i 0)) ≤ length (periodsText 1 caps))
+period-part caps i h =
+    let l : length (take i caps) ≡ i = length-take-le i caps (omega arith) in
+    let z : 1 + i ≡ i + 1 = omega arith in
+    let e : take (i + 1) caps ≡ take i caps ++ (getD caps i 0 ∷ []) = rw add-one (take-suc caps i 0 h) in
+    let a : periodsText 1 (take (i + 1) caps) ≡ periodsText 1 (take i caps) ++ periodText (i + 1) (getD caps i 0) = rw e (periods-snoc 1 (take i caps) (getD caps i 0) ∙ rw (l, z)) in
+    let b = rw take-append-drop at (periods-append 1 (take (i + 1) caps) (drop (i + 1) caps)) in
+    let c = simp length-append at (ap length b) in
+    let d = simp length-append at (ap length a) in
+    (a, omega arith)
+
+pub flight-part : (row : List ℕ) (i : ℕ) → flightsText (firstFlights (i + 1) row) ≡ flightsText (firstFlights i row) ++ flightText (flightAt row i)
+unfolding firstFlights
+flight-part row i = rw add-one (flights-snoc (firstFlights i row) (flightAt row i))
+
+flights-grow : (row : List ℕ) (i k : ℕ) → length (flightsText (firstFlights i row)) ≤ length (flightsText (firstFlights (i + k) row))
+flights-grow row i zero = let z : i + 0 ≡ i = omega arith in rw z (omega arith)
+flights-grow row i (suc k) =
+    let z : i + suc k ≡ i + k + 1 = omega arith in
+    rw (z, flight-part row (i + k), length-append) (omega (arith, flights-grow row i k))
+
+pub flight-room : (row : List ℕ) (i n : ℕ) → i < n
+    → length (flightsText (firstFlights i row)) + length (flightText (flightAt row i)) ≤ length (flightsText (firstFlights n row))
+flight-room row i n h =
+    let z : i + 1 + (n - (i + 1)) ≡ n = omega arith in
+    let g = rw z at (flights-grow row (i + 1) (n - (i + 1))) in
+    let d = simp length-append at (ap length (flight-part row i)) in
+    omega arith
+
+pub no-periods : periodsText 1 [] ≡ []
+unfolding periodsText
+no-periods = refl
+
+pub no-flights : (row : List ℕ) → flightsText (firstFlights 0 row) ≡ []
+unfolding flightsText firstFlights
+no-flights row = refl
+
+-- the whole
+
+pub length-sheet : (caps : List ℕ) (fs : List Flight) → length (sheetText caps fs) ≡ length (periodsText 1 caps) + length (flightsText fs) + 49
+unfolding sheetText
+length-sheet caps fs = simp length-append (omega (arith, length-top, length-names))
+
+pub sheet-put : {o o1 o2 o3 o4 : List ℕ} {a1 a2 a3 a4 : ℕ} (caps : List ℕ) (fs : List Flight) → length (sheetText caps fs) ≤ length o
+    → Put o 0 periodNames a1 o1 → Put o1 a1 (periodsText 1 caps) a2 o2 → Put o2 a2 flightNames a3 o3 → Put o3 a3 (flightsText fs) a4 o4
+    → Put o 0 (sheetText caps fs) a4 o4
+unfolding sheetText
+sheet-put {o} caps fs h d1 e2 e3 e4 =
+    let g : length periodNames + length (periodsText 1 caps) + length flightNames + length (flightsText fs) ≤ length o =
+    omega (arith, length-sheet caps fs, length-top, length-names)
+    in
+    let d2 = then (omega arith) d1 e2 in
+    let d3 = then (simp length-append (omega arith)) d2 e3 in
+    let d4 = then (simp length-append (omega arith)) d3 e4 in
+    simp append-assoc at d4
+
+-- the outcomes of the call
+module _ (d : Day) (buffer : List ℕ) (place : ℕ) where
+  pub bad-day : valid d ≡ false → (BadDay ≡ writeAnswer d buffer place) × (buffer ≡ writeAfter d buffer place)
+  unfolding writeAnswer writeAfter
+  bad-day e = rw e (refl, refl)
+
+  module _ (v : valid d ≡ true) where
+    pub too-short : {k : ℕ} → k ≡ length (sheetOf d) → length buffer < place + k → (BadLength k ≡ writeAnswer d buffer place) × (buffer ≡ writeAfter d buffer place)
+    unfolding writeAnswer writeAfter
+    too-short e h = rw (v, e) (not-fits buffer (sheetOf d) place (rw e at h))
+
+    pub all-written : {k r : ℕ} {t out : List ℕ} → t ≡ sheetOf d → k ≡ length t → place + k ≤ length buffer → Put buffer place t r out
+        → (Written k ≡ writeAnswer d buffer place) × (out ≡ writeAfter d buffer place)
+    unfolding writeAnswer writeAfter
+    all-written {k = k} q e h p =
+        let z : k ≡ length (sheetOf d) = e ∙ ap length q in
+        rw (v, z) (it-fits buffer (sheetOf d) place (rw z at h) (rw q at p))
+
+-- what the writer's lines sum up to
+pub needed-is : (d : Day) {p f : ℕ} → p ≡ length (periodsText 1 (d .capacities)) → f ≡ length (flightsText (firstFlights (N d) (d .flights)))
+    → p + f + 49 ≡ length (sheetOf d)
+unfolding sheetOf flightsOf
+needed-is d e g = omega (arith, length-sheet (d .capacities) (firstFlights (N d) (d .flights)), e, g)
+
+pub text-of : (d : Day) (n : ℕ) → n ≡ N d → sheetText (d .capacities) (firstFlights n (d .flights)) ≡ sheetOf d
+unfolding sheetOf flightsOf
+text-of d n e = rw e
+
+pub count-is : (d : Day) → length (d .flights) / 6 ≡ N d
+unfolding N
+count-is d = refl

@@ -1,0 +1,21 @@
+-- The line's length, by its definition.
+use Rattle.sheet_writer.proofs.Placing.{length-period}
+use Rattle.text.specs.Digits.{line}
+use Prim.Native.Nat.{_-_}
+use mathlib.Core.Path.{sym, _∙_}
+use lib.ListN.{length}
+use borrow.Author.Needs.{needs}
+use Rattle.sheet_writer.proofs.period_len.Statement.{statement}
+use Rattle.sheet_writer.proofs.period_len.Tie as tie
+
+slice-aggregate-line-len : tie.Need-slice-aggregate-line-len
+slice-aggregate-line-len c = search needs
+
+line-len-requires : tie.Need-line-len-requires
+line-len-requires c κs = search needs
+
+returns : tie.Need-returns
+returns c = (c .line-len .ensures .0 ∙ sym (length-period (c .before .before .args .j) (c .before .before .args .capacity)), c .line-len .ensures .1)
+
+pub period-len-spec : {M : Type 1} → statement M
+period-len-spec = tie.close (tie.spec slice-aggregate-line-len line-len-requires returns)

@@ -1,0 +1,205 @@
+// The writer of day sheets: it puts a day's sheet into a lent byte buffer, from a given place on.
+ghost use mathlib.Core.Path.{_≡_};
+ghost use mathlib.Core.List.{List, [], _∷_, _++_};
+ghost use Prim.Native.Nat.{ℕ, _+_, _*_, _≤_, _<_};
+ghost use lib.ListN.{length, getD};
+ghost use Rattle.text.specs.Writing.{Put};
+ghost use Rattle.day.specs.Day.{day, column};
+ghost use Rattle.sheet.specs.Flights.{flightAt, firstFlights};
+ghost use Rattle.sheet.specs.Text.{periodNames, flightNames, limitText, periodText, flightText, periodsText, flightsText, sheetText};
+ghost use Rattle.sheet_writer.specs.Write.{writeAnswer, writeAfter};
+use answers::Answer;
+use sheet::FLIGHT_NAMES;
+use sheet::PERIOD_NAMES;
+
+const LINE_END: u8 = 10;
+
+// Both names lines together.
+const NAMES_LEN: usize = 49;
+
+// The last field of a flight line, at the front of out.
+fn put_limit(out: &mut [u8], limit: usize) -> usize
+    requires { ⌜ length (limitText limit) ≤ length (now out) ⌝ }
+    ensures { λ r. ⌜ Put (now (out .entry)) 0 (limitText limit) r (now (out .exit)) ⌝ }
+{
+    if limit == 255 {
+        out[0] = b'-';
+        out[1] = LINE_END;
+        return 2;
+    }
+    text::put_number(out, limit, LINE_END)
+}
+
+fn limit_len(limit: usize) -> usize
+    ensures { λ r. ⌜ (r ≡ length (limitText limit)) × (r ≤ 21) ⌝ }
+{
+    if limit == 255 {
+        return 2;
+    }
+    text::number_len(limit)
+}
+
+// The numbers of a flight line but for its limit.
+fn values_of(flights: &[u32], i: usize) -> [usize; 5]
+    requires { ⌜ (i + 1) * 6 ≤ length (now flights) ⌝ }
+    ensures { λ r. ⌜ r ≡ column 0 (now (flights .entry)) i ∷ column 1 (now (flights .entry)) i ∷ column 2 (now (flights .entry)) i ∷ column 3 (now (flights .entry)) i ∷ column 4 (now (flights .entry)) i ∷ [] ⌝ }
+{
+    [
+        day::number_of(flights, i),
+        day::due_of(flights, i),
+        day::rate_of(flights, i),
+        day::after_of(flights, i),
+        day::jump_of(flights, i),
+    ]
+}
+
+// The limit's field from `at` on: the part that starts there is lent on.
+fn put_last(out: &mut [u8], at: usize, limit: usize) -> usize
+    requires { ⌜ at + length (limitText limit) ≤ length (now out) ⌝ }
+    ensures { λ r. ⌜ Put (now (out .entry)) at (limitText limit) r (now (out .exit)) ⌝ }
+{
+    let k = put_limit(&mut out[at..], limit);
+    at + k
+}
+
+// A flight line, at the front of out.
+fn put_flight(out: &mut [u8], flights: &[u32], i: usize) -> usize
+    requires { ⌜ ((i + 1) * 6 ≤ length (now flights)) × (length (flightText (flightAt (now flights) i)) ≤ length (now out)) ⌝ }
+    ensures { λ r. ⌜ Put (now (out .entry)) 0 (flightText (flightAt (now (flights .entry)) i)) r (now (out .exit)) ⌝ }
+{
+    let values = values_of(flights, i);
+    let at = text::put_separated(out, &values);
+    put_last(out, at, day::limit_of(flights, i))
+}
+
+fn flight_len(flights: &[u32], i: usize) -> usize
+    requires { ⌜ (i + 1) * 6 ≤ length (now flights) ⌝ }
+    ensures { λ r. ⌜ (r ≡ length (flightText (flightAt (now (flights .entry)) i))) × (r ≤ 126) ⌝ }
+{
+    let values = values_of(flights, i);
+    text::separated_len(&values) + limit_len(day::limit_of(flights, i))
+}
+
+// The flight line of table place i from `at` on.
+fn put_flight_at(out: &mut [u8], at: usize, flights: &[u32], i: usize) -> usize
+    requires { ⌜ ((i + 1) * 6 ≤ length (now flights)) × (at + length (flightText (flightAt (now flights) i)) ≤ length (now out)) ⌝ }
+    ensures { λ r. ⌜ Put (now (out .entry)) at (flightText (flightAt (now (flights .entry)) i)) r (now (out .exit)) ⌝ }
+{
+    let k = put_flight(&mut out[at..], flights, i);
+    at + k
+}
+
+// The line of period j from `at` on.
+fn put_period_at(out: &mut [u8], at: usize, j: usize, capacity: usize) -> usize
+    requires { ⌜ at + length (periodText j capacity) ≤ length (now out) ⌝ }
+    ensures { λ r. ⌜ Put (now (out .entry)) at (periodText j capacity) r (now (out .exit)) ⌝ }
+{
+    let values = [j];
+    let k = text::put_line(&mut out[at..], &values, capacity);
+    at + k
+}
+
+fn period_len(j: usize, capacity: usize) -> usize
+    ensures { λ r. ⌜ (r ≡ length (periodText j capacity)) × (r ≤ 42) ⌝ }
+{
+    let values = [j];
+    text::line_len(&values, capacity)
+}
+
+fn put_periods(out: &mut [u8], start: usize, capacities: &[u32]) -> usize
+    requires { ⌜ (start + length (periodsText 1 (now capacities)) ≤ length (now out)) × (length (now capacities) ≤ 96) ⌝ }
+    ensures { λ r. ⌜ Put (now (out .entry)) start (periodsText 1 (now (capacities .entry))) r (now (out .exit)) ⌝ }
+{
+    let mut at = start;
+    let mut i: usize = 0;
+    while i < capacities.len() {
+        at = put_period_at(out, at, i + 1, day::wide(capacities[i]));
+        i += 1;
+    }
+    at
+}
+
+fn periods_len(capacities: &[u32]) -> usize
+    requires { ⌜ length (now capacities) ≤ 96 ⌝ }
+    ensures { λ r. ⌜ (r ≡ length (periodsText 1 (now (capacities .entry)))) × (r ≤ 4032) ⌝ }
+{
+    let mut sum: usize = 0;
+    let mut i: usize = 0;
+    while i < capacities.len() {
+        sum += period_len(i + 1, day::wide(capacities[i]));
+        i += 1;
+    }
+    sum
+}
+
+fn put_flights(out: &mut [u8], start: usize, flights: &[u32], n: usize) -> usize
+    requires { ⌜ (start + length (flightsText (firstFlights n (now flights))) ≤ length (now out)) × (n ≤ 128) × (n * 6 ≤ length (now flights)) ⌝ }
+    ensures { λ r. ⌜ Put (now (out .entry)) start (flightsText (firstFlights n (now (flights .entry)))) r (now (out .exit)) ⌝ }
+{
+    let mut at = start;
+    let mut i: usize = 0;
+    while i < n {
+        at = put_flight_at(out, at, flights, i);
+        i += 1;
+    }
+    at
+}
+
+fn flights_len(flights: &[u32], n: usize) -> usize
+    requires { ⌜ (n ≤ 128) × (n * 6 ≤ length (now flights)) ⌝ }
+    ensures { λ r. ⌜ (r ≡ length (flightsText (firstFlights n (now (flights .entry))))) × (r ≤ 16128) ⌝ }
+{
+    let mut sum: usize = 0;
+    let mut i: usize = 0;
+    while i < n {
+        sum += flight_len(flights, i);
+        i += 1;
+    }
+    sum
+}
+
+fn put_period_names(out: &mut [u8]) -> usize
+    requires { ⌜ length periodNames ≤ length (now out) ⌝ }
+    ensures { λ r. ⌜ Put (now (out .entry)) 0 periodNames r (now (out .exit)) ⌝ }
+{
+    text::put_fixed(out, &PERIOD_NAMES)
+}
+
+fn put_flight_names(out: &mut [u8], at: usize) -> usize
+    requires { ⌜ at + length flightNames ≤ length (now out) ⌝ }
+    ensures { λ r. ⌜ Put (now (out .entry)) at flightNames r (now (out .exit)) ⌝ }
+{
+    let k = text::put_fixed(&mut out[at..], &FLIGHT_NAMES);
+    at + k
+}
+
+// The whole sheet, at the front of out.
+fn fill_sheet(out: &mut [u8], capacities: &[u32], flights: &[u32], n: usize) -> usize
+    requires { ⌜ (length (sheetText (now capacities) (firstFlights n (now flights))) ≤ length (now out)) × (length (now capacities) ≤ 96) × (n ≤ 128) × (n * 6 ≤ length (now flights)) ⌝ }
+    ensures { λ r. ⌜ Put (now (out .entry)) 0 (sheetText (now (capacities .entry)) (firstFlights n (now (flights .entry)))) r (now (out .exit)) ⌝ }
+{
+    let a = put_period_names(out);
+    let b = put_periods(out, a, capacities);
+    let c = put_flight_names(out, b);
+    put_flights(out, c, flights, n)
+}
+
+// Writes the sheet of a day into the buffer from the place on. The line writers get the part of it that starts there.
+pub fn write_sheet(capacities: &[u32], flights: &[u32], text: &mut [u8], place: usize) -> Answer
+    ensures { λ r. ⌜ r ≡ writeAnswer (day (now (capacities .entry)) (now (flights .entry))) (now (text .entry)) place ⌝ }
+    ensures { λ _. ⌜ now (text .exit) ≡ writeAfter (day (now (capacities .entry)) (now (flights .entry))) (now (text .entry)) place ⌝ }
+{
+    if !day::is_valid(capacities, flights) {
+        return Answer::BadDay;
+    }
+    let n = day::flight_count(flights);
+    let needed = periods_len(capacities) + flights_len(flights, n) + NAMES_LEN;
+    if text.len() < place {
+        return Answer::BadLength { needed };
+    }
+    if text.len() - place < needed {
+        return Answer::BadLength { needed };
+    }
+    fill_sheet(&mut text[place..], capacities, flights, n);
+    Answer::Written { bytes: needed }
+}
