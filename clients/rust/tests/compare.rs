@@ -1,6 +1,6 @@
 //! Every exported call compared with an independent implementation: a reader that works line by line, and planners written
 //! another way (all plans tried for small days, a min-cost flow by shortest paths for the others). Days and damaged sheets
-//! come from a seed. COMPARE_DAYS sets how many of each kind (default 300), COMPARE_SEED the seed (default 1).
+//! come from a seed. COMPARE_DAYS sets how many of each kind (default 2000), COMPARE_SEED the seed (default 1).
 use hold_desk_client::*;
 
 // ---- numbers from a seed
@@ -535,7 +535,7 @@ fn compare_bad_rows(seed: &mut Seed, day: &Day) {
 #[test]
 fn small_days_by_trial() {
     let mut seed = seeded();
-    for _ in 0..setting("COMPARE_DAYS", 300) * 4 {
+    for _ in 0..setting("COMPARE_DAYS", 2000) * 4 {
         let day = random_day(&mut seed, 4, 5, false);
         let least = least_by_trial(&day, 0, &mut day.capacities.clone());
         assert_eq!(least, least_by_flow(&day));
@@ -552,7 +552,7 @@ fn small_days_by_trial() {
 #[test]
 fn larger_days_by_flow() {
     let mut seed = seeded();
-    for round in 0..setting("COMPARE_DAYS", 300) / 5 {
+    for round in 0..setting("COMPARE_DAYS", 2000) / 5 {
         let plain = round % 4 == 0;
         let day = random_day(&mut seed, 96, if round % 8 == 7 { 128 } else { 40 }, plain);
         let holds = compare_full(&mut seed, &day, least_by_flow(&day));
@@ -567,7 +567,7 @@ fn larger_days_by_flow() {
 #[test]
 fn sheets_whole_and_damaged() {
     let mut seed = seeded();
-    for round in 0..setting("COMPARE_DAYS", 300) * 10 {
+    for round in 0..setting("COMPARE_DAYS", 2000) * 10 {
         let day = if round % 50 == 0 { random_day(&mut seed, 96, 128, false) } else { random_day(&mut seed, 6, 5, false) };
         let sheet = day.sheet();
         compare_reading(&mut seed, sheet.as_bytes());
