@@ -7,4 +7,3 @@ pub mod Cheapest
 pub mod Rows
 pub mod Steps
 pub mod Calls
-pub mod Cases
