@@ -40,10 +40,6 @@ unfoldable pub room : Day → ℕ → ℕ → ℕ
 room d a b = sum (b + 1) (λ k. gate (leb a k) (capacity d k))
 
 -- "A stretch of periods a to b, b at most P, is short if more flights must land in it than can"
-unfoldable pub isShort : Day → ℕ → ℕ → Bool
-unfolding mustLand room
-isShort d a b = ltb (room d a b) (mustLand d a b)
-
 pub record Short (d : Day) (a b : ℕ) : Type 0 where
   pub from : 1 ≤ a
   pub stretch : a ≤ b

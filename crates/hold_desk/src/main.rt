@@ -86,6 +86,7 @@ fn plan_sheet(sheet: &[u8], text: &mut [u8]) -> usize {
     }
     let periods = code.first as usize;
     let count = code.second as usize;
+    // The reader gives at most 128 flights; the test is what the product below needs.
     if 128 < count {
         return report(read, text);
     }
@@ -103,6 +104,7 @@ fn main() {
     let read = io::read_full(0, &mut sheet);
     let mut text = io::buffer();
     let length = plan_sheet(&sheet[0..read], &mut text);
+    // No plan's text is as long as this buffer.
     if length <= 4096 {
         io::write_all(1, &text[0..length]);
     }
