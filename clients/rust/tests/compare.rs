@@ -583,3 +583,24 @@ fn sheets_whole_and_damaged() {
     assert_eq!(read_sheet(b"", &mut none, &mut [0; 768]), answer(7, 96, 0));
     assert_eq!(read_sheet(b"", &mut [0; 96], &mut [0; 767]), answer(7, 768, 0));
 }
+
+/// The report's example (NASA CR 177558, section 2.2.3), as printed there: the eligible flights and those that operate, period by
+/// period.
+#[test]
+fn the_reports_plan() {
+    let sheet = include_bytes!("../../../examples/case-j.csv");
+    let day = plain_read(sheet).unwrap();
+    let row = day.row();
+    let mut holds = vec![0; 10];
+    assert_eq!(quick_plan(&day.capacities, &row, &mut holds), answer(0, 45, 0));
+    let eligible: [&[u32]; 7] = [&[], &[], &[1, 5, 7], &[4, 7, 9, 10], &[2, 3, 6, 7, 8, 10], &[2, 6, 7, 10], &[2, 6]];
+    let operates: [&[u32]; 7] = [&[], &[], &[1, 5], &[4, 9], &[3, 8], &[7, 10], &[2, 6]];
+    for period in 1..=7 {
+        let landed: Vec<u32> = day.flights.iter().zip(&holds).filter(|(f, &h)| f.due + h == period).map(|(f, _)| f.number).collect();
+        assert_eq!(landed, operates[period as usize - 1]);
+        let card = period_card(&day.capacities, &row, period);
+        let marked: Vec<u32> = (0..10).filter(|i| card.low >> i & 1 == 1).map(|i| day.flights[i].number).collect();
+        assert_eq!(marked, eligible[period as usize - 1]);
+        assert_eq!((card.number, card.high, card.size as usize), (0, 0, marked.len()));
+    }
+}
