@@ -4,11 +4,11 @@ use mathlib.Core.Path.{_≡_, refl, sym, ap, ap₂, _∙_}
 use mathlib.Core.Logic.{_⊎_, inl, inr, _≢_}
 use mathlib.Core.Bool.{Bool, true, false}
 use Prim.Native.Nat.{ℕ, zero, suc, _+_, _*_, _≤_, _<_, zero-le}
-use native.Mathlib.Nat.{zero-add, suc-add}
+use native.Mathlib.Nat.{zero-add, suc-add, suc-mul}
 use native.Mathlib.Omega.{arith}
 use lib.Dec.{ltb, eqb}
 use Rattle.assignment.specs.Sum.{gate, sum, count}
-use Rattle.assignment.proofs.Tests.{gate-lt, gate-ge, gate-eq, gate-ne, lt?, eq?}
+use Rattle.assignment.proofs.Tests.{gate-le, gate-lt, gate-ge, gate-eq, gate-ne, lt?, eq?}
 
 pub sum-ext : (n : ℕ) (f g : ℕ → ℕ) → ((i : ℕ) → i < n → f i ≡ g i) → sum n f ≡ sum n g
 unfolding sum
@@ -56,6 +56,12 @@ pub sum-zero : (n : ℕ) (f : ℕ → ℕ) → ((i : ℕ) → i < n → f i ≡ 
 unfolding sum
 sum-zero zero f h = refl
 sum-zero (suc n) f h = omega (arith, sum-zero n f (λ i l. h i (omega arith)), h n (omega arith))
+
+-- n terms of at most b
+pub sum-most : (n b : ℕ) (f : ℕ → ℕ) → ((i : ℕ) → i < n → f i ≤ b) → sum n f ≤ n * b
+unfolding sum
+sum-most zero b f h = omega arith
+sum-most (suc n) b f h = omega (arith, suc-mul n b, sum-most n b f (λ i l. h i (omega arith)), h n (omega arith))
 
 -- one term changed
 pub sum-set : (n i : ℕ) (f g : ℕ → ℕ) → i < n → ((j : ℕ) → j < n → j ≢ i → g j ≡ f j) → sum n g + f i ≡ sum n f + g i
@@ -132,6 +138,10 @@ count-suc n x k = refl
 pub count-zero : (x : ℕ → ℕ) (k : ℕ) → count 0 x k ≡ 0
 unfolding count sum
 count-zero x k = refl
+
+pub count-le : (n : ℕ) (x : ℕ → ℕ) (k : ℕ) → count n x k ≤ n
+unfolding count
+count-le n x k = omega (arith, sum-most n 1 (λ i. gate (eqb (x i) k) 1) (λ i l. gate-le (eqb (x i) k) 1 1 (λ _. omega arith)))
 
 pub count-member : (n i k : ℕ) (x : ℕ → ℕ) → i < n → x i ≡ k → 1 ≤ count n x k
 unfolding count

@@ -12,10 +12,10 @@ use lib.Dec.{leb, le→leb}
 use Rattle.assignment.specs.Sum.{gate}
 use Rattle.assignment.specs.Assignment as A
 use Rattle.assignment.proofs.Tests.{lt?, eq?, gate-on, gate-le}
-use Rattle.assignment.proofs.Sums.{sum-le, sum-ones, sum-member, count-ext}
+use Rattle.assignment.proofs.Sums.{sum-most, sum-member, count-ext}
 use Rattle.assignment.proofs.Existence as existence
 use Rattle.day.specs.Day.{Day, P, N, due, limit, land}
-use Rattle.day.specs.Plan.{Legal, Short}
+use Rattle.day.specs.Plan.{Legal, Short, Picked}
 use Rattle.day.proofs.Costs.{latest-missing, latest-given}
 use Rattle.day.proofs.Valid.{Valid}
 use Rattle.day.proofs.Instance.{instance, last, places, places-closing, instance-legal, instance-short, short-has-no-plan}
@@ -84,9 +84,8 @@ module _ {d : Day} (v : Valid d) where
           gate-on (leb a b) (places d b) (le→leb a b stretch),
           ap (places d) e,
           places-closing d,
-          sum-le (N d) (λ i. gate (leb a (due d i) && leb (last d i) b) 1) (λ i. 1)
+          sum-most (N d) 1 (λ i. gate (leb a (due d i) && leb (last d i) b) 1)
               (λ i l. gate-le (leb a (due d i) && leb (last d i) b) 1 1 (λ t. omega arith)),
-          sum-ones (N d) (λ i. 1) (λ i. refl),
           v .flights-to,
         ))
   ]
@@ -108,3 +107,9 @@ module _ {d : Day} (v : Valid d) where
     λ p a b s. short-has-no-plan v s (p .legal),
     λ none. elim plan-or-short [ inl p ↦ p | inr s ↦ absurd (none (s .a) (s .b) (s .short)) ],
   )
+
+-- inside the stretch that answer 9 names no other is short
+pub picked-inside : {d : Day} {a b first last : ℕ} → Picked d a b → Short d first last → a ≤ first → last ≤ b → (first ≡ a) × (last ≡ b)
+picked-inside {b = b} {first = first} {last = last} p s from to =
+    let e : last ≡ b = omega (arith, p .smallest-last first last s) in
+    (omega (arith, p .largest-first first (rw e at s)), e)

@@ -12,8 +12,8 @@ use lib.ListN.{length, getD}
 use lib.Dec.{T, leb, ltb, eqb, leb→le, le→leb}
 use Rattle.assignment.specs.Sum.{gate, sum, count}
 use Rattle.assignment.specs.Assignment as A
-use Rattle.assignment.proofs.Tests.{lt?, eq?, test, gate-on, gate-off, gate-le, gate-lt, gate-ge, gate-eq, gate-ne, and-T, T-and}
-use Rattle.assignment.proofs.Sums.{sum-le, sum-ext, sum-ones, sum-zero}
+use Rattle.assignment.proofs.Tests.{lt?, eq?, test, gate-on, gate-off, gate-lt, gate-ge, gate-eq, gate-ne, and-T, T-and}
+use Rattle.assignment.proofs.Sums.{sum-ext, sum-zero, sum-most, count-le}
 use Rattle.assignment.proofs.Duality as duality
 use Rattle.assignment.proofs.Stretch as stretch
 use Rattle.day.specs.Day.{Day, P, N, due, rate, after, jump, limit, ofPeriod, capacity, cost, latest, Window, hold, land, landings, total}
@@ -71,10 +71,6 @@ pub in-window : {d : Day} {i k : ℕ} → A.In (instance d) i k → Window d i k
 in-window {d} {i} w = record { from = w .from; closing = omega (arith, w .to, last-to d i); limited = omega (arith, w .to, last-latest d i) }
 
 -- ---- counts of landings
-
-count-le : (n : ℕ) (x : ℕ → ℕ) (k : ℕ) → count n x k ≤ n
-unfolding count
-count-le n x k = omega (arith, sum-le n (λ i. gate (eqb (x i) k) 1) (λ _. 1) (λ i l. gate-le (eqb (x i) k) 1 1 (λ _. omega arith)), sum-ones n (λ _. 1) (λ _. refl))
 
 pub count-out : (n : ℕ) (x : ℕ → ℕ) (k : ℕ) → ((i : ℕ) → i < n → x i ≢ k) → count n x k ≡ 0
 unfolding count
@@ -191,12 +187,7 @@ module _ {d : Day} (v : Valid d) where
         | inr under ↦ omega (arith, cost-under d i h under)
       ]
 
-  sum-most : (n : ℕ) (f : ℕ → ℕ) → ((i : ℕ) → i < n → f i ≤ 1960000) → sum n f ≤ n * 1960000
-  unfolding sum
-  sum-most zero f h = omega arith
-  sum-most (suc n) f h = omega (arith, sum-most n f (λ i l. h i (omega arith)), h n (omega arith))
-
   -- "The total is the sum over flights, never above 250,880,000."
   pub total-le : {h : List ℕ} → Legal d h → total d h ≤ 250880000
   unfolding total
-  total-le {h} legal = omega (arith, sum-most (N d) (λ i. cost d i (hold h i)) (λ i l. cost-le i (hold h i) l (hold-le legal l)), v .flights-to)
+  total-le {h} legal = omega (arith, sum-most (N d) 1960000 (λ i. cost d i (hold h i)) (λ i l. cost-le i (hold h i) l (hold-le legal l)), v .flights-to)

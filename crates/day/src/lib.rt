@@ -1,10 +1,10 @@
-// The day in two lent rows: its numbers, its check (refusal 6), costs, and the legality walk (refusal 10).
+// The day in two lent rows: its numbers, its check (refusal 6), and what a hold costs and where it lands.
 ghost use mathlib.Core.Path.{_≡_};
 ghost use mathlib.Core.Bool.{Bool, true, false, _&&_, _||_};
 ghost use Prim.Native.Nat.{ℕ, _+_, _*_, _/_, _^_, _<_, _≤_};
 ghost use lib.ListN.{getD, length};
 ghost use lib.Dec.{leb};
-ghost use Rattle.day.specs.Day.{day, column, width, ofPeriod, cost, latest, all, inside, missing, valid, inRange, isNew};
+ghost use Rattle.day.specs.Day.{day, column, width, ofPeriod, land, cost, latest, all, inside, missing, valid, inRange, isNew};
 
 pub fn wide(x: u32) -> usize
     ensures { λ r. ⌜ r ≡ x ⌝ }
@@ -85,6 +85,14 @@ pub fn of_period(row: &[u32], k: usize) -> usize
         return wide(row[at]);
     }
     0
+}
+
+// The period in which the flight at table place i lands.
+pub fn land_of(capacities: &[u32], flights: &[u32], holds: &[u32], i: usize) -> usize
+    requires { ⌜ (i < length (now holds)) × ((i + 1) * width ≤ length (now flights)) ⌝ }
+    ensures { λ r. ⌜ (r ≡ land (day (now (capacities .entry)) (now (flights .entry))) (now (holds .entry)) i) × (r < 2 ^ 33) ⌝ }
+{
+    due_of(flights, i) + wide(holds[i])
 }
 
 // What a hold of the flight at table place i costs. Columns and holds are of 32 bits, so the sum fits.

@@ -56,7 +56,7 @@ module _ (d : Day) (h p : List ℕ) where
             }))
 
 pub can-insert : (c f h p : List ℕ) → valid (day c f) ≡ true → {n : ℕ} → n ≡ N (day c f) → length h ≡ n → length p ≡ P (day c f)
-    → ((a b : ℕ) → Short (day c f) a b → ⊥) → insertion.CanInsert c f h p
+    → ((a b : ℕ) → Short (day c f) a b → ⊥) → insertion.CanInsert (day c f) h p
 can-insert c f h p good count holds prices clear = record {
   valid = valid-means good;
   none-short = clear;

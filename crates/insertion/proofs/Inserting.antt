@@ -1,30 +1,30 @@
 -- The steps of `insert`.
 -- Assumes nothing.
-use mathlib.Core.Path.{_≡_, refl, sym, ap, _∙_}
+use mathlib.Core.Path.{_≡_, refl, ap, _∙_}
 use mathlib.Core.Logic.{_⊎_, inl, inr, _≢_}
 use mathlib.Core.List.{List}
-use Prim.Native.Nat.{ℕ, zero, suc, _+_, _-_, _*_, _≤_, _<_, min}
+use Prim.Native.Nat.{ℕ, suc, _+_, _-_, _*_, _≤_, _<_, min}
 use native.Mathlib.Nat.{mul-le-mul-left}
 use native.Mathlib.Omega.{arith}
-use lib.Dec.{ltb, eqb}
-use lib.ListN.{getD, length, set, length-set, replicate, length-replicate}
-use Rattle.assignment.specs.Sum.{gate, sum, count}
+use lib.Dec.{ltb}
+use lib.ListN.{getD, length, set, replicate, length-replicate}
+use Rattle.assignment.specs.Sum.{gate, count}
 use Rattle.assignment.specs.Assignment as A
-use Rattle.assignment.proofs.Tests.{eq?, lt?, gate-le, gate-lt, gate-ge, gate-eq, gate-ne}
-use Rattle.assignment.proofs.Sums.{sum-le, sum-ones}
+use Rattle.assignment.proofs.Tests.{eq?, lt?, gate-lt, gate-ge}
+use Rattle.assignment.proofs.Sums.{sum-most, count-le}
 use Rattle.assignment.proofs.Moves.{Moved}
 use Rattle.assignment.proofs.Near.{Step}
-use Rattle.assignment.proofs.Insertion.{Sound, Found, price-le, going, ground, order as reach-order, z-free, going-end, going-count, going-total}
+use Rattle.assignment.proofs.Insertion.{Sound, Found, price-le, going, ground, order as reach-order, z-free, going-end, going-total, sound-ext, total-ext}
 use Rattle.assignment.proofs.Permuted.{permuted-short}
 use Rattle.assignment.proofs.Restricted.{Rising, until-near, until-le, restricted, restrict, widen, widen-short}
-use Rattle.day.specs.Day.{Day, day, width, P, N, due, rate, after, jump, limit, latest, cost}
+use Rattle.day.specs.Day.{Day, width, P, N, ofPeriod, due, rate, after, jump, limit, latest, cost}
 use Rattle.day.proofs.Costs.{latest-missing, latest-given}
 use Rattle.day.proofs.Instance.{instance, last, last-to, places, places-in, places-closing, cost-le, instance-short}
 use Rattle.path.specs.Path.{el, far, away, scope, Table, Scene, CanOffer, Offers, CanSearch, Searched}
 use Rattle.path.proofs.Rows.{set-moved, as-read}
-use Rattle.path.proofs.Reaching.{search-start}
+use Rattle.path.proofs.Reaching.{blank, search-start}
 use Rattle.path.proofs.Expanding.{stands, until-target}
-use Rattle.insertion.specs.Insertion.{begun, CanFind, FirstRoom, CanRaise, Raised, Linked, CanWalk, Arrived, Walked, Placed, Inserted, cost-of-placed}
+use Rattle.insertion.specs.Insertion.{begun, landing, Placed, cost-of-placed, CanList, Listed, CanFind, FirstRoom, Linked, CanWalk, Arrived, Walked, CanRaise, Raised, Inserted}
 
 -- ---- the numbers of a day
 
@@ -50,137 +50,125 @@ module _ (d : Day) (i : ℕ) where
     | inr e ↦ omega (arith, latest-given d i e)
   ]
 
-pub count-le : (n : ℕ) (x : ℕ → ℕ) (k : ℕ) → count n x k ≤ n
-unfolding count
-count-le n x k = omega (
-  arith,
-  sum-le n (λ i. gate (eqb (x i) k) 1) (λ _. 1) (λ i l. gate-le (eqb (x i) k) 1 1 (λ _. omega arith)),
-  sum-ones n (λ _. 1) (λ _. refl),
-)
-
-sum-most : (n : ℕ) (f : ℕ → ℕ) → ((i : ℕ) → i < n → f i ≤ 1960000) → sum n f ≤ n * 1960000
-unfolding sum
-sum-most zero f h = omega arith
-sum-most (suc n) f h = omega (arith, sum-most n f (λ i l. h i (omega arith)), h n (omega arith))
-
 -- a restriction changes no cost
 same-total : (d : A.Instance) (target : ℕ) (x : ℕ → ℕ) → A.total (restricted d target) x ≡ A.total d x
 unfolding A.total
 same-total d target x = refl
 
-module _ {capacities flights order : List ℕ} (t : Table (day capacities flights) order) where
-  in-table : (s : ℕ) → s < N (day capacities flights) → el order s < N (day capacities flights)
+module _ {d : Day} {order : List ℕ} (t : Table d order) where
+  in-table : (s : ℕ) → s < N d → el order s < N d
   in-table s l = t .by-due .permuted .below s l
 
-  place-cost : (s k : ℕ) → s < N (day capacities flights) → k ≤ last (day capacities flights) (el order s)
-      → cost (day capacities flights) (el order s) (k - due (day capacities flights) (el order s)) ≤ 1960000
-  place-cost s k l to = cost-le (t .valid) (el order s) (k - due (day capacities flights) (el order s)) (in-table s l) (omega (
+  place-cost : (s k : ℕ) → s < N d → k ≤ last d (el order s) → cost d (el order s) (k - due d (el order s)) ≤ 1960000
+  place-cost s k l to = cost-le (t .valid) (el order s) (k - due d (el order s)) (in-table s l) (omega (
     arith,
-    last-to (day capacities flights) (el order s),
+    last-to d (el order s),
     t .valid .flight (el order s) (in-table s l) .due-from,
     t .valid .periods-to,
   ))
 
-  pub rising : (n : ℕ) → n ≤ N (day capacities flights) → Rising (begun capacities flights order n)
+  pub rising : (n : ℕ) → n ≤ N d → Rising (begun d order n)
   rising n l = record {
-    dearer = λ s j k b v w less. cost-less (day capacities flights) (el order s) _ _
+    dearer = λ s j k b v w less. cost-less d (el order s) _ _
         (t .valid .flight (el order s) (in-table s (omega arith)) .rate-from) (omega (arith, v .from));
   }
 
-module _ {capacities flights order lands price loads : List ℕ} {n : ℕ} (s : Placed capacities flights order lands price loads n) where
   -- "never above 250,880,000"
-  pub placed-total : cost-of-placed capacities flights order lands n ≤ 250880000
+  pub sound-total : {n : ℕ} {x q : ℕ → ℕ} → n ≤ N d → Sound (begun d order n) x q → A.total (begun d order n) x ≤ 250880000
   unfolding A.total
-  placed-total = omega (
+  sound-total {n} {x} upto sound = omega (
     arith,
-    s .upto,
-    s .table .valid .flights-to,
-    sum-most n (λ o. cost (day capacities flights) (el order o) (el lands o - due (day capacities flights) (el order o))) (λ o l.
-        place-cost (s .table) o (el lands o) (omega (arith, s .upto)) (s .sound .accepted .legal .window o l .to)),
+    t .valid .flights-to,
+    sum-most n 1960000 (λ o. cost d (el order o) (x o - due d (el order o))) (λ o l. place-cost o (x o) (omega arith) (sound .accepted .legal .window o l .to)),
   )
 
-  pub placed-low : (k : ℕ) → el price k ≤ 250880000
+module _ {d : Day} {order holds prices : List ℕ} {n : ℕ} (s : Placed d order holds prices n) where
+  pub placed-total : cost-of-placed d order holds n ≤ 250880000
+  placed-total = sound-total (s .table) (s .upto) (s .sound)
+
+  placed-low : (k : ℕ) → ofPeriod prices k ≤ 250880000
   placed-low k = omega (arith, placed-total, price-le (s .sound) k)
 
-  module _ (l : n < N (day capacities flights)) where
-    pub insert-room : (n < length order) × (n < 128) × (n < length lands)
-    insert-room = omega (arith, s .table .by-due .row, s .table .valid .flights-to, s .lands-row)
+  module _ (l : n < N d) where
+    pub insert-list : CanList d order holds (replicate 128 0) (replicate 98 0) n
+    insert-list = record {
+      table = s .table;
+      upto = s .upto;
+      holds-row = s .holds-row;
+      lands-row = length-replicate {A = ℕ} 128 0;
+      loads-row = length-replicate {A = ℕ} 98 0;
+      empty = blank 98;
+      in-day = λ o b. omega (arith, s .sound .accepted .legal .window o b .to, last-to d (el order o), s .table .valid .periods-to);
+    }
 
-    module _ {i : ℕ} (i-is : i ≡ getD order n 0) where
-      pub insert-stands : (i + 1) * width ≤ length flights
+    pub insert-room : (n < length order) × (n < 128)
+    insert-room = omega (arith, s .table .by-due .row, s .table .valid .flights-to)
+
+    module _ {lands loads : List ℕ} (g : Listed d order holds lands loads n) (lands-row : length lands ≡ 128) (loads-row : length loads ≡ 98)
+        {i : ℕ} (i-is : i ≡ getD order n 0) where
+      -- the plan, as it is listed
+      listed : Sound (begun d order n) (el lands) (ofPeriod prices)
+      listed = sound-ext (begun d order n) (landing d order holds) (el lands) (g .lands-are) (s .sound)
+
+      pub insert-stands : (i + 1) * width ≤ length (d .flights)
       insert-stands = stands (s .table) i (omega (arith, in-table (s .table) n l))
 
-      module _ {first : ℕ} (first-is : first ≡ due (day capacities flights) i) where
-        first-at : first ≡ due (day capacities flights) (getD order n 0)
+      module _ {first : ℕ} (first-is : first ≡ due d i) where
+        first-at : first ≡ due d (getD order n 0)
         first-at = rw i-is at first-is
 
-        pub insert-find : CanFind capacities loads first
+        pub insert-find : CanFind (d .capacities) loads first
         insert-find =
             let f = s .table .valid .flight (el order n) (in-table (s .table) n l) in
             record {
               few = s .table .valid .periods-to;
-              rows = s .loads-row;
+              rows = loads-row;
               from = omega (arith, first-at, f .due-from);
               to = omega (arith, first-at, f .due-to);
             }
 
-        module _ {target : ℕ} (room : FirstRoom capacities loads first target) where
-          free : count n (el lands) target < places (day capacities flights) target
-          free = elim (lt? (length capacities) target) [
-            | inr in-day ↦ omega (
-              arith,
-              places-in (day capacities flights) target in-day,
-              room .free in-day,
-              s .loads-are target (omega (arith, s .table .valid .periods-to)),
-            )
+        module _ {target : ℕ} (room : FirstRoom (d .capacities) loads first target) where
+          pub insert-within : target < 98
+          insert-within = omega (arith, room .to, s .table .valid .periods-to)
+
+          free : count n (el lands) target < places d target
+          free = elim (lt? (P d) target) [
+            | inr in-day ↦ omega (arith, places-in d target in-day, room .free in-day, g .loads-are target insert-within)
             | inl closing ↦
-                let e : target ≡ length capacities + 1 = omega (arith, room .to) in
-                rw e (omega (arith, places-closing (day capacities flights), count-le n (el lands) (length capacities + 1), insert-room))
+                let e : target ≡ P d + 1 = omega (arith, room .to) in
+                rw e (omega (arith, places-closing d, count-le n (el lands) (P d + 1), insert-room))
           ]
 
-          none : el price target ≡ 0
-          none = s .sound .accepted .unsold target free
-
-          pub insert-scene : Scene (scope capacities flights order n target) (el lands) (el price) target
+          pub insert-scene : Scene (scope d order n target) (el lands) (ofPeriod prices) target
           insert-scene =
-              let near : due (day capacities flights) (el order n) ≤ target = omega (arith, first-at, room .from) in
+              let near : due d (el order n) ≤ target = omega (arith, first-at, room .from) in
               let f = s .table .valid .flight (el order n) (in-table (s .table) n l) in
               record {
-                sound = restrict (begun capacities flights order n) target (rising (s .table) n (s .upto)) none (s .sound);
+                sound = restrict (begun d order n) target (rising (s .table) n (s .upto)) (listed .accepted .unsold target free) listed;
                 periods = omega (arith, s .table .valid .periods-to);
                 pays = λ o k b w. omega (
                   arith,
-                  place-cost (s .table) o k (omega arith) (omega (arith, w .to, until-le target (due (day capacities flights) (el order o)) (last (day capacities flights) (el order o)))),
+                  place-cost (s .table) o k (omega arith) (omega (arith, w .to, until-le target (due d (el order o)) (last d (el order o)))),
                   placed-low k,
                 );
                 floor = λ o b. s .table .by-due .falling o n (omega arith) l;
-                ceiling = λ o b low. omega (arith, until-near (last (day capacities flights) (el order o)) low);
+                ceiling = λ o b low. omega (arith, until-near (last d (el order o)) low);
                 from = f .due-from;
-                some = omega (
-                  arith,
-                  until-near (last (day capacities flights) (el order n)) near,
-                  due-latest (day capacities flights) (el order n) (f .due-to),
-                  first-at,
-                  room .from,
-                );
+                some = omega (arith, until-near (last d (el order n)) near, due-latest d (el order n) (f .due-to), first-at, room .from);
                 before = near;
                 within = omega (arith, room .to);
                 full = λ k a b. omega (
                   arith,
-                  places-in (day capacities flights) k (omega (arith, room .to)),
+                  places-in d k (omega (arith, room .to)),
                   room .full k (omega (arith, first-at)) b,
-                  s .loads-are k (omega (arith, room .to, s .table .valid .periods-to)),
+                  g .loads-are k (omega (arith, insert-within)),
                 );
                 free = free;
-                none-short = λ a b from stretch less short. s .none-short a b (instance-short (day capacities flights) a b (omega (arith, room .to)) from stretch
-                    (permuted-short (instance (day capacities flights)) (s .table .by-due .permuted) l
-                    (widen-short (begun capacities flights order (suc n)) target less short)));
+                none-short = λ a b from stretch less short. s .none-short a b (instance-short d a b (omega (arith, room .to)) from stretch
+                    (permuted-short (instance d) (s .table .by-due .permuted) l (widen-short (begun d order (suc n)) target less short)));
               }
 
-          pub insert-within : target < 98
-          insert-within = omega (arith, room .to, s .table .valid .periods-to)
-
-          pub insert-offer : CanOffer (day capacities flights) price (replicate 98 4611686018427387904) (replicate 98 n) target i 0 0
+          pub insert-offer : CanOffer d prices (replicate 98 4611686018427387904) (replicate 98 n) target i 0 0
           insert-offer =
               let f = s .table .valid .flight i (rw (← i-is) at (in-table (s .table) n l)) in
               record {
@@ -189,65 +177,40 @@ module _ {capacities flights order lands price loads : List ℕ} {n : ℕ} (s : 
                 rates = f .rate-to;
                 jumps = f .jump-to;
                 within = insert-within;
-                prices = s .price-row;
                 dists = length-replicate {A = ℕ} 98 far;
                 vias = length-replicate {A = ℕ} 98 n;
                 low = omega arith;
                 pays = λ k a b. (omega arith, rw i-is (omega (arith, pay k (rw i-is at b), placed-low k)));
               }
             where
-              pay : (k : ℕ) → k ≤ min (latest (day capacities flights) (el order n)) target
-                  → cost (day capacities flights) (el order n) (k - due (day capacities flights) (el order n)) ≤ 1960000
+              pay : (k : ℕ) → k ≤ min (latest d (el order n)) target → cost d (el order n) (k - due d (el order n)) ≤ 1960000
               pay k b = place-cost (s .table) n k l (omega (
                 arith,
-                until-target (day capacities flights) (el order n) target (room .to) (omega (arith, first-at, room .from)),
-                until-le target (due (day capacities flights) (el order n)) (last (day capacities flights) (el order n)),
+                until-target d (el order n) target (room .to) (omega (arith, first-at, room .from)),
+                until-le target (due d (el order n)) (last d (el order n)),
               ))
 
           pub insert-search : {dist via : List ℕ} → length dist ≡ length (replicate {A = ℕ} 98 4611686018427387904) → length via ≡ length (replicate {A = ℕ} 98 n)
-              → Offers (day capacities flights) price target i n 0 0 (replicate 98 4611686018427387904) dist (replicate 98 n) via
-              → CanSearch capacities flights order lands price dist (replicate 98 0) via n first target
+              → Offers d prices target i n 0 0 (replicate 98 4611686018427387904) dist (replicate 98 n) via
+              → CanSearch d order lands prices dist (replicate 98 0) via n first target
           insert-search {dist} {via} dists vias o = record {
             table = s .table;
             scene = insert-scene;
             upto = l;
-            lands-room = omega (arith, insert-room);
-            prices = s .price-row;
-            so-far = search-start dist via insert-scene
-                (until-target (day capacities flights) (el order n) target (room .to) (omega (arith, first-at, room .from))) (dists ∙ length-replicate {A = ℕ} 98 far)
-                (vias ∙ length-replicate {A = ℕ} 98 n) (rw i-is at o);
+            lands-room = omega (arith, insert-room, lands-row);
+            so-far = search-start dist via insert-scene (until-target d (el order n) target (room .to) (omega (arith, first-at, room .from)))
+                (dists ∙ length-replicate {A = ℕ} 98 far) (vias ∙ length-replicate {A = ℕ} 98 n) (rw i-is at o);
             first-is = first-at;
           }
 
-          module _ {dist rank via : List ℕ} (h : Searched (scope capacities flights order n target) (el lands) (el price) target dist rank via) where
+          module _ {dist rank via : List ℕ} (h : Searched (scope d order n target) (el lands) (ofPeriod prices) target dist rank via) where
             fresh : el rank target ≡ 0
             fresh = elim (lt? 0 (el rank target)) [ inl some ↦ absurd (omega (arith, h .so-far .reached target some)) | inr e ↦ omega arith ]
 
-            pub insert-rows : (target < length dist) × (target < length rank) × (target < length loads)
-            insert-rows = omega (arith, insert-within, h .so-far .rows .dists, h .so-far .rows .ranks, s .loads-row)
+            pub insert-rows : (target < length dist) × (target < length rank) × (target < 98)
+            insert-rows = omega (arith, insert-within, h .so-far .rows .dists, h .so-far .rows .ranks)
 
-            -- outside the searched periods all is far
-            outside : (k : ℕ) → (k < first) ⊎ (target < k) → away dist target ≤ away dist k
-            outside k out = elim (lt? (away dist k) far) [
-              | inr beyond ↦ omega (arith, h .near)
-              | inl near ↦ absurd (elim out [
-                | inl a ↦ omega (arith, first-at, h .so-far .inside k near)
-                | inr a ↦ omega (arith, h .so-far .inside k near)
-              ])
-            ]
-
-            pub insert-raise : CanRaise price dist first target
-            insert-raise = record {
-              prices = s .price-row;
-              dists = h .so-far .rows .dists;
-              within = insert-within;
-              low = λ k. omega (arith, placed-low k);
-              near = h .near;
-              before = λ k a. outside k (inl a);
-              behind = λ k a. outside k (inr a);
-            }
-
-            found : Found (scope capacities flights order n target) (el lands) (el price) (h .so-far .root) (away dist) (el rank) (el via) (h .t) (away dist target) target
+            found : Found (scope d order n target) (el lands) (ofPeriod prices) (h .so-far .root) (away dist) (el rank) (el via) (h .t) (away dist target) target
             found = record {
               near = h .so-far .near;
               fresh = fresh;
@@ -259,11 +222,14 @@ module _ {capacities flights order lands price loads : List ℕ} {n : ℕ} (s : 
               reach = h .so-far .reach;
             }
 
-            pub insert-walk : CanWalk lands (set rank target 99) via n target
+            pub insert-walk : CanWalk d order lands holds (set rank target 99) via n target
             insert-walk = record {
-              room = insert-room .2;
-              small = insert-room .1;
+              table = s .table;
+              upto = l;
+              holds-row = s .holds-row;
+              lands-row = lands-row;
               vias = h .so-far .rows .vias;
+              lands-are = g .lands-are;
               within = insert-within;
               some = omega (arith, v .here);
               chain = λ k b some low. linked k some (h .so-far .near .how k);
@@ -272,88 +238,113 @@ module _ {capacities flights order lands price loads : List ℕ} {n : ℕ} (s : 
                 v : Moved (el rank) (el (set rank target 99)) target 99
                 v = set-moved rank target 99 (insert-rows .1)
 
+                k-in : (k : ℕ) → 0 < el (set rank target 99) k → (k ≤ P d + 1) × (away dist k < far)
+                k-in k some = elim (eq? k target) [
+                  | inl e ↦ rw e (room .to, h .near)
+                  | inr e ↦
+                      let at = h .so-far .reached k (omega (arith, v .others k e)) in
+                      (omega (arith, room .to, at .1), omega (arith, at .2, h .so-far .zeros))
+                ]
+
                 -- what the search reached from k keeps its rank
                 linked : (k : ℕ) → 0 < el (set rank target 99) k
-                    → ((away dist k ≡ h .so-far .root k) × (k < P (day capacities flights) + 2 → el via k ≡ n))
-                    ⊎ Step (scope capacities flights order n target) (el lands) (el price) (away dist) (el rank) k (el via k)
-                    → Linked lands (set rank target 99) via n k
+                    → ((away dist k ≡ h .so-far .root k) × (k < P d + 2 → el via k ≡ n))
+                    ⊎ Step (scope d order n target) (el lands) (ofPeriod prices) (away dist) (el rank) k (el via k)
+                    → Linked d order lands (set rank target 99) via n k
                 linked k some how = elim how [
-                  | inl e ↦ inl (e .1 (omega (arith, k-in k some)))
+                  | inl e ↦
+                      let new = e .1 (omega (arith, k-in k some .0)) in
+                      record { due-by = rw new (h .so-far .rooted k (omega (arith, e .0, k-in k some .1)) .0 .from); flight = inl new }
                   | inr a ↦
                       let other : el lands (el via k) ≢ target = λ f. omega (arith, a .from, fresh, ap (el rank) f) in
                       let same = v .others (el lands (el via k)) other in
                       let at = h .so-far .reached (el lands (el via k)) (a .from) in
-                      inr (record {
-                        who = a .who;
-                        in-day = omega (arith, at .1, insert-within);
-                        some = omega (arith, same, a .from);
-                        lower = elim (eq? k target) [
-                          | inl e ↦ omega (arith, same, ap (el (set rank target 99)) e, v .here, h .so-far .near .top (el lands (el via k)), h .so-far .zeros)
-                          | inr e ↦ omega (arith, same, v .others k e, a .lower (omega (arith, v .others k e)))
-                        ];
-                      })
+                      record {
+                        due-by = a .fits .from;
+                        flight = inr (record {
+                          who = a .who;
+                          in-day = omega (arith, at .1, insert-within);
+                          some = omega (arith, same, a .from);
+                          lower = elim (eq? k target) [
+                            | inl e ↦ omega (arith, same, ap (el (set rank target 99)) e, v .here, h .so-far .near .top (el lands (el via k)), h .so-far .zeros)
+                            | inr e ↦ omega (arith, same, v .others k e, a .lower (omega (arith, v .others k e)))
+                          ];
+                        });
+                      }
                 ]
-                  where
-                    k-in : (k : ℕ) → 0 < el (set rank target 99) k → k ≤ length capacities + 1
-                    k-in k some = elim (eq? k target) [
-                      | inl e ↦ omega (arith, room .to)
-                      | inr e ↦ omega (arith, room .to, h .so-far .reached k (omega (arith, v .others k e)))
-                    ]
 
-            module _ {price₂ lands₂ : List ℕ} (r : Raised price price₂ dist target) (w : Walked lands lands₂ via n target)
-                (lands-same : length lands₂ ≡ length lands) (price-same : length price₂ ≡ length price) where
-              f : Found (scope capacities flights order n target) (el lands) (el price) (h .so-far .root) (away dist) (el rank) (el via) (h .t) (away dist target) target
+            module _ {holds₂ : List ℕ} (w : Walked d order lands holds₂ via n target) where
+              f : Found (scope d order n target) (el lands) (ofPeriod prices) (h .so-far .root) (away dist) (el rank) (el via) (h .t) (away dist target) target
               f = found
 
-              narrow : Sound (scope capacities flights order n target) (el lands) (el price)
+              narrow : Sound (scope d order n target) (el lands) (ofPeriod prices)
               narrow = insert-scene .sound
 
-              arrived : Arrived (scope capacities flights order n target) (el lands) (el lands₂) (el price₂) (reach-order f narrow (r .rise)) (el via) (away dist target) target
-              arrived = w .keeps (scope capacities flights order n target) (el price₂) (reach-order f narrow (r .rise)) (away dist target) refl (going f narrow (r .rise))
+              -- whatever prices are higher by what their periods are nearer than the target
+              module _ {q : ℕ → ℕ} (rise : (k : ℕ) → q k ≡ ofPeriod prices k + (away dist target - away dist k)) where
+                arrived : Arrived (scope d order n target) (el lands) (w .y) q (reach-order f narrow rise) (el via) (away dist target) target
+                arrived = w .keeps (scope d order n target) q (reach-order f narrow rise) (away dist target) refl (going f narrow rise)
 
-              counted : (k : ℕ) → count (suc n) (el lands₂) k ≡ count n (el lands) k + gate (eqb target k) 1
-              counted k = going-count (arrived .going) (ground f narrow (r .rise)) (arrived .new) (arrived .last) k
+                whole : Sound (begun d order (suc n)) (w .y) q
+                whole = widen (begun d order (suc n)) target (rising (s .table) (suc n) l) (z-free f narrow rise)
+                    (going-end (arrived .going) (ground f narrow rise) (arrived .new) (arrived .last))
 
-              pub insert-few : getD loads target 0 + 1 ≤ 200
-              insert-few = omega (arith, s .loads-are target insert-within, count-le n (el lands) target, insert-room)
+                adds : A.total (begun d order (suc n)) (w .y) ≡ cost-of-placed d order holds n + away dist target
+                adds = omega (
+                  arith,
+                  same-total (begun d order (suc n)) target (w .y),
+                  same-total (begun d order n) target (el lands),
+                  total-ext (begun d order n) (landing d order holds) (el lands) (g .lands-are),
+                  going-total (arrived .going) (ground f narrow rise) (arrived .new) (arrived .last) (z-free f narrow rise),
+                )
 
-              pub insert-end : {added : ℕ} → added ≡ getD dist target 0
-                  → Inserted capacities flights order lands lands₂ price₂ (set loads target (getD loads target 0 + 1)) n added
-              insert-end {added} e = record {
-                placed = record {
-                  table = s .table;
-                  none-short = s .none-short;
-                  upto = omega arith;
-                  lands-row = lands-same ∙ s .lands-row;
-                  price-row = price-same ∙ s .price-row;
-                  loads-row = length-set loads target (getD loads target 0 + 1) ∙ s .loads-row;
-                  sound = rw next at whole;
-                  loads-are = λ k b. rw next at (loaded k b);
-                };
-                adds = rw next at added-up;
+              -- outside the searched periods all is far
+              outside : (k : ℕ) → (k < first) ⊎ (target < k) → away dist target ≤ away dist k
+              outside k out = elim (lt? (away dist k) far) [
+                | inr beyond ↦ omega (arith, h .near)
+                | inl near ↦ absurd (elim out [
+                  | inl a ↦ omega (arith, first-at, h .so-far .inside k near)
+                  | inr a ↦ omega (arith, h .so-far .inside k near)
+                ])
+              ]
+
+              -- no price of a sound plan is above its total, so that the raised ones fit
+              pub insert-raise : CanRaise prices dist first target
+              insert-raise = record {
+                few = omega (arith, s .prices-row, s .table .valid .periods-to);
+                dists = h .so-far .rows .dists;
+                from = insert-find .from;
+                to = omega (arith, room .to, s .prices-row);
+                low = λ k. omega (arith, price-le (whole (λ j. refl)) k, sound-total (s .table) l (whole (λ j. refl)));
+                before = λ k a. outside k (inl a);
+                behind = λ k a. outside k (inr a);
               }
-                where
-                  next : suc n ≡ n + 1
-                  next = omega arith
 
-                  v : Moved (el loads) (el (set loads target (getD loads target 0 + 1))) target (getD loads target 0 + 1)
-                  v = set-moved loads target (getD loads target 0 + 1) (insert-rows .2)
+              module _ {prices₂ : List ℕ} (r : Raised prices prices₂ dist target) (holds-same : length holds₂ ≡ length holds)
+                  (prices-same : length prices₂ ≡ length prices) where
+                pub insert-end : {added : ℕ} → added ≡ getD dist target 0 → Inserted d order holds holds₂ prices₂ n added
+                insert-end {added} e = record {
+                  placed = record {
+                    table = s .table;
+                    none-short = s .none-short;
+                    upto = omega arith;
+                    holds-row = holds-same ∙ s .holds-row;
+                    prices-row = prices-same ∙ s .prices-row;
+                    sound = rw next at (sound-ext (begun d order (suc n)) (w .y) (landing d order holds₂) stored (whole (r .rise)));
+                  };
+                  adds = rw next at added-up;
+                }
+                  where
+                    next : suc n ≡ n + 1
+                    next = omega arith
 
-                  whole : Sound (begun capacities flights order (suc n)) (el lands₂) (el price₂)
-                  whole = widen (begun capacities flights order (suc n)) target (rising (s .table) (suc n) l) (z-free f narrow (r .rise))
-                      (going-end (arrived .going) (ground f narrow (r .rise)) (arrived .new) (arrived .last))
+                    stored : (o : ℕ) → o < suc n → landing d order holds₂ o ≡ w .y o
+                    stored o b = omega (arith, w .lands-are o b)
 
-                  loaded : (k : ℕ) → k < 98 → el (set loads target (getD loads target 0 + 1)) k ≡ count (suc n) (el lands₂) k
-                  loaded k b = elim (eq? k target) [
-                    | inl g ↦ rw g (omega (arith, v .here, counted target, gate-eq target target 1 refl, s .loads-are target insert-within))
-                    | inr g ↦ omega (arith, v .others k g, counted k, gate-ne target k 1 (λ z. g (sym z)), s .loads-are k b)
-                  ]
-
-                  added-up : cost-of-placed capacities flights order lands₂ (suc n) ≡ cost-of-placed capacities flights order lands n + added
-                  added-up = omega (
-                    arith,
-                    same-total (begun capacities flights order (suc n)) target (el lands₂),
-                    same-total (begun capacities flights order n) target (el lands),
-                    going-total (arrived .going) (ground f narrow (r .rise)) (arrived .new) (arrived .last) (z-free f narrow (r .rise)),
-                    as-read dist target (insert-rows .0),
-                  )
+                    added-up : cost-of-placed d order holds₂ (suc n) ≡ cost-of-placed d order holds n + added
+                    added-up = omega (
+                      arith,
+                      total-ext (begun d order (suc n)) (w .y) (landing d order holds₂) stored,
+                      adds (r .rise),
+                      as-read dist target (insert-rows .0),
+                    )

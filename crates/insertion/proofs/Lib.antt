@@ -1,3 +1,3 @@
 pub mod Steps
 pub mod Inserting
-pub mod Storing
+pub mod Building

@@ -1,19 +1,106 @@
--- The loops of `first_with_room`, `raise` and `walk`.
+-- The loops of `list_landings`, `first_with_room`, `walk`, `raise` and `clear`.
 -- Assumes nothing.
 use mathlib.Core.Path.{_≡_, refl, sym, ap, _∙_}
 use mathlib.Core.Logic.{inl, inr, _≢_}
-use mathlib.Core.List.{List}
-use Prim.Native.Nat.{ℕ, _+_, _-_, _≤_, _<_}
+use mathlib.Core.List.{List, _∷_}
+use Prim.Native.Nat.{ℕ, zero, suc, _+_, _-_, _*_, _≤_, _<_}
 use native.Mathlib.Omega.{arith}
+use lib.Dec.{eqb}
 use lib.ListN.{getD, length, set, length-set}
+use Rattle.assignment.specs.Sum.{gate, count}
 use Rattle.assignment.specs.Assignment.{Instance}
-use Rattle.assignment.proofs.Tests.{eq?, lt?}
-use Rattle.assignment.proofs.Moves.{Moved}
+use Rattle.assignment.proofs.Tests.{eq?, lt?, gate-eq, gate-ne}
+use Rattle.assignment.proofs.Sums.{count-suc, count-zero, count-ext, count-le}
+use Rattle.assignment.proofs.Moves.{Moved, put, put-moved}
 use Rattle.assignment.proofs.Insertion.{Going, going-step}
-use Rattle.day.specs.Day.{ofPeriod}
-use Rattle.path.specs.Path.{el, far, away}
+use Rattle.assignment.proofs.Permuted.{permuted-apart}
+use Rattle.day.specs.Day.{Day, P, N, width, ofPeriod, due, land}
+use Rattle.day.proofs.Costs.{period-out}
+use Rattle.path.specs.Path.{el, away, Table}
 use Rattle.path.proofs.Rows.{set-moved, as-read}
-use Rattle.insertion.specs.Insertion.{CanFind, FirstRoom, CanRaise, Raised, Hop, Linked, CanWalk, Walked}
+use Rattle.path.proofs.Expanding.{stands}
+use Rattle.insertion.specs.Insertion.{landing, CanList, Listed, CanFind, FirstRoom, Hop, Linked, CanWalk, Walked, CanRaise, Raised, Cleared}
+
+-- ---- list_landings
+
+-- the first s flights are listed
+pub record Listing (d : Day) (order holds lands₀ lands loads₀ loads : List ℕ) (n s : ℕ) : Type 0 where
+  pub can : CanList d order holds lands₀ loads₀ n
+  pub same-lands : length lands ≡ length lands₀
+  pub same-loads : length loads ≡ length loads₀
+  pub upto : s ≤ n
+  pub done : (o : ℕ) → o < s → el lands o ≡ landing d order holds o
+  pub counted : (k : ℕ) → k < 98 → el loads k ≡ count s (el lands) k
+
+pub listing-start : {d : Day} {order holds lands loads : List ℕ} {n : ℕ} → CanList d order holds lands loads n
+    → Listing d order holds lands lands loads loads n 0
+listing-start {lands = lands} c = record {
+  can = c;
+  same-lands = refl;
+  same-loads = refl;
+  upto = omega arith;
+  done = λ o l. absurd (omega arith);
+  counted = λ k _. c .empty k ∙ sym (count-zero (el lands) k);
+}
+
+module _ {d : Day} {order holds lands₀ lands loads₀ loads : List ℕ} {n s : ℕ} (w : Listing d order holds lands₀ lands loads₀ loads n s) where
+  pub listing-end : n ≤ s → Listed d order holds lands loads n
+  listing-end l =
+      let e : s ≡ n = omega (arith, w .upto) in
+      record { lands-are = λ o b. w .done o (omega arith); loads-are = λ k b. rw e at (w .counted k b) }
+
+  module _ (l : s < n) where
+    pub listing-room : (s < length order) × (s < length lands) × (s < 128)
+    listing-room = omega (arith, w .can .upto, w .can .table .by-due .row, w .can .table .valid .flights-to, w .same-lands, w .can .lands-row)
+
+    module _ {i : ℕ} (i-is : i ≡ getD order s 0) where
+      in-table : i < N d
+      in-table = omega (arith, w .can .table .by-due .permuted .below s (omega (arith, w .can .upto)))
+
+      pub listing-stands : (i < length holds) × ((i + 1) * width ≤ length (d .flights))
+      listing-stands = (omega (arith, in-table, w .can .holds-row), stands (w .can .table) i in-table)
+
+      module _ {k : ℕ} (k-is : k ≡ land d holds i) where
+        lands-there : k ≡ landing d order holds s
+        lands-there = rw i-is at k-is
+
+        pub listing-in : (k < length loads) × (k < 98) × (getD loads k 0 ≤ 128)
+        listing-in =
+            let low : k < 98 = omega (arith, lands-there, w .can .in-day s l) in
+            omega (arith, low, w .same-loads, w .can .loads-row, w .counted k low, count-le s (el lands) k, listing-room)
+
+        pub listing-next : Listing d order holds lands₀ (set lands s k) loads₀ (set loads k (getD loads k 0 + 1)) n (s + 1)
+        listing-next = record {
+          can = w .can;
+          same-lands = length-set lands s k ∙ w .same-lands;
+          same-loads = length-set loads k (getD loads k 0 + 1) ∙ w .same-loads;
+          upto = omega arith;
+          done = λ o b. elim (eq? o s) [ inl e ↦ rw e (v .here ∙ lands-there) | inr e ↦ v .others o e ∙ w .done o (omega arith) ];
+          counted = λ j b. rw next at (here j b);
+        }
+          where
+            next : suc s ≡ s + 1
+            next = omega arith
+
+            v : Moved (el lands) (el (set lands s k)) s k
+            v = set-moved lands s k (listing-room .1)
+
+            u : Moved (el loads) (el (set loads k (getD loads k 0 + 1))) k (getD loads k 0 + 1)
+            u = set-moved loads k (getD loads k 0 + 1) (listing-in .0)
+
+            grows : (j : ℕ) → count (suc s) (el (set lands s k)) j ≡ count s (el lands) j + gate (eqb k j) 1
+            grows j = omega (
+              arith,
+              count-suc s (el (set lands s k)) j,
+              ap (λ z. gate (eqb z j) 1) (v .here),
+              count-ext s (el lands) (el (set lands s k)) (λ o b. v .others o (omega arith)) j,
+            )
+
+            here : (j : ℕ) → j < 98 → el (set loads k (getD loads k 0 + 1)) j ≡ count (suc s) (el (set lands s k)) j
+            here j b = elim (eq? j k) [
+              | inl e ↦ rw e (omega (arith, u .here, grows k, gate-eq k k 1 refl, w .counted k (listing-in .1)))
+              | inr e ↦ omega (arith, u .others j e, grows j, gate-ne k j 1 (λ f. e (sym f)), w .counted j b)
+            ]
 
 -- ---- first_with_room
 
@@ -46,45 +133,196 @@ module _ {capacities loads : List ℕ} {first k : ℕ} (s : Passing capacities l
   pub passing-end : length capacities < k → FirstRoom capacities loads first k
   passing-end l = record { from = s .from; to = s .to; full = s .full; free = λ m. absurd (omega arith) }
 
+-- ---- walk
+
+-- the flight at place `who` of the order is held until k: it lands there, and the others where they did
+module _ {d : Day} {order : List ℕ} (holds : List ℕ) {who i k : ℕ} (t : Table d order) (l : who < N d) (row : length holds ≡ N d)
+    (i-is : i ≡ el order who) (due-by : due d i ≤ k) where
+  in-row : i < length holds
+  in-row = omega (arith, t .by-due .permuted .below who l)
+
+  held-here : landing d order (set holds i (k - due d i)) who ≡ k
+  held-here = rw (← i-is) (omega (arith, set-moved holds i (k - due d i) in-row .here))
+
+  held-other : (s : ℕ) → s < N d → s ≢ who → landing d order (set holds i (k - due d i)) s ≡ landing d order holds s
+  held-other s b e = omega (arith, set-moved holds i (k - due d i) in-row .others (el order s) apart)
+    where
+      apart : el order s ≢ i
+      apart f = elim (lt? s who) [
+        | inl less ↦ permuted-apart (t .by-due .permuted) s who less l (f ∙ i-is)
+        | inr more ↦ permuted-apart (t .by-due .permuted) who s (omega arith) b (sym (f ∙ i-is))
+      ]
+
+  -- so does the plan
+  pub held-plan : (n : ℕ) (x : ℕ → ℕ) → n ≤ N d → ((s : ℕ) → s < n → s ≢ who → x s ≡ landing d order holds s)
+      → (s : ℕ) → s < n → put x who k s ≡ landing d order (set holds i (k - due d i)) s
+  held-plan n x upto same s b = elim (eq? s who) [
+    | inl e ↦ rw e (put-moved x who k .here ∙ sym held-here)
+    | inr e ↦ put-moved x who k .others s e ∙ same s b e ∙ sym (held-other s (omega arith) e)
+  ]
+
+-- flight `who` is to land in `at`; x is the plan, and flights that land nearer to the new one have not moved
+pub record Walking (d : Day) (order lands holds₀ holds rank via : List ℕ) (n target at who : ℕ) : Type 0 where
+  pub can : CanWalk d order lands holds₀ rank via n target
+  pub same : length holds ≡ length holds₀
+  pub in-day : at < 98
+  pub some : 0 < el rank at
+  pub below : el rank at ≤ el rank target
+  pub is : who ≡ el via at
+  pub x : ℕ → ℕ
+  pub lands-are : (s : ℕ) → s < n → x s ≡ landing d order holds s
+  pub still : (s : ℕ) → s < n → el rank (el lands s) < el rank at → x s ≡ el lands s
+  pub keeps : (i : Instance) (q from : ℕ → ℕ) (u : ℕ) → i .n ≡ n → Going i (el lands) (el lands) q from (el via) u target target
+      → Going i (el lands) x q from (el via) u target at
+
+module _ {d : Day} {order lands holds rank via : List ℕ} {n target : ℕ} (c : CanWalk d order lands holds rank via n target) where
+  pub walk-in : target < length via
+  walk-in = omega (arith, c .within, c .vias)
+
+  pub walking-start : Walking d order lands holds holds rank via n target target (getD via target 0)
+  walking-start = record {
+    can = c;
+    same = refl;
+    in-day = c .within;
+    some = c .some;
+    below = omega arith;
+    is = refl;
+    x = el lands;
+    lands-are = c .lands-are;
+    still = λ s b low. refl;
+    keeps = λ i q from u e g. g;
+  }
+
+module _ {d : Day} {order lands holds₀ holds rank via : List ℕ} {n target at who : ℕ} (s : Walking d order lands holds₀ holds rank via n target at who) where
+  linked : Linked d order lands rank via n at
+  linked = s .can .chain at (s .in-day) (s .some) (s .below)
+
+  row : length holds ≡ N d
+  row = s .same ∙ s .can .holds-row
+
+  module _ {m i : ℕ} (m-is : m ≡ who) (l : m < N d) (i-is : i ≡ getD order m 0) where
+    due-by : due d i ≤ at
+    due-by = rw (i-is, m-is, s .is) (linked .due-by)
+
+    pub walking-hold : (i < length holds) × ((i + 1) * width ≤ length (d .flights)) × (due d i ≤ at) × (i < 128) × (at < 98)
+    walking-hold =
+        let b = s .can .table .by-due .permuted .below m l in (
+          omega (arith, b, i-is, row),
+          stands (s .can .table) i (omega (arith, b, i-is)),
+          due-by,
+          omega (arith, b, i-is, s .can .table .valid .flights-to),
+          s .in-day,
+        )
+
+  module _ (e : who ≢ n) where
+    hop : Hop lands rank via n at
+    hop = elim (linked .flight) [ inl new ↦ absurd (e (s .is ∙ new)) | inr h ↦ h ]
+
+    pub walking-who : who < n
+    walking-who = omega (arith, s .is, hop .who)
+
+    pub walking-room : (who < length order) × (who < length lands) × (who < 128) × (getD lands who 0 < length via) × (getD lands who 0 < 98)
+    walking-room = rw (s .is) (omega (
+      arith,
+      hop .who,
+      hop .in-day,
+      s .can .upto,
+      s .can .table .by-due .row,
+      s .can .table .valid .flights-to,
+      s .can .lands-row,
+      s .can .vias,
+    ))
+
+    pub walking-less : getD rank (getD lands who 0) 0 < getD rank at 0
+    walking-less = rw (s .is) (hop .lower)
+
+    pub walking-table : who < N d
+    walking-table = omega (arith, walking-who, s .can .upto)
+
+    module _ {i : ℕ} (i-is : i ≡ getD order who 0) where
+      pub walking-step : Walking d order lands holds₀ (set holds i (at - due d i)) rank via n target (getD lands who 0) (getD via (getD lands who 0) 0)
+      walking-step = record {
+        can = s .can;
+        same = length-set holds i (at - due d i) ∙ s .same;
+        in-day = walking-room .4;
+        some = rw (s .is) (hop .some);
+        below = omega (arith, walking-less, s .below);
+        is = refl;
+        x = put (s .x) who at;
+        lands-are = held-plan holds (s .can .table) walking-table row i-is (due-by refl walking-table i-is) n (s .x) (omega (arith, s .can .upto))
+            (λ o b _. s .lands-are o b);
+        still = λ o b low. v .others o (λ f. omega (arith, ap (λ z. el rank (el lands z)) f)) ∙ s .still o b (omega (arith, walking-less));
+        keeps = λ j q from u f g. rw (← here) (rw (s .is) (going-step (s .keeps j q from u f g) (λ new. e (s .is ∙ new ∙ f)) (rw (s .is) at v)));
+      }
+        where
+          v : Moved (s .x) (put (s .x) who at) who at
+          v = put-moved (s .x) who at
+
+          here : s .x who ≡ getD lands who 0
+          here = s .still who walking-who walking-less
+
+  pub walking-new : (n < length order) × (n < 128) × (n < N d)
+  walking-new = omega (arith, s .can .upto, s .can .table .by-due .row, s .can .table .valid .flights-to)
+
+  module _ (e : who ≡ n) {i : ℕ} (i-is : i ≡ getD order n 0) where
+    pub walking-end : Walked d order lands (set holds i (at - due d i)) via n target
+    walking-end = record {
+      y = put (s .x) n at;
+      lands-are = held-plan holds (s .can .table) (s .can .upto) row i-is (due-by (sym e) (s .can .upto) i-is) (suc n) (s .x) (s .can .upto)
+          (λ o b other. s .lands-are o (omega arith));
+      keeps = λ j q from u f g. record {
+        at = at;
+        x = s .x;
+        going = s .keeps j q from u f g;
+        new = sym (s .is) ∙ e ∙ sym f;
+        last = rw f (put-moved (s .x) n at);
+      };
+    }
+
 -- ---- raise
 
+-- an entry of a row that has one for each period
+pub period-moved : (row : List ℕ) (k v : ℕ) → 1 ≤ k → k ≤ length row → Moved (ofPeriod row) (ofPeriod (set row (k - 1) v)) k v
+period-moved row zero v some l = absurd (omega arith)
+period-moved row (suc k) v some l = let e : suc k - 1 ≡ k = omega arith in rw e (set-moved (0 ∷ row) (suc k) v (omega arith))
+
 -- the periods before k have their new prices
-pub record Raising (price₀ price dist : List ℕ) (first target goal k : ℕ) : Type 0 where
-  pub can : CanRaise price₀ dist first target
-  pub same : length price ≡ length price₀
+pub record Raising (prices₀ prices dist : List ℕ) (first target goal k : ℕ) : Type 0 where
+  pub can : CanRaise prices₀ dist first target
+  pub same : length prices ≡ length prices₀
   pub goal-is : goal ≡ away dist target
   pub from : first ≤ k
-  pub done : (j : ℕ) → first ≤ j → j < k → el price j ≡ el price₀ j + (goal - away dist j)
-  pub before : (j : ℕ) → j < first → el price j ≡ el price₀ j
-  pub left : (j : ℕ) → k ≤ j → el price j ≡ el price₀ j
+  pub done : (j : ℕ) → first ≤ j → j < k → ofPeriod prices j ≡ ofPeriod prices₀ j + (goal - away dist j)
+  pub before : (j : ℕ) → j < first → ofPeriod prices j ≡ ofPeriod prices₀ j
+  pub left : (j : ℕ) → k ≤ j → ofPeriod prices j ≡ ofPeriod prices₀ j
 
-module _ {price dist : List ℕ} {first target : ℕ} (c : CanRaise price dist first target) where
-  pub raise-room : target < length dist
-  raise-room = omega (arith, c .within, c .dists)
+module _ {prices dist : List ℕ} {first target : ℕ} (c : CanRaise prices dist first target) where
+  pub raise-room : (target < length dist) × (target < 98)
+  raise-room = omega (arith, c .to, c .few, c .dists)
 
-  pub raising-start : Raising price price dist first target (getD dist target 0) first
+  pub raising-start : Raising prices prices dist first target (getD dist target 0) first
   raising-start = record {
     can = c;
     same = refl;
-    goal-is = as-read dist target raise-room;
+    goal-is = as-read dist target (raise-room .0);
     from = omega arith;
     done = λ j a b. absurd (omega arith);
     before = λ j _. refl;
     left = λ j _. refl;
   }
 
-module _ {price₀ price dist : List ℕ} {first target goal k : ℕ} (s : Raising price₀ price dist first target goal k) where
+module _ {prices₀ prices dist : List ℕ} {first target goal k : ℕ} (s : Raising prices₀ prices dist first target goal k) where
   module _ (l : k < target) where
-    pub raising-room : (k < length dist) × (k < length price) × (k < 98)
-    raising-room = omega (arith, s .same, s .can .within, s .can .prices, s .can .dists)
+    pub raising-room : (k < length dist) × (k - 1 < length prices) × (k < 98) × (1 ≤ k)
+    raising-room = omega (arith, s .same, s .from, s .can .from, s .can .to, s .can .few, s .can .dists)
 
     read : getD dist k 0 ≡ away dist k
     read = as-read dist k (raising-room .0)
 
-    pub raising-small : (getD price k 0 ≤ 4294967295) × (goal < far)
-    raising-small = omega (arith, s .left k (omega arith), s .can .low k, s .goal-is, s .can .near)
+    pub raising-small : {q : ℕ} → q ≡ ofPeriod prices k → q + (goal - getD dist k 0) ≤ 4294967295
+    raising-small e = omega (arith, read, s .left k (omega arith), s .can .low k, s .goal-is)
 
-    pub raising-keep : goal ≤ getD dist k 0 → Raising price₀ price dist first target goal (k + 1)
+    pub raising-keep : goal ≤ getD dist k 0 → Raising prices₀ prices dist first target goal (k + 1)
     raising-keep h = record {
       can = s .can;
       same = s .same;
@@ -95,23 +333,24 @@ module _ {price₀ price dist : List ℕ} {first target goal k : ℕ} (s : Raisi
       left = λ j b. s .left j (omega arith);
     }
 
-    pub raising-up : Raising price₀ (set price k (getD price k 0 + (goal - getD dist k 0))) dist first target goal (k + 1)
-    raising-up =
-        let v = set-moved price k (getD price k 0 + (goal - getD dist k 0)) (raising-room .1) in
+    pub raising-up : {q : ℕ} → q ≡ ofPeriod prices k
+        → Raising prices₀ (set prices (k - 1) (q + (goal - getD dist k 0))) dist first target goal (k + 1)
+    raising-up {q} e =
+        let v = period-moved prices k (q + (goal - getD dist k 0)) (raising-room .3) (omega (arith, raising-room)) in
         record {
           can = s .can;
-          same = length-set price k (getD price k 0 + (goal - getD dist k 0)) ∙ s .same;
+          same = length-set prices (k - 1) (q + (goal - getD dist k 0)) ∙ s .same;
           goal-is = s .goal-is;
           from = omega (arith, s .from);
           done = λ j a b. elim (eq? j k) [
-            | inl e ↦ rw e (omega (arith, v .here, read, s .left k (omega arith)))
-            | inr e ↦ v .others j e ∙ s .done j a (omega arith)
+            | inl f ↦ rw f (omega (arith, v .here, read, s .left k (omega arith)))
+            | inr f ↦ v .others j f ∙ s .done j a (omega arith)
           ];
           before = λ j a. v .others j (omega (arith, s .from)) ∙ s .before j a;
           left = λ j b. v .others j (omega arith) ∙ s .left j (omega arith);
         }
 
-  pub raising-end : target ≤ k → Raised price₀ price dist target
+  pub raising-end : target ≤ k → Raised prices₀ prices dist target
   raising-end l = record {
     rise = λ j. elim (lt? j first) [
       | inl a ↦ omega (arith, s .before j a, s .can .before j a)
@@ -125,72 +364,28 @@ module _ {price₀ price dist : List ℕ} {first target goal k : ℕ} (s : Raisi
     ];
   }
 
--- ---- walk
+-- ---- clear
 
--- `at` is to take flight i
-pub record Walking (lands₀ lands rank via : List ℕ) (n target at i : ℕ) : Type 0 where
-  pub can : CanWalk lands₀ rank via n target
-  pub same : length lands ≡ length lands₀
-  pub in-day : at < 98
-  pub some : 0 < el rank at
-  pub is : i ≡ el via at
-  pub chain : (k : ℕ) → k < 98 → 0 < el rank k → el rank k ≤ el rank at → Linked lands rank via n k
-  pub keeps : (d : Instance) (q order : ℕ → ℕ) (u : ℕ) → d .n ≡ n → Going d (el lands₀) (el lands₀) q order (el via) u target target
-      → Going d (el lands₀) (el lands) q order (el via) u target at
+-- the entries before `at` are 0
+pub record Clearing (prices₀ prices : List ℕ) (at : ℕ) : Type 0 where
+  pub same : length prices ≡ length prices₀
+  pub done : (j : ℕ) → j < at → el prices j ≡ 0
 
-module _ {lands rank via : List ℕ} {n target : ℕ} (c : CanWalk lands rank via n target) where
-  pub walk-in : target < length via
-  walk-in = omega (arith, c .within, c .vias)
+pub clearing-start : (prices : List ℕ) → Clearing prices prices 0
+clearing-start prices = record { same = refl; done = λ j l. absurd (omega arith) }
 
-  pub walking-start : Walking lands lands rank via n target target (getD via target 0)
-  walking-start = record {
-    can = c;
-    same = refl;
-    in-day = c .within;
-    some = c .some;
-    is = refl;
-    chain = c .chain;
-    keeps = λ d q order u e g. g;
-  }
+module _ {prices₀ prices : List ℕ} {at : ℕ} (s : Clearing prices₀ prices at) where
+  pub clearing-next : at < length prices → Clearing prices₀ (set prices at 0) (at + 1)
+  clearing-next l =
+      let v = set-moved prices at 0 l in
+      record {
+        same = length-set prices at 0 ∙ s .same;
+        done = λ j b. elim (eq? j at) [ inl e ↦ rw e (v .here) | inr e ↦ v .others j e ∙ s .done j (omega arith) ];
+      }
 
-module _ {lands₀ lands rank via : List ℕ} {n target at i : ℕ} (s : Walking lands₀ lands rank via n target at i) where
-  module _ (e : i ≢ n) where
-    hop : Hop lands rank via n at
-    hop = elim (s .chain at (s .in-day) (s .some) (omega arith)) [ inl new ↦ absurd (e (s .is ∙ new)) | inr h ↦ h ]
-
-    pub walking-room : (i < length lands) × (getD lands i 0 < length via) × (getD lands i 0 < 98) × (i < 128)
-    walking-room = rw (s .is) (omega (arith, hop .who, hop .in-day, s .same, s .can .room, s .can .vias, s .can .small))
-
-    pub walking-less : getD rank (getD lands i 0) 0 < getD rank at 0
-    walking-less = rw (s .is) (hop .lower)
-
-    v : Moved (el lands) (el (set lands i at)) (el via at) at
-    v = rw (← (s .is)) (set-moved lands i at (walking-room .0))
-
-    pub walking-step : Walking lands₀ (set lands i at) rank via n target (getD lands i 0) (getD via (getD lands i 0) 0)
-    walking-step = record {
-      can = s .can;
-      same = length-set lands i at ∙ s .same;
-      in-day = walking-room .2;
-      some = rw (s .is) (hop .some);
-      is = refl;
-      chain = λ k b some low. elim (s .chain k b some (omega (arith, walking-less))) [
-        | inl new ↦ inl new
-        | inr h ↦
-            let other : el via k ≢ el via at = λ f. omega (arith, h .lower, ap (λ o. el rank (el lands o)) f, rw (s .is) at low) in
-            let stay = v .others (el via k) other in
-            inr (record { who = h .who; in-day = rw stay (h .in-day); some = rw stay (h .some); lower = rw stay (h .lower) })
-      ];
-      keeps = λ d q order u f g. rw (s .is) (rw (s .is) at (going-step (s .keeps d q order u f g) (λ new. e (s .is ∙ new ∙ f)) v));
-    }
-
-  pub walking-end : i ≡ n → Walked lands₀ (set lands n at) via n target
-  walking-end e = record {
-    keeps = λ d q order u f g. record {
-      at = at;
-      x = el lands;
-      going = s .keeps d q order u f g;
-      new = sym (s .is) ∙ e ∙ sym f;
-      last = rw f (set-moved lands n at (omega (arith, s .same, s .can .room)));
-    };
-  }
+  pub clearing-end : length prices ≤ at → Cleared prices
+  clearing-end l zero = refl
+  clearing-end l (suc k) = elim (lt? k (length prices)) [
+    | inl b ↦ s .done k (omega arith)
+    | inr b ↦ period-out prices (suc k) (omega arith)
+  ]

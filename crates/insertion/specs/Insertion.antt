@@ -3,22 +3,56 @@
 use mathlib.Core.Path.{_≡_}
 use mathlib.Core.Logic.{_⊎_}
 use mathlib.Core.List.{List}
-use Prim.Native.Nat.{ℕ, _+_, _-_, _*_, _≤_, _<_}
+use Prim.Native.Nat.{ℕ, suc, _+_, _-_, _≤_, _<_}
 use lib.ListN.{length}
 use Rattle.assignment.specs.Sum.{count}
 use Rattle.assignment.specs.Assignment as A
 use Rattle.assignment.proofs.Moves.{Moved}
 use Rattle.assignment.proofs.Insertion.{Sound, Going}
-use Rattle.assignment.proofs.Permuted.{Permuted, ordered}
-use Rattle.day.specs.Day.{Day, day, width, column, N, ofPeriod, total}
+use Rattle.assignment.proofs.Permuted.{ordered}
+use Rattle.day.specs.Day.{Day, day, P, N, ofPeriod, due, land, total}
 use Rattle.day.specs.Plan.{Accepted, Short}
 use Rattle.day.proofs.Valid.{Valid}
 use Rattle.day.proofs.Instance.{instance}
-use Rattle.path.specs.Path.{el, far, away, Table}
+use Rattle.path.specs.Path.{el, away, Table}
 
 -- the first n flights of the order
-abbrev pub begun : List ℕ → List ℕ → List ℕ → ℕ → A.Instance
-begun capacities flights order n = ordered (instance (day capacities flights)) (el order) n
+abbrev pub begun : Day → List ℕ → ℕ → A.Instance
+begun d order n = ordered (instance d) (el order) n
+
+-- where the flight at place s of the order lands
+abbrev pub landing : Day → List ℕ → List ℕ → ℕ → ℕ
+landing d order holds s = land d holds (el order s)
+
+-- n flights are placed: the hold row has their holds, the price row their prices; the holds of the others may be any numbers
+pub record Placed (d : Day) (order holds prices : List ℕ) (n : ℕ) : Type 0 where
+  pub table : Table d order
+  pub none-short : (a b : ℕ) → Short d a b → ⊥
+  pub upto : n ≤ N d
+  pub holds-row : length holds ≡ N d
+  pub prices-row : length prices ≡ P d
+  pub sound : Sound (begun d order n) (landing d order holds) (ofPeriod prices)
+
+-- the cost of their plan
+abbrev pub cost-of-placed : Day → List ℕ → List ℕ → ℕ → ℕ
+cost-of-placed d order holds n = A.total (begun d order n) (landing d order holds)
+
+-- ---- where the flights land
+
+-- rows of zeros for the landings and the loads
+pub record CanList (d : Day) (order holds lands loads : List ℕ) (n : ℕ) : Type 0 where
+  pub table : Table d order
+  pub upto : n ≤ N d
+  pub holds-row : length holds ≡ N d
+  pub lands-row : length lands ≡ 128
+  pub loads-row : length loads ≡ 98
+  pub empty : (k : ℕ) → el loads k ≡ 0
+  pub in-day : (s : ℕ) → s < n → landing d order holds s < 98
+
+-- the landings of n flights in the order, and how many there are in each period
+pub record Listed (d : Day) (order holds lands loads : List ℕ) (n : ℕ) : Type 0 where
+  pub lands-are : (s : ℕ) → s < n → el lands s ≡ landing d order holds s
+  pub loads-are : (k : ℕ) → k < 98 → el loads k ≡ count n (el lands) k
 
 -- ---- the first period with room
 
@@ -35,40 +69,30 @@ pub record FirstRoom (capacities loads : List ℕ) (first k : ℕ) : Type 0 wher
   pub full : (j : ℕ) → first ≤ j → j < k → ofPeriod capacities j ≤ el loads j
   pub free : k ≤ length capacities → el loads k < ofPeriod capacities k
 
--- ---- the raise
-
-pub record CanRaise (price dist : List ℕ) (first target : ℕ) : Type 0 where
-  pub prices : length price ≡ 98
-  pub dists : length dist ≡ 98
-  pub within : target < 98
-  pub low : (k : ℕ) → el price k ≤ 4294967295
-  pub near : away dist target < far
-  pub before : (k : ℕ) → k < first → away dist target ≤ away dist k
-  pub behind : (k : ℕ) → target < k → away dist target ≤ away dist k
-
--- each price rises by what its period is nearer than the target
-pub record Raised (price price₂ dist : List ℕ) (target : ℕ) : Type 0 where
-  pub rise : (k : ℕ) → el price₂ k ≡ el price k + (away dist target - away dist k)
-
 -- ---- the walk back
 
--- k is for the new flight, or for one that lands in a period of a lower rank
+-- a flight of the plan, which lands in a period of a lower rank, is to land in k
 pub record Hop (lands rank via : List ℕ) (n k : ℕ) : Type 0 where
   pub who : el via k < n
   pub in-day : el lands (el via k) < 98
   pub some : 0 < el rank (el lands (el via k))
   pub lower : el rank (el lands (el via k)) < el rank k
 
-abbrev pub Linked : (lands rank via : List ℕ) (n k : ℕ) → Type 0
-Linked lands rank via n k = (el via k ≡ n) ⊎ Hop lands rank via n k
+-- period k is for the new flight or for one of the plan, and the flight is due by k
+pub record Linked (d : Day) (order lands rank via : List ℕ) (n k : ℕ) : Type 0 where
+  pub due-by : due d (el order (el via k)) ≤ k
+  pub flight : (el via k ≡ n) ⊎ Hop lands rank via n k
 
-pub record CanWalk (lands rank via : List ℕ) (n target : ℕ) : Type 0 where
-  pub room : n < length lands
-  pub small : n < 128
+pub record CanWalk (d : Day) (order lands holds rank via : List ℕ) (n target : ℕ) : Type 0 where
+  pub table : Table d order
+  pub upto : n < N d
+  pub holds-row : length holds ≡ N d
+  pub lands-row : length lands ≡ 128
   pub vias : length via ≡ 98
+  pub lands-are : (s : ℕ) → s < n → el lands s ≡ landing d order holds s
   pub within : target < 98
   pub some : 0 < el rank target
-  pub chain : (k : ℕ) → k < 98 → 0 < el rank k → el rank k ≤ el rank target → Linked lands rank via n k
+  pub chain : (k : ℕ) → k < 98 → 0 < el rank k → el rank k ≤ el rank target → Linked d order lands rank via n k
 
 -- the new flight takes the last place, `at`
 pub record Arrived (d : A.Instance) (x₀ y q order via : ℕ → ℕ) (u z : ℕ) : Type 0 where
@@ -78,66 +102,43 @@ pub record Arrived (d : A.Instance) (x₀ y q order via : ℕ → ℕ) (u z : �
   pub new : via at ≡ d .n
   pub last : Moved x y (d .n) at
 
-pub record Walked (lands lands₂ via : List ℕ) (n target : ℕ) : Type 0 where
-  pub keeps : (d : A.Instance) (q order : ℕ → ℕ) (u : ℕ) → d .n ≡ n → Going d (el lands) (el lands) q order (el via) u target target
-      → Arrived d (el lands) (el lands₂) q order (el via) u target
+-- the hold row now has plan y, of n + 1 flights
+pub record Walked (d : Day) (order lands holds₂ via : List ℕ) (n target : ℕ) : Type 0 where
+  pub y : ℕ → ℕ
+  pub lands-are : (s : ℕ) → s < suc n → y s ≡ landing d order holds₂ s
+  pub keeps : (i : A.Instance) (q rank : ℕ → ℕ) (u : ℕ) → i .n ≡ n → Going i (el lands) (el lands) q rank (el via) u target target
+      → Arrived i (el lands) y q rank (el via) u target
+
+-- ---- the raise
+
+pub record CanRaise (prices dist : List ℕ) (first target : ℕ) : Type 0 where
+  pub few : length prices ≤ 96
+  pub dists : length dist ≡ 98
+  pub from : 1 ≤ first
+  pub to : target ≤ length prices + 1
+  pub low : (k : ℕ) → ofPeriod prices k + (away dist target - away dist k) ≤ 4294967295
+  pub before : (k : ℕ) → k < first → away dist target ≤ away dist k
+  pub behind : (k : ℕ) → target < k → away dist target ≤ away dist k
+
+-- each price rises by what its period is nearer than the target
+pub record Raised (prices prices₂ dist : List ℕ) (target : ℕ) : Type 0 where
+  pub rise : (k : ℕ) → ofPeriod prices₂ k ≡ ofPeriod prices k + (away dist target - away dist k)
 
 -- ---- one flight after the other
 
--- n flights are placed: where they land, the prices, and how many land in each period
-pub record Placed (capacities flights order lands price loads : List ℕ) (n : ℕ) : Type 0 where
-  pub table : Table (day capacities flights) order
-  pub none-short : (a b : ℕ) → Short (day capacities flights) a b → ⊥
-  pub upto : n ≤ N (day capacities flights)
-  pub lands-row : length lands ≡ 128
-  pub price-row : length price ≡ 98
-  pub loads-row : length loads ≡ 98
-  pub sound : Sound (begun capacities flights order n) (el lands) (el price)
-  pub loads-are : (k : ℕ) → k < 98 → el loads k ≡ count n (el lands) k
+abbrev pub Cleared : List ℕ → Type 0
+Cleared prices = (k : ℕ) → ofPeriod prices k ≡ 0
 
--- the cost of the plan
-abbrev pub cost-of-placed : List ℕ → List ℕ → List ℕ → List ℕ → ℕ → ℕ
-cost-of-placed capacities flights order lands n = A.total (begun capacities flights order n) (el lands)
-
-pub record Inserted (capacities flights order lands lands₂ price₂ loads₂ : List ℕ) (n added : ℕ) : Type 0 where
-  pub placed : Placed capacities flights order lands₂ price₂ loads₂ (n + 1)
-  pub adds : cost-of-placed capacities flights order lands₂ (n + 1) ≡ cost-of-placed capacities flights order lands n + added
-
--- ---- the rows at the end
-
--- n places of the order, one hold for each, and a landing no earlier than due
-pub record CanHold (flights order lands holds : List ℕ) (n : ℕ) : Type 0 where
-  pub few : n ≤ 128
-  pub holds-row : length holds ≡ n
-  pub order-row : n ≤ length order
-  pub lands-row : n ≤ length lands
-  pub flights-row : n * width ≤ length flights
-  pub permuted : Permuted n (el order)
-  pub in-day : (s : ℕ) → s < n → (column 1 flights (el order s) ≤ el lands s) × (el lands s < 98)
-
--- due and hold together are the landing period
-pub record Held (flights order lands holds : List ℕ) (n : ℕ) : Type 0 where
-  pub lands-in : (s : ℕ) → s < n → column 1 flights (el order s) + el holds (el order s) ≡ el lands s
-
--- a price stands for a period of 1 to P alone
-pub record CanPrice (price prices : List ℕ) : Type 0 where
-  pub few : length prices ≤ 96
-  pub price-row : length price ≡ 98
-  pub low : (k : ℕ) → el price k ≤ 4294967295
-  pub no-period : el price 0 ≡ 0
-  pub past : (k : ℕ) → length prices < k → el price k ≡ 0
-
-pub record Priced (price prices : List ℕ) : Type 0 where
-  pub same : (k : ℕ) → ofPeriod prices k ≡ el price k
-
--- ---- all of it
+pub record Inserted (d : Day) (order holds holds₂ prices₂ : List ℕ) (n added : ℕ) : Type 0 where
+  pub placed : Placed d order holds₂ prices₂ (n + 1)
+  pub adds : cost-of-placed d order holds₂ (n + 1) ≡ cost-of-placed d order holds n + added
 
 -- a day that passes the check and has no short stretch, and rows of its sizes
-pub record CanInsert (capacities flights holds prices : List ℕ) : Type 0 where
-  pub valid : Valid (day capacities flights)
-  pub none-short : (a b : ℕ) → Short (day capacities flights) a b → ⊥
-  pub holds-row : length holds ≡ N (day capacities flights)
-  pub prices-row : length prices ≡ length capacities
+pub record CanInsert (d : Day) (holds prices : List ℕ) : Type 0 where
+  pub valid : Valid d
+  pub none-short : (a b : ℕ) → Short d a b → ⊥
+  pub holds-row : length holds ≡ N d
+  pub prices-row : length prices ≡ P d
 
 -- prices that show that the plan is cheapest, none of them above its total
 pub record Planned (d : Day) (holds prices : List ℕ) (cost : ℕ) : Type 0 where

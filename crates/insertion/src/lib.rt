@@ -1,10 +1,13 @@
 // The full plan's insertion: flight after flight, due falling, takes the cheapest chain of moves to the first period that has room.
+// The lent rows are the plan: the hold row has the holds of the flights that are placed, the price row the prices. Only the order of the
+// flights and what one search needs stand in rows of their own.
 ghost use mathlib.Core.Path.{_≡_};
-ghost use Prim.Native.Nat.{ℕ, _+_, _*_, _<_, _≤_};
-ghost use lib.ListN.{length};
-ghost use Rattle.day.specs.Day.{day, N};
-ghost use Rattle.insertion.specs.Insertion.{CanFind, FirstRoom, CanRaise, Raised, CanWalk, Walked, Placed, Inserted, CanHold, Held, CanPrice, Priced, CanInsert, Planned};
+ghost use Prim.Native.Nat.{ℕ, _+_, _-_, _*_, _<_, _≤_};
+ghost use lib.ListN.{length, set};
+ghost use Rattle.day.specs.Day.{day, width, column, N};
+ghost use Rattle.insertion.specs.Insertion.{CanList, Listed, CanFind, FirstRoom, CanWalk, Walked, CanRaise, Raised, Placed, Inserted, Cleared, CanInsert, Planned};
 use day::due_of;
+use day::land_of;
 use day::of_period;
 use day::wide;
 use due_order::order_by_due;
@@ -14,6 +17,29 @@ use path::offer;
 
 // A rank above those of all reached periods.
 const LAST: usize = 99;
+
+// Lists where the first n flights of the order land, and how many of them in each period.
+fn list_landings(
+    capacities: &[u32],
+    flights: &[u32],
+    order: &[u32],
+    holds: &[u32],
+    lands: &mut [usize],
+    loads: &mut [usize],
+    n: usize,
+)
+    requires { ⌜ CanList (day (now capacities) (now flights)) (now order) (now holds) (now lands) (now loads) n ⌝ }
+    ensures { λ _. ⌜ Listed (day (now (capacities .entry)) (now (flights .entry))) (now (order .entry)) (now (holds .entry)) (now (lands .exit)) (now (loads .exit)) n ⌝ }
+{
+    let mut s = 0;
+    while s < n {
+        let at = s;
+        s += 1;
+        let k = land_of(capacities, flights, holds, wide(order[at]));
+        lands[at] = k;
+        loads[k] = loads[k] + 1;
+    }
+}
 
 // The first period from `first` on that has room; the closing period always has.
 fn first_with_room(capacities: &[u32], loads: &[usize], first: usize) -> usize
@@ -30,10 +56,44 @@ fn first_with_room(capacities: &[u32], loads: &[usize], first: usize) -> usize
     k
 }
 
+// Holds the flight at table place i until period k.
+fn hold_until(flights: &[u32], holds: &mut [u32], i: usize, k: usize)
+    requires { ⌜ (i < length (now holds)) × ((i + 1) * width ≤ length (now flights)) × (column 1 (now flights) i ≤ k) × (i < 128) × (k < 98) ⌝ }
+    ensures { λ _. ⌜ now (holds .exit) ≡ set (now (holds .entry)) i (k - column 1 (now (flights .entry)) i) ⌝ }
+{
+    let hold = k - due_of(flights, i);
+    holds[i] = hold as u32;
+}
+
+// From the target back along `via`: each flight moves on by one place, and the new flight takes the last one.
+fn walk(
+    capacities: &[u32],
+    flights: &[u32],
+    order: &[u32],
+    lands: &[usize],
+    holds: &mut [u32],
+    rank: &[usize],
+    via: &[usize],
+    n: usize,
+    target: usize,
+)
+    requires { ⌜ CanWalk (day (now capacities) (now flights)) (now order) (now lands) (now holds) (now rank) (now via) n target ⌝ }
+    ensures { λ _. ⌜ Walked (day (now (capacities .entry)) (now (flights .entry))) (now (order .entry)) (now (lands .entry)) (now (holds .exit)) (now (via .entry)) n target ⌝ }
+{
+    let mut at = target;
+    let mut who = via[at];
+    while who != n {
+        hold_until(flights, holds, wide(order[who]), at);
+        at = lands[who];
+        who = via[at];
+    }
+    hold_until(flights, holds, wide(order[n]), at);
+}
+
 // Raises each price by what its period is nearer than the target.
-fn raise(price: &mut [usize], dist: &[usize], first: usize, target: usize)
-    requires { ⌜ CanRaise (now price) (now dist) first target ⌝ }
-    ensures { λ _. ⌜ Raised (now (price .entry)) (now (price .exit)) (now (dist .entry)) target ⌝ }
+fn raise(prices: &mut [u32], dist: &[usize], first: usize, target: usize)
+    requires { ⌜ CanRaise (now prices) (now dist) first target ⌝ }
+    ensures { λ _. ⌜ Raised (now (prices .entry)) (now (prices .exit)) (now (dist .entry)) target ⌝ }
 {
     let goal = dist[target];
     let mut k = first;
@@ -41,25 +101,10 @@ fn raise(price: &mut [usize], dist: &[usize], first: usize, target: usize)
         let at = k;
         k += 1;
         if dist[at] < goal {
-            price[at] = price[at] + (goal - dist[at]);
+            let price = of_period(prices, at) + (goal - dist[at]);
+            prices[at - 1] = price as u32;
         }
     }
-}
-
-// From the target back along `via`: each flight moves on by one place, and the new flight takes the last one.
-fn walk(lands: &mut [usize], rank: &[usize], via: &[usize], n: usize, target: usize)
-    requires { ⌜ CanWalk (now lands) (now rank) (now via) n target ⌝ }
-    ensures { λ _. ⌜ Walked (now (lands .entry)) (now (lands .exit)) (now (via .entry)) n target ⌝ }
-{
-    let mut at = target;
-    let mut i = via[at];
-    while i != n {
-        let next = lands[i];
-        lands[i] = at;
-        at = next;
-        i = via[at];
-    }
-    lands[n] = at;
 }
 
 // Takes flight n of the order into the plan of those before it; what that adds to the cost.
@@ -67,25 +112,27 @@ fn insert(
     capacities: &[u32],
     flights: &[u32],
     order: &[u32],
-    lands: &mut [usize],
-    price: &mut [usize],
-    loads: &mut [usize],
+    holds: &mut [u32],
+    prices: &mut [u32],
     n: usize,
 ) -> usize
-    requires { ⌜ Placed (now capacities) (now flights) (now order) (now lands) (now price) (now loads) n ⌝ }
+    requires { ⌜ Placed (day (now capacities) (now flights)) (now order) (now holds) (now prices) n ⌝ }
     requires { ⌜ n < N (day (now capacities) (now flights)) ⌝ }
-    ensures { λ r. ⌜ Inserted (now (capacities .entry)) (now (flights .entry)) (now (order .entry)) (now (lands .entry)) (now (lands .exit)) (now (price .exit)) (now (loads .exit)) n r ⌝ }
+    ensures { λ r. ⌜ Inserted (day (now (capacities .entry)) (now (flights .entry))) (now (order .entry)) (now (holds .entry)) (now (holds .exit)) (now (prices .exit)) n r ⌝ }
 {
+    let mut lands = [0; 128];
+    let mut loads = [0; 98];
+    list_landings(capacities, flights, order, holds, &mut lands, &mut loads, n);
+    let i = wide(order[n]);
+    let first = due_of(flights, i);
+    let target = first_with_room(capacities, &loads, first);
     let mut dist = [FAR; 98];
     let mut rank = [0; 98];
     let mut via = [n; 98];
-    let i = wide(order[n]);
-    let first = due_of(flights, i);
-    let target = first_with_room(capacities, loads, first);
     offer(
         capacities,
         flights,
-        price,
+        prices,
         &mut dist,
         &mut via,
         target,
@@ -98,8 +145,8 @@ fn insert(
         capacities,
         flights,
         order,
-        lands,
-        price,
+        &lands,
+        prices,
         &mut dist,
         &mut rank,
         &mut via,
@@ -107,38 +154,30 @@ fn insert(
         first,
         target,
     );
-    raise(price, &dist, first, target);
     rank[target] = LAST;
-    walk(lands, &rank, &via, n, target);
-    loads[target] = loads[target] + 1;
+    walk(
+        capacities,
+        flights,
+        order,
+        &lands,
+        holds,
+        &rank,
+        &via,
+        n,
+        target,
+    );
+    raise(prices, &dist, first, target);
     dist[target]
 }
 
-// The holds of the flights, in table order.
-fn store_holds(flights: &[u32], order: &[u32], lands: &[usize], holds: &mut [u32])
-    requires { ⌜ CanHold (now flights) (now order) (now lands) (now holds) (length (now holds)) ⌝ }
-    ensures { λ _. ⌜ Held (now (flights .entry)) (now (order .entry)) (now (lands .entry)) (now (holds .exit)) (length (now (holds .entry))) ⌝ }
+// No price yet.
+fn clear(prices: &mut [u32])
+    ensures { λ _. ⌜ Cleared (now (prices .exit)) ⌝ }
 {
-    let mut s = 0;
-    while s < holds.len() {
-        let at = s;
-        s += 1;
-        let i = wide(order[at]);
-        let hold = lands[at] - due_of(flights, i);
-        holds[i] = hold as u32;
-    }
-}
-
-// The prices of the periods 1 to P.
-fn store_prices(price: &[usize], prices: &mut [u32])
-    requires { ⌜ CanPrice (now price) (now prices) ⌝ }
-    ensures { λ _. ⌜ Priced (now (price .entry)) (now (prices .exit)) ⌝ }
-{
-    let mut k = 0;
-    while k < prices.len() {
-        let at = k;
-        k += 1;
-        prices[at] = price[k] as u32;
+    let mut at = 0;
+    while at < prices.len() {
+        prices[at] = 0;
+        at += 1;
     }
 }
 
@@ -149,30 +188,18 @@ pub fn insert_all(
     holds: &mut [u32],
     prices: &mut [u32],
 ) -> usize
-    requires { ⌜ CanInsert (now capacities) (now flights) (now holds) (now prices) ⌝ }
+    requires { ⌜ CanInsert (day (now capacities) (now flights)) (now holds) (now prices) ⌝ }
     ensures { λ r. ⌜ Planned (day (now (capacities .entry)) (now (flights .entry))) (now (holds .exit)) (now (prices .exit)) r ⌝ }
 {
     let mut order = [0; 128];
     order_by_due(capacities, flights, &mut order);
-    let mut lands = [0; 128];
-    let mut price = [0; 98];
-    let mut loads = [0; 98];
+    clear(prices);
     let mut total = 0;
     let mut n = 0;
     while n < holds.len() {
-        let added = insert(
-            capacities,
-            flights,
-            &order,
-            &mut lands,
-            &mut price,
-            &mut loads,
-            n,
-        );
+        let added = insert(capacities, flights, &order, holds, prices, n);
         total += added;
         n += 1;
     }
-    store_holds(flights, &order, &lands, holds);
-    store_prices(&price, prices);
     total
 }

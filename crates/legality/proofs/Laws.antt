@@ -14,7 +14,7 @@ use lib.Dec.{leb, ltb, eqb}
 use borrow.Author.Tests.{lt-ltb, le-ltb, le-leb, lt-leb, ltb-false, eq-eqb, ne-eqb}
 use Rattle.assignment.specs.Sum.{gate, sum, count}
 use Rattle.assignment.proofs.Tests.{lt?, eq?, gate-eq, gate-ne}
-use Rattle.assignment.proofs.Sums.{count-suc, count-zero}
+use Rattle.assignment.proofs.Sums.{count-suc, count-zero, count-le}
 use Rattle.day.specs.Day.{Day, P, N, due, rate, after, capacity, latest, land, hold, cost, total, valid}
 use Rattle.day.specs.Plan.{tooLong, overCapacity, breaks, firstBreak}
 use Rattle.day.proofs.Costs.{cost-over, cost-under}
@@ -37,14 +37,6 @@ unfolding tooLong
 not-long d i k e =
     let t = or-false (ltb (P d + 1) k) (ltb (latest d i) k) e in
     (ltb-false (P d + 1) k (t .0), ltb-false (latest d i) k (t .1))
-
-count-le : (n : ℕ) (x : ℕ → ℕ) (k : ℕ) → count n x k ≤ n
-unfolding count sum
-count-le zero x k = omega arith
-count-le (suc n) x k = elim (eq? (x n) k) [
-  | inl e ↦ omega (arith, count-le n x k, gate-eq (x n) k 1 e)
-  | inr e ↦ omega (arith, count-le n x k, gate-ne (x n) k 1 e)
-]
 
 module _ {d : Day} {h loads : List ℕ} {i : ℕ} (s : Walked d h loads i) where
   v : Valid d

@@ -15,14 +15,6 @@ pub enum PlanCheck {
     Legal { total: usize },
 }
 
-// The period in which the flight at table place i lands.
-pub fn land_of(capacities: &[u32], flights: &[u32], holds: &[u32], i: usize) -> usize
-    requires { ⌜ (i < length (now holds)) × ((i + 1) * 6 ≤ length (now flights)) ⌝ }
-    ensures { λ r. ⌜ (r ≡ land (day (now (capacities .entry)) (now (flights .entry))) (now (holds .entry)) i) × (r < 2 ^ 33) ⌝ }
-{
-    day::due_of(flights, i) + day::wide(holds[i])
-}
-
 // A landing of the flight at table place i in period k is after the closing period or over its limit.
 fn is_too_long(capacities: &[u32], flights: &[u32], i: usize, k: usize) -> bool
     requires { ⌜ ((i + 1) * 6 ≤ length (now flights)) × (length (now capacities) ≤ 96) ⌝ }
@@ -51,7 +43,7 @@ fn walk(capacities: &[u32], flights: &[u32], holds: &[u32], loads: &mut [usize])
 {
     let mut place = 0;
     while place < holds.len() {
-        let k = land_of(capacities, flights, holds, place);
+        let k = day::land_of(capacities, flights, holds, place);
         if is_too_long(capacities, flights, place, k) {
             return place;
         }

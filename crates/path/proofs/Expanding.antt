@@ -8,7 +8,7 @@ use native.Mathlib.Omega.{arith}
 use lib.ListN.{getD, length, set}
 use Rattle.assignment.specs.Assignment.{Instance, In}
 use Rattle.assignment.proofs.Restricted.{until, until-near}
-use Rattle.day.specs.Day.{Day, day, P, N, width, due, latest, cost}
+use Rattle.day.specs.Day.{Day, P, N, width, ofPeriod, due, latest, cost}
 use Rattle.day.proofs.Instance.{last}
 use Rattle.path.specs.Path.{el, away, dearest, scope, Table, Search, Around, CanNear, Nearest, CanOffer, Offers, CanExpand, Expanded, CanSearch, Searched}
 use Rattle.path.proofs.Rows.{as-read}
@@ -24,28 +24,25 @@ pub until-target : (d : Day) (i target : ℕ) → target ≤ P d + 1 → due d i
 unfolding last
 until-target d i target within l = omega (arith, until-near (last d i) l)
 
-module _ (capacities flights order lands price : List ℕ) (n target : ℕ) where
-  abbrev d : Day
-  d = day capacities flights
-
+module _ (d : Day) (order lands prices : List ℕ) (n target : ℕ) where
   abbrev r : Instance
-  r = scope capacities flights order n target
+  r = scope d order n target
 
   -- the flights before m that land in k have offered; `from` is the distance of k
   pub record Expanding (dist₀ dist via₀ via : List ℕ) (k from m : ℕ) : Type 0 where
-    pub can : CanExpand capacities flights order lands price dist₀ via₀ n target k
+    pub can : CanExpand d order lands prices dist₀ via₀ n target k
     pub same-d : length dist ≡ length dist₀
     pub same-v : length via ≡ length via₀
     pub upto : m ≤ n
     pub from-is : from ≡ away dist₀ k
-    pub keeps : (rank : List ℕ) (t : ℕ) → Around r (el lands) (el price) target dist₀ rank via₀ t k 0
-        → Around r (el lands) (el price) target dist rank via t k m × (from ≡ away dist k)
+    pub keeps : (rank : List ℕ) (t : ℕ) → Around r (el lands) (ofPeriod prices) target dist₀ rank via₀ t k 0
+        → Around r (el lands) (ofPeriod prices) target dist rank via t k m × (from ≡ away dist k)
 
-module _ {capacities flights order lands price dist via : List ℕ} {n target k : ℕ} (c : CanExpand capacities flights order lands price dist via n target k) where
-  pub expand-room : (k < length dist) × (k < length price) × (k < 98)
-  expand-room = omega (arith, c .to, c .scene .within, c .scene .periods, c .dists, c .prices)
+module _ {d : Day} {order lands prices dist via : List ℕ} {n target k : ℕ} (c : CanExpand d order lands prices dist via n target k) where
+  pub expand-room : (k < length dist) × (k < 98)
+  expand-room = omega (arith, c .to, c .scene .within, c .scene .periods, c .dists)
 
-  pub expanding-start : Expanding capacities flights order lands price n target dist dist via via k (getD dist k 0) 0
+  pub expanding-start : Expanding d order lands prices n target dist dist via via k (getD dist k 0) 0
   expanding-start = record {
     can = c;
     same-d = refl;
@@ -55,9 +52,9 @@ module _ {capacities flights order lands price dist via : List ℕ} {n target k 
     keeps = λ rank t a. (a, as-read dist k (expand-room .0));
   }
 
-module _ {capacities flights order lands price dist₀ dist via₀ via : List ℕ} {n target k from m : ℕ}
-    (s : Expanding capacities flights order lands price n target dist₀ dist via₀ via k from m) where
-  pub expanding-pass : m < n → getD lands m 0 ≢ k → Expanding capacities flights order lands price n target dist₀ dist via₀ via k from (m + 1)
+module _ {d : Day} {order lands prices dist₀ dist via₀ via : List ℕ} {n target k from m : ℕ}
+    (s : Expanding d order lands prices n target dist₀ dist via₀ via k from m) where
+  pub expanding-pass : m < n → getD lands m 0 ≢ k → Expanding d order lands prices n target dist₀ dist via₀ via k from (m + 1)
   expanding-pass l e = record {
     can = s .can;
     same-d = s .same-d;
@@ -67,7 +64,7 @@ module _ {capacities flights order lands price dist₀ dist via₀ via : List �
     keeps = λ rank t a. let b = s .keeps rank t a in (around-pass (b .0) e, b .1);
   }
 
-  pub expanding-end : n ≤ m → Expanded (scope capacities flights order n target) (el lands) (el price) target dist₀ dist via₀ via k n
+  pub expanding-end : n ≤ m → Expanded (scope d order n target) (el lands) (ofPeriod prices) target dist₀ dist via₀ via k n
   expanding-end l = let e : m ≡ n = omega (arith, s .upto) in record { keeps = λ rank t a. rw e at (s .keeps rank t a .0) }
 
   module _ (l : m < n) where
@@ -75,53 +72,53 @@ module _ {capacities flights order lands price dist₀ dist via₀ via : List �
     expanding-room = omega (arith, s .can .lands-room, s .can .table .by-due .row, s .can .upto, s .can .table .valid .flights-to)
 
     module _ {i : ℕ} (i-is : i ≡ getD order m 0) where
-      in-table : i < N (day capacities flights)
+      in-table : i < N d
       in-table = omega (arith, s .can .table .by-due .permuted .below m (omega (arith, s .can .upto)))
 
-      pub expanding-stands : (i + 1) * width ≤ length flights
+      pub expanding-stands : (i + 1) * width ≤ length (d .flights)
       expanding-stands = stands (s .can .table) i in-table
 
       module _ (here : getD lands m 0 ≡ k) where
-        window : In (scope capacities flights order n target) m k
+        window : In (scope d order n target) m k
         window = rw here at (s .can .scene .sound .accepted .legal .window m l)
 
-        pub expanding-due : {u : ℕ} → u ≡ due (day capacities flights) i → (u ≤ k) × (k < 98)
+        pub expanding-due : {u : ℕ} → u ≡ due d i → (u ≤ k) × (k < 98)
         expanding-due e = omega (arith, rw (← i-is) at (window .from), s .can .to, s .can .scene .within, s .can .scene .periods)
 
-        pays-here : {b : ℕ} → b ≡ cost (day capacities flights) i (k - due (day capacities flights) i) → b + getD price k 0 ≤ dearest
-        pays-here e = rw (e, i-is) (s .can .scene .pays m k (omega arith) window)
+        pays-here : {b q : ℕ} → b ≡ cost d i (k - due d i) → q ≡ ofPeriod prices k → b + q ≤ dearest
+        pays-here e g = rw (e, i-is, g) (s .can .scene .pays m k (omega arith) window)
 
-        pub expanding-small : {u b : ℕ} → u ≡ due (day capacities flights) i → b ≡ cost (day capacities flights) i (k - u) → b + getD price k 0 ≤ dearest
-        expanding-small f e = pays-here (rw f at e)
+        pub expanding-small : {u b q : ℕ} → u ≡ due d i → b ≡ cost d i (k - u) → q ≡ ofPeriod prices k → b + q ≤ dearest
+        expanding-small f e g = pays-here (rw f at e) g
 
-        to : min (latest (day capacities flights) (getD order m 0)) target ≡ scope capacities flights order n target .hi m
-        to = until-target (day capacities flights) (getD order m 0) target (omega (arith, s .can .scene .within)) (omega (arith, window .from, s .can .to))
+        to : min (latest d (getD order m 0)) target ≡ scope d order n target .hi m
+        to = until-target d (getD order m 0) target (omega (arith, s .can .scene .within)) (omega (arith, window .from, s .can .to))
 
-        module _ {u b : ℕ} (u-is : u ≡ due (day capacities flights) i) (b-is : b ≡ cost (day capacities flights) i (k - u)) where
-          base-is : b + getD price k 0 ≡ scope capacities flights order n target .cost m k + el price k
-          base-is = rw (b-is, u-is, i-is)
+        module _ {u b q : ℕ} (u-is : u ≡ due d i) (b-is : b ≡ cost d i (k - u))
+            (q-is : q ≡ ofPeriod prices k) where
+          base-is : b + q ≡ scope d order n target .cost m k + ofPeriod prices k
+          base-is = rw (b-is, u-is, i-is, q-is)
 
-          pub expanding-can : CanOffer (day capacities flights) price dist via target i from (b + getD price k 0)
+          pub expanding-can : CanOffer d prices dist via target i from (b + q)
           expanding-can = record {
             few = s .can .table .valid .periods-to;
             room = expanding-stands;
             rates = s .can .table .valid .flight i in-table .rate-to;
             jumps = s .can .table .valid .flight i in-table .jump-to;
             within = omega (arith, s .can .scene .within, s .can .scene .periods);
-            prices = s .can .prices;
             dists = s .same-d ∙ s .can .dists;
             vias = s .same-v ∙ s .can .vias;
             low = omega (arith, s .from-is, s .can .near);
             pays = λ j a e.
-                let w : In (scope capacities flights order n target) m j = record { from = rw i-is at a; to = omega (arith, to, rw i-is at e) } in
+                let w : In (scope d order n target) m j = record { from = rw i-is at a; to = omega (arith, to, rw i-is at e) } in
                 let best = s .can .scene .sound .accepted .best m j l w in
                 let least = s .can .scene .pays m j (omega arith) w in
                 rw i-is (omega (arith, rw here at best, least, base-is));
           }
 
           pub expanding-offered : {dist₂ via₂ : List ℕ} → length dist₂ ≡ length dist → length via₂ ≡ length via
-              → Offers (day capacities flights) price target i m from (b + getD price k 0) dist dist₂ via via₂
-              → Expanding capacities flights order lands price n target dist₀ dist₂ via₀ via₂ k from (m + 1)
+              → Offers d prices target i m from (b + q) dist dist₂ via via₂
+              → Expanding d order lands prices n target dist₀ dist₂ via₀ via₂ k from (m + 1)
           expanding-offered {dist₂} {via₂} sd sv o = record {
             can = s .can;
             same-d = sd ∙ s .same-d;
@@ -138,30 +135,30 @@ module _ {capacities flights order lands price dist₀ dist via₀ via : List �
 -- ---- find_path
 
 -- the rows that the search started with have the subscript
-pub record Finding (capacities flights order lands price dist₀ dist rank₀ rank via₀ via : List ℕ) (n first target t k : ℕ) : Type 0 where
-  pub can : CanSearch capacities flights order lands price dist₀ rank₀ via₀ n first target
-  pub so-far : Search (scope capacities flights order n target) (el lands) (el price) target dist rank via t n
+pub record Finding (d : Day) (order lands prices dist₀ dist rank₀ rank via₀ via : List ℕ) (n first target t k : ℕ) : Type 0 where
+  pub can : CanSearch d order lands prices dist₀ rank₀ via₀ n first target
+  pub so-far : Search (scope d order n target) (el lands) (ofPeriod prices) target dist rank via t n
   pub nearest : Nearest dist rank first target k
 
-pub finding-near : {capacities flights order lands price dist rank via : List ℕ} {n first target : ℕ}
-    → CanSearch capacities flights order lands price dist rank via n first target → CanNear dist rank first target
+pub finding-near : {d : Day} {order lands prices dist rank via : List ℕ} {n first target : ℕ}
+    → CanSearch d order lands prices dist rank via n first target → CanNear dist rank first target
 finding-near c = search-near (c .so-far) (c .scene) (c .first-is)
 
-pub finding-start : {capacities flights order lands price dist rank via : List ℕ} {n first target k : ℕ}
-    → CanSearch capacities flights order lands price dist rank via n first target → Nearest dist rank first target k
-    → Finding capacities flights order lands price dist dist rank rank via via n first target 0 k
+pub finding-start : {d : Day} {order lands prices dist rank via : List ℕ} {n first target k : ℕ}
+    → CanSearch d order lands prices dist rank via n first target → Nearest dist rank first target k
+    → Finding d order lands prices dist dist rank rank via via n first target 0 k
 finding-start c a = record { can = c; so-far = c .so-far; nearest = a }
 
-module _ {capacities flights order lands price dist₀ dist rank₀ rank via₀ via : List ℕ} {n first target t k : ℕ}
-    (s : Finding capacities flights order lands price dist₀ dist rank₀ rank via₀ via n first target t k) where
-  pub finding-end : k ≡ target → Searched (scope capacities flights order n target) (el lands) (el price) target dist rank via
+module _ {d : Day} {order lands prices dist₀ dist rank₀ rank via₀ via : List ℕ} {n first target t k : ℕ}
+    (s : Finding d order lands prices dist₀ dist rank₀ rank via₀ via n first target t k) where
+  pub finding-end : k ≡ target → Searched (scope d order n target) (el lands) (ofPeriod prices) target dist rank via
   finding-end e = search-end (s .so-far) (s .can .scene) (s .can .first-is) (s .nearest) e
 
   module _ (e : k ≢ target) where
     pub finding-in : (k < 98) × (t < 98) × (k < length rank)
     finding-in = let a = reach-in (s .so-far) (s .can .scene) (s .can .first-is) (s .nearest) e in (a .1, a .2, a .3)
 
-    pub finding-expand : CanExpand capacities flights order lands price dist via n target k
+    pub finding-expand : CanExpand d order lands prices dist via n target k
     finding-expand =
         let a = reach-in (s .so-far) (s .can .scene) (s .can .first-is) (s .nearest) e in
         record {
@@ -169,7 +166,6 @@ module _ {capacities flights order lands price dist₀ dist rank₀ rank via₀ 
           scene = s .can .scene;
           upto = s .can .upto;
           lands-room = s .can .lands-room;
-          prices = s .can .prices;
           dists = s .so-far .rows .dists;
           vias = s .so-far .rows .vias;
           to = a .0;
@@ -177,13 +173,13 @@ module _ {capacities flights order lands price dist₀ dist rank₀ rank via₀ 
         }
 
     module _ {dist₂ via₂ : List ℕ}
-        (h : Expanded (scope capacities flights order n target) (el lands) (el price) target dist dist₂ via via₂ k n) where
-      expanded : Search (scope capacities flights order n target) (el lands) (el price) target dist₂ (set rank k (t + 1)) via₂ (t + 1) n
+        (h : Expanded (scope d order n target) (el lands) (ofPeriod prices) target dist dist₂ via via₂ k n) where
+      expanded : Search (scope d order n target) (el lands) (ofPeriod prices) target dist₂ (set rank k (t + 1)) via₂ (t + 1) n
       expanded = h .keeps (set rank k (t + 1)) (t + 1) (reach-next (s .so-far) (s .can .scene) (s .can .first-is) (s .nearest) e) .so-far
 
       pub finding-again : CanNear dist₂ (set rank k (t + 1)) first target
       finding-again = search-near expanded (s .can .scene) (s .can .first-is)
 
       pub finding-next : {j : ℕ} → Nearest dist₂ (set rank k (t + 1)) first target j
-          → Finding capacities flights order lands price dist₀ dist₂ rank₀ (set rank k (t + 1)) via₀ via₂ n first target (t + 1) j
+          → Finding d order lands prices dist₀ dist₂ rank₀ (set rank k (t + 1)) via₀ via₂ n first target (t + 1) j
       finding-next a = record { can = s .can; so-far = expanded; nearest = a }

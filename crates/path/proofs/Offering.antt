@@ -3,7 +3,7 @@
 use mathlib.Core.Path.{_≡_, refl, _∙_}
 use mathlib.Core.Logic.{inl, inr, _≢_}
 use mathlib.Core.List.{List}
-use Prim.Native.Nat.{ℕ, _+_, _-_, _*_, _≤_, _<_, min}
+use Prim.Native.Nat.{ℕ, _+_, _-_, _*_, _^_, _≤_, _<_, min}
 use native.Mathlib.Nat.{mul-le-mul}
 use native.Mathlib.Omega.{arith}
 use lib.Dec.{ltb}
@@ -11,7 +11,7 @@ use lib.ListN.{getD, length, set, length-set}
 use Rattle.assignment.specs.Sum.{gate}
 use Rattle.assignment.proofs.Tests.{eq?}
 use Rattle.assignment.proofs.Moves.{Moved}
-use Rattle.day.specs.Day.{Day, due, rate, after, jump, latest, cost}
+use Rattle.day.specs.Day.{Day, due, rate, after, jump, latest, ofPeriod, cost}
 use Rattle.path.specs.Path.{el, away, dearest, payment, CanOffer, Offers}
 use Rattle.path.proofs.Rows.{set-moved, away-moved, as-read}
 
@@ -29,23 +29,23 @@ unfolding cost
 cost-is k n e = rw (n .due-is, n .rate-is, n .after-is, n .jump-is) at e
 
 -- what has become of period j
-pub record Took (d : Day) (price dist₀ dist via₀ via : List ℕ) (i who from base j : ℕ) : Type 0 where
-  pub nearer : from + payment d price i j < away dist₀ j + base → (away dist j + base ≡ from + payment d price i j) × (el via j ≡ who)
-  pub no-nearer : away dist₀ j + base ≤ from + payment d price i j → (away dist j ≡ away dist₀ j) × (el via j ≡ el via₀ j)
+pub record Took (d : Day) (prices dist₀ dist via₀ via : List ℕ) (i who from base j : ℕ) : Type 0 where
+  pub nearer : from + payment d prices i j < away dist₀ j + base → (away dist j + base ≡ from + payment d prices i j) × (el via j ≡ who)
+  pub no-nearer : away dist₀ j + base ≤ from + payment d prices i j → (away dist j ≡ away dist₀ j) × (el via j ≡ el via₀ j)
 
 -- the periods before k have been offered
-pub record Offering (d : Day) (price dist₀ dist via₀ via : List ℕ) (target i who from base k : ℕ) : Type 0 where
-  pub can : CanOffer d price dist₀ via₀ target i from base
+pub record Offering (d : Day) (prices dist₀ dist via₀ via : List ℕ) (target i who from base k : ℕ) : Type 0 where
+  pub can : CanOffer d prices dist₀ via₀ target i from base
   pub same-d : length dist ≡ length dist₀
   pub same-v : length via ≡ length via₀
   pub lower : due d i ≤ k
-  pub done : (j : ℕ) → due d i ≤ j → j < k → j ≤ min (latest d i) target → Took d price dist₀ dist via₀ via i who from base j
+  pub done : (j : ℕ) → due d i ≤ j → j < k → j ≤ min (latest d i) target → Took d prices dist₀ dist via₀ via i who from base j
   pub left : (j : ℕ) → k ≤ j → (away dist j ≡ away dist₀ j) × (el via j ≡ el via₀ j)
   pub before : (j : ℕ) → j < due d i → (away dist j ≡ away dist₀ j) × (el via j ≡ el via₀ j)
   pub behind : (j : ℕ) → min (latest d i) target < j → (away dist j ≡ away dist₀ j) × (el via j ≡ el via₀ j)
 
-pub offering-start : {d : Day} {price dist via : List ℕ} {target i who from base k : ℕ} → CanOffer d price dist via target i from base → k ≡ due d i
-    → Offering d price dist dist via via target i who from base k
+pub offering-start : {d : Day} {prices dist via : List ℕ} {target i who from base k : ℕ} → CanOffer d prices dist via target i from base → k ≡ due d i
+    → Offering d prices dist dist via via target i who from base k
 offering-start c e = record {
   can = c;
   same-d = refl;
@@ -57,10 +57,10 @@ offering-start c e = record {
   behind = λ j _. (refl, refl);
 }
 
-module _ {d : Day} {price dist₀ dist via₀ via : List ℕ} {target i who from base k due₁ rate₁ after₁ jump₁ last : ℕ}
-    (s : Offering d price dist₀ dist via₀ via target i who from base k) (n : Numbers d target i due₁ rate₁ after₁ jump₁ last) where
+module _ {d : Day} {prices dist₀ dist via₀ via : List ℕ} {target i who from base k due₁ rate₁ after₁ jump₁ last : ℕ}
+    (s : Offering d prices dist₀ dist via₀ via target i who from base k) (n : Numbers d target i due₁ rate₁ after₁ jump₁ last) where
   module _ (l : k ≤ last) where
-    pub offering-room : (k < length dist) × (k < length via) × (k < length price) × (k < 98) × (due₁ ≤ k)
+    pub offering-room : (k < length dist) × (k < length via) × (k < 98) × (due₁ ≤ k) × (k ≤ last) × (last < 98)
     offering-room = omega (
       arith,
       n .last-is,
@@ -69,25 +69,24 @@ module _ {d : Day} {price dist₀ dist via₀ via : List ℕ} {target i who from
       s .can .within,
       s .can .dists,
       s .can .vias,
-      s .can .prices,
       s .same-d,
       s .same-v,
     )
 
-    pub offering-fits : rate₁ * (k - due₁) + jump₁ ≤ 2000000
-    offering-fits = omega (
+    pub offering-fits : {h : ℕ} → h ≤ 98 → rate₁ * h + jump₁ < 2 ^ 64
+    offering-fits {h} short = omega (
       arith,
       n .jump-is,
       s .can .jumps,
-      offering-room,
-      mul-le-mul {n₁ = rate₁} {m₁ = k - due₁} {n₂ = 10000} {m₂ = 98} (omega (arith, n .rate-is, s .can .rates)) (omega (arith, offering-room)),
+      mul-le-mul {n₁ = rate₁} {m₁ = h} {n₂ = 10000} {m₂ = 98} (omega (arith, n .rate-is, s .can .rates)) short,
     )
 
     in-window : k ≤ min (latest d i) target
     in-window = omega (arith, n .last-is)
 
-    pub offering-small : {r : ℕ} → r ≡ cost d i (k - due d i) → (base ≤ from + (r + getD price k 0)) × (r + getD price k 0 ≤ dearest) × (from ≤ 98 * dearest)
-    offering-small e = (
+    pub offering-small : {r q : ℕ} → r ≡ cost d i (k - due d i) → q ≡ ofPeriod prices k
+        → (base ≤ from + (r + q)) × (r + q ≤ dearest) × (from ≤ 98 * dearest)
+    offering-small e f = (
       omega (arith, s .can .pays k (s .lower) in-window .0),
       omega (arith, s .can .pays k (s .lower) in-window .1),
       s .can .low,
@@ -96,16 +95,16 @@ module _ {d : Day} {price dist₀ dist via₀ via : List ℕ} {target i who from
     read : getD dist k 0 ≡ away dist k
     read = as-read dist k (offering-room .0)
 
-    pub offering-keep : {r : ℕ} → r ≡ cost d i (k - due d i) → getD dist k 0 ≤ (from + (r + getD price k 0)) - base
-        → Offering d price dist₀ dist via₀ via target i who from base (k + 1)
-    offering-keep e h = record {
+    pub offering-keep : {r q : ℕ} → r ≡ cost d i (k - due d i) → q ≡ ofPeriod prices k → getD dist k 0 ≤ (from + (r + q)) - base
+        → Offering d prices dist₀ dist via₀ via target i who from base (k + 1)
+    offering-keep e q-is h = record {
       can = s .can;
       same-d = s .same-d;
       same-v = s .same-v;
       lower = omega (arith, s .lower);
       done = λ j a b c. elim (eq? j k) [
         | inl f ↦ rw f (record {
-          nearer = λ less. absurd (omega (arith, read, s .left k (omega arith) .0, offering-small e .0));
+          nearer = λ less. absurd (omega (arith, read, s .left k (omega arith) .0, offering-small e q-is .0));
           no-nearer = λ _. s .left k (omega arith);
         })
         | inr f ↦ s .done j a (omega arith) c
@@ -115,17 +114,17 @@ module _ {d : Day} {price dist₀ dist via₀ via : List ℕ} {target i who from
       behind = s .behind;
     }
 
-    pub offering-take : {r : ℕ} → r ≡ cost d i (k - due d i) → (from + (r + getD price k 0)) - base < getD dist k 0
-        → Offering d price dist₀ (set dist k ((from + (r + getD price k 0)) - base)) via₀ (set via k who) target i who from base (k + 1)
-    offering-take {r} e h = record {
+    pub offering-take : {r q : ℕ} → r ≡ cost d i (k - due d i) → q ≡ ofPeriod prices k → (from + (r + q)) - base < getD dist k 0
+        → Offering d prices dist₀ (set dist k ((from + (r + q)) - base)) via₀ (set via k who) target i who from base (k + 1)
+    offering-take {r} {q} e q-is h = record {
       can = s .can;
       same-d = length-set dist k new ∙ s .same-d;
       same-v = length-set via k who ∙ s .same-v;
       lower = omega (arith, s .lower);
       done = λ j a b c. elim (eq? j k) [
         | inl f ↦ rw f (record {
-          nearer = λ less. (omega (arith, v .here, offering-small e .0), u .here);
-          no-nearer = λ more. absurd (omega (arith, read, s .left k (omega arith) .0, offering-small e .0));
+          nearer = λ less. (omega (arith, v .here, offering-small e q-is .0), u .here);
+          no-nearer = λ more. absurd (omega (arith, read, s .left k (omega arith) .0, offering-small e q-is .0));
         })
         | inr f ↦
             let t = s .done j a (omega arith) c in
@@ -140,7 +139,7 @@ module _ {d : Day} {price dist₀ dist via₀ via : List ℕ} {target i who from
     }
       where
         new : ℕ
-        new = (from + (r + getD price k 0)) - base
+        new = (from + (r + q)) - base
 
         v : Moved (away dist) (away (set dist k new)) k new
         v = away-moved dist k new (offering-room .0)
@@ -152,7 +151,7 @@ module _ {d : Day} {price dist₀ dist via₀ via : List ℕ} {target i who from
             → (away (set dist k new) j ≡ away dist₀ j) × (el (set via k who) j ≡ el via₀ j)
         kept j f w = (v .others j f ∙ w .0, u .others j f ∙ w .1)
 
-  pub offering-end : last < k → Offers d price target i who from base dist₀ dist via₀ via
+  pub offering-end : last < k → Offers d prices target i who from base dist₀ dist via₀ via
   offering-end l = record {
     nearer = λ j a b. s .done j a (omega (arith, n .last-is)) b .nearer;
     no-nearer = λ j a b. s .done j a (omega (arith, n .last-is)) b .no-nearer;

@@ -11,7 +11,7 @@ use Rattle.assignment.proofs.Near.{Near, Offered}
 use Rattle.assignment.proofs.Insertion.{Sound, grown}
 use Rattle.assignment.proofs.Permuted.{ordered}
 use Rattle.assignment.proofs.Restricted.{restricted}
-use Rattle.day.specs.Day.{Day, day, width, P, N, due, rate, jump, cost, latest}
+use Rattle.day.specs.Day.{Day, width, P, N, ofPeriod, due, rate, jump, cost, latest}
 use Rattle.day.proofs.Valid.{Valid}
 use Rattle.day.proofs.Instance.{instance}
 use Rattle.due_order.specs.DueOrder.{DueOrder}
@@ -31,12 +31,12 @@ abbrev pub dearest : ℕ
 dearest = 5000000000
 
 -- the first n flights of the order, none of which is to land beyond the target
-abbrev pub scope : List ℕ → List ℕ → List ℕ → ℕ → ℕ → Instance
-scope capacities flights order n target = restricted (ordered (instance (day capacities flights)) (el order) n) target
+abbrev pub scope : Day → List ℕ → ℕ → ℕ → Instance
+scope d order n target = restricted (ordered (instance d) (el order) n) target
 
 -- what a flight pays in period k
 abbrev pub payment : Day → List ℕ → ℕ → ℕ → ℕ
-payment d price i k = cost d i (k - due d i) + el price k
+payment d prices i k = cost d i (k - due d i) + ofPeriod prices k
 
 -- a day that passes the check, and all of its table places, due falling
 pub record Table (d : Day) (order : List ℕ) : Type 0 where
@@ -98,28 +98,26 @@ pub record Nearest (dist rank : List ℕ) (first target k : ℕ) : Type 0 where
   pub least : (j : ℕ) → first ≤ j → j < target → el rank j ≡ 0 → away dist k ≤ away dist j
   pub target-least : away dist k ≤ away dist target
 
-pub record CanOffer (d : Day) (price dist via : List ℕ) (target i from base : ℕ) : Type 0 where
+pub record CanOffer (d : Day) (prices dist via : List ℕ) (target i from base : ℕ) : Type 0 where
   pub few : P d ≤ 96
   pub room : (i + 1) * width ≤ length (d .flights)
   pub rates : rate d i ≤ 10000
   pub jumps : jump d i ≤ 1000000
   pub within : target < 98
-  pub prices : length price ≡ 98
   pub dists : length dist ≡ 98
   pub vias : length via ≡ 98
   pub low : from ≤ 98 * dearest
-  pub pays : (k : ℕ) → due d i ≤ k → k ≤ min (latest d i) target → (base ≤ from + payment d price i k) × (payment d price i k ≤ dearest)
+  pub pays : (k : ℕ) → due d i ≤ k → k ≤ min (latest d i) target → (base ≤ from + payment d prices i k) × (payment d prices i k ≤ dearest)
 
-abbrev pub Offers : (d : Day) (price : List ℕ) (target i who from base : ℕ) (dist dist₂ via via₂ : List ℕ) → Type 0
-Offers d price target i who from base dist dist₂ via via₂ =
-    Offered (due d i) (min (latest d i) target) (payment d price i) who from base (away dist) (away dist₂) (el via) (el via₂)
+abbrev pub Offers : (d : Day) (prices : List ℕ) (target i who from base : ℕ) (dist dist₂ via via₂ : List ℕ) → Type 0
+Offers d prices target i who from base dist dist₂ via via₂ =
+    Offered (due d i) (min (latest d i) target) (payment d prices i) who from base (away dist) (away dist₂) (el via) (el via₂)
 
-pub record CanExpand (capacities flights order lands price dist via : List ℕ) (n target k : ℕ) : Type 0 where
-  pub table : Table (day capacities flights) order
-  pub scene : Scene (scope capacities flights order n target) (el lands) (el price) target
-  pub upto : n < N (day capacities flights)
+pub record CanExpand (d : Day) (order lands prices dist via : List ℕ) (n target k : ℕ) : Type 0 where
+  pub table : Table d order
+  pub scene : Scene (scope d order n target) (el lands) (ofPeriod prices) target
+  pub upto : n < N d
   pub lands-room : n ≤ length lands
-  pub prices : length price ≡ 98
   pub dists : length dist ≡ 98
   pub vias : length via ≡ 98
   pub to : k < target
@@ -129,14 +127,13 @@ pub record CanExpand (capacities flights order lands price dist via : List ℕ) 
 pub record Expanded (d : Instance) (x p : ℕ → ℕ) (target : ℕ) (dist dist₂ via via₂ : List ℕ) (k m : ℕ) : Type 0 where
   pub keeps : (rank : List ℕ) (t : ℕ) → Around d x p target dist rank via t k 0 → Around d x p target dist₂ rank via₂ t k m
 
-pub record CanSearch (capacities flights order lands price dist rank via : List ℕ) (n first target : ℕ) : Type 0 where
-  pub table : Table (day capacities flights) order
-  pub scene : Scene (scope capacities flights order n target) (el lands) (el price) target
-  pub upto : n < N (day capacities flights)
+pub record CanSearch (d : Day) (order lands prices dist rank via : List ℕ) (n first target : ℕ) : Type 0 where
+  pub table : Table d order
+  pub scene : Scene (scope d order n target) (el lands) (ofPeriod prices) target
+  pub upto : n < N d
   pub lands-room : n ≤ length lands
-  pub prices : length price ≡ 98
-  pub so-far : Search (scope capacities flights order n target) (el lands) (el price) target dist rank via 0 n
-  pub first-is : first ≡ due (day capacities flights) (el order n)
+  pub so-far : Search (scope d order n target) (el lands) (ofPeriod prices) target dist rank via 0 n
+  pub first-is : first ≡ due d (el order n)
 
 -- the target is the nearest of the periods that are not reached, and it is not far
 pub record Searched (d : Instance) (x p : ℕ → ℕ) (target : ℕ) (dist rank via : List ℕ) : Type 0 where

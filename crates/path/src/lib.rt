@@ -3,13 +3,14 @@ ghost use mathlib.Core.Path.{_≡_};
 ghost use Prim.Native.Nat.{ℕ, _+_, _*_, _^_, _<_, _≤_, min};
 ghost use lib.Dec.{ltb};
 ghost use Rattle.assignment.specs.Sum.{gate};
-ghost use Rattle.day.specs.Day.{day};
+ghost use Rattle.day.specs.Day.{day, ofPeriod};
 ghost use Rattle.path.specs.Path.{el, scope, CanNear, Nearest, CanOffer, Offers, CanExpand, Expanded, CanSearch, Searched};
 use day::after_of;
 use day::cost_of;
 use day::due_of;
 use day::jump_of;
 use day::latest_of;
+use day::of_period;
 use day::rate_of;
 use day::wide;
 
@@ -63,7 +64,7 @@ fn nearest(dist: &[usize], rank: &[usize], first: usize, target: usize) -> usize
 pub fn offer(
     capacities: &[u32],
     flights: &[u32],
-    price: &[usize],
+    prices: &[u32],
     dist: &mut [usize],
     via: &mut [usize],
     target: usize,
@@ -72,8 +73,8 @@ pub fn offer(
     from: usize,
     base: usize,
 )
-    requires { ⌜ CanOffer (day (now capacities) (now flights)) (now price) (now dist) (now via) target i from base ⌝ }
-    ensures { λ _. ⌜ Offers (day (now (capacities .entry)) (now (flights .entry))) (now (price .entry)) target i who from base (now (dist .entry)) (now (dist .exit)) (now (via .entry)) (now (via .exit)) ⌝ }
+    requires { ⌜ CanOffer (day (now capacities) (now flights)) (now prices) (now dist) (now via) target i from base ⌝ }
+    ensures { λ _. ⌜ Offers (day (now (capacities .entry)) (now (flights .entry))) (now (prices .entry)) target i who from base (now (dist .entry)) (now (dist .exit)) (now (via .entry)) (now (via .exit)) ⌝ }
 {
     let due = due_of(flights, i);
     let rate = rate_of(flights, i);
@@ -84,7 +85,7 @@ pub fn offer(
     while k <= last {
         let at = k;
         k += 1;
-        let away = from + (hold_cost(rate, after, jump, at - due) + price[at]) - base;
+        let away = from + (hold_cost(rate, after, jump, at - due) + of_period(prices, at)) - base;
         if away < dist[at] {
             dist[at] = away;
             via[at] = who;
@@ -98,15 +99,15 @@ fn expand(
     flights: &[u32],
     order: &[u32],
     lands: &[usize],
-    price: &[usize],
+    prices: &[u32],
     dist: &mut [usize],
     via: &mut [usize],
     n: usize,
     target: usize,
     k: usize,
 )
-    requires { ⌜ CanExpand (now capacities) (now flights) (now order) (now lands) (now price) (now dist) (now via) n target k ⌝ }
-    ensures { λ _. ⌜ Expanded (scope (now (capacities .entry)) (now (flights .entry)) (now (order .entry)) n target) (el (now (lands .entry))) (el (now (price .entry))) target (now (dist .entry)) (now (dist .exit)) (now (via .entry)) (now (via .exit)) k n ⌝ }
+    requires { ⌜ CanExpand (day (now capacities) (now flights)) (now order) (now lands) (now prices) (now dist) (now via) n target k ⌝ }
+    ensures { λ _. ⌜ Expanded (scope (day (now (capacities .entry)) (now (flights .entry))) (now (order .entry)) n target) (el (now (lands .entry))) (ofPeriod (now (prices .entry))) target (now (dist .entry)) (now (dist .exit)) (now (via .entry)) (now (via .exit)) k n ⌝ }
 {
     let from = dist[k];
     let mut m = 0;
@@ -115,11 +116,12 @@ fn expand(
         m += 1;
         if lands[who] == k {
             let i = wide(order[who]);
-            let base = cost_of(capacities, flights, i, k - due_of(flights, i)) + price[k];
+            let base = cost_of(capacities, flights, i, k - due_of(flights, i))
+                + of_period(prices, k);
             offer(
                 capacities,
                 flights,
-                price,
+                prices,
                 dist,
                 via,
                 target,
@@ -138,7 +140,7 @@ pub fn find_path(
     flights: &[u32],
     order: &[u32],
     lands: &[usize],
-    price: &[usize],
+    prices: &[u32],
     dist: &mut [usize],
     rank: &mut [usize],
     via: &mut [usize],
@@ -146,8 +148,8 @@ pub fn find_path(
     first: usize,
     target: usize,
 )
-    requires { ⌜ CanSearch (now capacities) (now flights) (now order) (now lands) (now price) (now dist) (now rank) (now via) n first target ⌝ }
-    ensures { λ _. ⌜ Searched (scope (now (capacities .entry)) (now (flights .entry)) (now (order .entry)) n target) (el (now (lands .entry))) (el (now (price .entry))) target (now (dist .exit)) (now (rank .exit)) (now (via .exit)) ⌝ }
+    requires { ⌜ CanSearch (day (now capacities) (now flights)) (now order) (now lands) (now prices) (now dist) (now rank) (now via) n first target ⌝ }
+    ensures { λ _. ⌜ Searched (scope (day (now (capacities .entry)) (now (flights .entry))) (now (order .entry)) n target) (el (now (lands .entry))) (ofPeriod (now (prices .entry))) target (now (dist .exit)) (now (rank .exit)) (now (via .exit)) ⌝ }
 {
     let mut t = 0;
     let mut k = nearest(dist, rank, first, target);
@@ -159,7 +161,7 @@ pub fn find_path(
             flights,
             order,
             lands,
-            price,
+            prices,
             dist,
             via,
             n,

@@ -28,7 +28,7 @@ fn values_of(capacities: &[u32], flights: &[u32], holds: &[u32], i: usize) -> [u
     [
         day::number_of(flights, i),
         day::due_of(flights, i),
-        legality::land_of(capacities, flights, holds, i),
+        day::land_of(capacities, flights, holds, i),
         day::wide(holds[i]),
     ]
 }

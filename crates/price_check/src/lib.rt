@@ -19,7 +19,7 @@ fn landings_of(capacities: &[u32], flights: &[u32], holds: &[u32], k: usize) -> 
     while i < holds.len() {
         let place = i;
         i += 1;
-        if legality::land_of(capacities, flights, holds, place) == k {
+        if day::land_of(capacities, flights, holds, place) == k {
             count += 1;
         }
     }

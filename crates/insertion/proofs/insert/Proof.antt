@@ -1,25 +1,39 @@
--- The steps hand over: first room, the new flight's offers, the search, the raise, the walk. Assumes nothing.
-use native.Mathlib.Omega.{arith}
-use mathlib.Core.Path.{refl}
-use Rattle.insertion.proofs.Inserting.{insert-room, insert-stands, insert-find, insert-offer, insert-search, insert-rows, insert-raise, insert-walk, insert-few, insert-within, insert-end}
+-- The steps hand over: landings, first room, the new flight's offers, the search, the walk, the raise. Assumes nothing.
 use borrow.Author.Needs.{needs}
+use native.Mathlib.Omega.{arith}
+use mathlib.Core.Path.{refl, sym, _∙_}
+use Prim.Native.Nat.{ℕ}
+use lib.ListN.{length-replicate}
+use Rattle.insertion.proofs.Inserting.{insert-list, insert-room, insert-stands, insert-find, insert-offer, insert-search, insert-rows, insert-within, insert-walk, insert-raise, insert-end}
 use Rattle.insertion.proofs.insert.Statement.{statement}
 use Rattle.insertion.proofs.insert.Tie as tie
 
+slice-aggregate-list-landings : tie.Need-slice-aggregate-list-landings
+slice-aggregate-list-landings c = search needs
+
+slice-aggregate-list-landings-2 : tie.Need-slice-aggregate-list-landings-2
+slice-aggregate-list-landings-2 c = search needs
+
+list-landings-requires : tie.Need-list-landings-requires
+list-landings-requires c κs = insert-list (c .before .before .before .before .before .before .before .before .pre .0) (c .before .before .before .before .before .before .before .before .pre .1)
+
 mul-wide : tie.Need-mul-wide
-mul-wide c = omega (arith, insert-room (c .before .before .before .before .before .before .pre .0) (c .before .before .before .before .before .before .pre .1))
+mul-wide c = omega (arith, insert-room (c .before .before .before .before .before .before .before .before .before .before .before .pre .0) (c .before .before .before .before .before .before .before .before .before .before .before .pre .1))
 
 shared-slice-read-wide : tie.Need-shared-slice-read-wide
-shared-slice-read-wide c = insert-room (c .before .before .before .before .before .before .before .pre .0) (c .before .before .before .before .before .before .before .pre .1) .0
+shared-slice-read-wide c = insert-room (c .before .before .before .before .before .before .before .before .before .before .before .before .pre .0) (c .before .before .before .before .before .before .before .before .before .before .before .before .pre .1) .0
 
 wide-requires : tie.Need-wide-requires
 wide-requires c κs = search needs
 
 due-of-requires : tie.Need-due-of-requires
-due-of-requires c κs = insert-stands (c .before .before .before .before .before .before .before .before .pre .0) (c .before .before .before .before .before .before .before .before .pre .1) (c .wide .ensures)
+due-of-requires c κs = insert-stands (c .before .before .before .before .before .before .before .before .before .before .before .before .before .pre .0) (c .before .before .before .before .before .before .before .before .before .before .before .before .before .pre .1) (c .before .before .before .before .list-landings .ensures) (c .before .before .before .before .list-landings .kept .1 .1 .1 .1 .0 ∙ length-replicate {A = ℕ} 128 0) (c .before .before .before .before .list-landings .kept .1 .1 .1 .1 .1 .0 ∙ length-replicate {A = ℕ} 98 0) (c .wide .ensures)
+
+slice-aggregate-first-with-room : tie.Need-slice-aggregate-first-with-room
+slice-aggregate-first-with-room c = sym (c .before .before .before .before .before .before .list-landings .kept .1 .1 .1 .1 .1 .0 ∙ length-replicate {A = ℕ} 98 0)
 
 first-with-room-requires : tie.Need-first-with-room-requires
-first-with-room-requires c κs = insert-find (c .before .before .before .before .before .before .before .before .before .before .pre .0) (c .before .before .before .before .before .before .before .before .before .before .pre .1) (c .before .before .wide .ensures) (c .before .due-of .ensures .0)
+first-with-room-requires c κs = insert-find (c .before .before .before .before .before .before .before .before .before .before .before .before .before .before .before .pre .0) (c .before .before .before .before .before .before .before .before .before .before .before .before .before .before .before .pre .1) (c .before .before .before .before .before .before .list-landings .ensures) (c .before .before .before .before .before .before .list-landings .kept .1 .1 .1 .1 .0 ∙ length-replicate {A = ℕ} 128 0) (c .before .before .before .before .before .before .list-landings .kept .1 .1 .1 .1 .1 .0 ∙ length-replicate {A = ℕ} 98 0) (c .before .before .wide .ensures) (c .before .due-of .ensures .0)
 
 slice-aggregate-offer : tie.Need-slice-aggregate-offer
 slice-aggregate-offer c = search needs
@@ -28,10 +42,10 @@ slice-aggregate-offer-2 : tie.Need-slice-aggregate-offer-2
 slice-aggregate-offer-2 c = search needs
 
 offer-requires : tie.Need-offer-requires
-offer-requires c κs = insert-offer (c .before .before .before .before .before .before .before .before .before .before .before .before .before .before .pre .0) (c .before .before .before .before .before .before .before .before .before .before .before .before .before .before .pre .1) (c .before .before .before .before .before .before .wide .ensures) (c .before .before .before .before .before .due-of .ensures .0) (c .before .before .before .first-with-room .ensures)
+offer-requires c κs = insert-offer (c .before .before .before .before .before .before .before .before .before .before .before .before .before .before .before .before .before .before .before .pre .0) (c .before .before .before .before .before .before .before .before .before .before .before .before .before .before .before .before .before .before .before .pre .1) (c .before .before .before .before .before .before .before .before .before .before .list-landings .ensures) (c .before .before .before .before .before .before .before .before .before .before .list-landings .kept .1 .1 .1 .1 .0 ∙ length-replicate {A = ℕ} 128 0) (c .before .before .before .before .before .before .before .before .before .before .list-landings .kept .1 .1 .1 .1 .1 .0 ∙ length-replicate {A = ℕ} 98 0) (c .before .before .before .before .before .before .wide .ensures) (c .before .before .before .before .before .due-of .ensures .0) (c .before .before .before .first-with-room .ensures)
 
 slice-aggregate-find-path : tie.Need-slice-aggregate-find-path
-slice-aggregate-find-path c = search needs
+slice-aggregate-find-path c = sym (c .before .before .before .before .before .before .before .before .before .before .before .before .before .before .list-landings .kept .1 .1 .1 .1 .0 ∙ length-replicate {A = ℕ} 128 0)
 
 slice-aggregate-find-path-2 : tie.Need-slice-aggregate-find-path-2
 slice-aggregate-find-path-2 c = search needs
@@ -39,50 +53,41 @@ slice-aggregate-find-path-2 c = search needs
 slice-aggregate-find-path-3 : tie.Need-slice-aggregate-find-path-3
 slice-aggregate-find-path-3 c = search needs
 
+slice-aggregate-find-path-4 : tie.Need-slice-aggregate-find-path-4
+slice-aggregate-find-path-4 c = search needs
+
 find-path-requires : tie.Need-find-path-requires
-find-path-requires c κs = insert-search (c .before .before .before .before .before .before .before .before .before .before .before .before .before .before .before .before .before .before .before .before .before .before .pre .0) (c .before .before .before .before .before .before .before .before .before .before .before .before .before .before .before .before .before .before .before .before .before .before .pre .1) (c .before .before .before .before .before .before .before .before .before .before .before .before .before .before .wide .ensures) (c .before .before .before .before .before .before .before .before .before .before .before .before .before .due-of .ensures .0) (c .before .before .before .before .before .before .before .before .before .before .before .first-with-room .ensures) (c .before .before .before .before .before .before .before .offer .kept .1 .1 .1 .0) (c .before .before .before .before .before .before .before .offer .kept .1 .1 .1 .1 .0) (c .before .before .before .before .before .before .before .offer .ensures)
+find-path-requires c κs = insert-search (c .before .before .before .before .before .before .before .before .before .before .before .before .before .before .before .before .before .before .before .before .before .before .before .before .before .before .before .pre .0) (c .before .before .before .before .before .before .before .before .before .before .before .before .before .before .before .before .before .before .before .before .before .before .before .before .before .before .before .pre .1) (c .before .before .before .before .before .before .before .before .before .before .before .before .before .before .before .before .before .before .list-landings .ensures) (c .before .before .before .before .before .before .before .before .before .before .before .before .before .before .before .before .before .before .list-landings .kept .1 .1 .1 .1 .0 ∙ length-replicate {A = ℕ} 128 0) (c .before .before .before .before .before .before .before .before .before .before .before .before .before .before .before .before .before .before .list-landings .kept .1 .1 .1 .1 .1 .0 ∙ length-replicate {A = ℕ} 98 0) (c .before .before .before .before .before .before .before .before .before .before .before .before .before .before .wide .ensures) (c .before .before .before .before .before .before .before .before .before .before .before .before .before .due-of .ensures .0) (c .before .before .before .before .before .before .before .before .before .before .before .first-with-room .ensures) (c .before .before .before .before .before .before .before .offer .kept .1 .1 .1 .0) (c .before .before .before .before .before .before .before .offer .kept .1 .1 .1 .1 .0) (c .before .before .before .before .before .before .before .offer .ensures)
+
+mul-rank : tie.Need-mul-rank
+mul-rank c = omega (arith, insert-within (c .before .before .before .before .before .before .before .before .before .before .before .before .before .before .before .before .before .before .before .before .before .before .before .before .before .before .before .before .before .before .before .pre .0) (c .before .before .before .before .before .before .before .before .before .before .before .before .before .before .before .before .before .before .before .before .before .before .before .before .before .before .before .before .before .before .before .pre .1) (c .before .before .before .before .before .before .before .before .before .before .before .before .before .before .before .before .before .before .before .before .before .before .list-landings .ensures) (c .before .before .before .before .before .before .before .before .before .before .before .before .before .before .before .before .before .before .before .before .before .before .list-landings .kept .1 .1 .1 .1 .0 ∙ length-replicate {A = ℕ} 128 0) (c .before .before .before .before .before .before .before .before .before .before .before .before .before .before .before .before .before .before .before .before .before .before .list-landings .kept .1 .1 .1 .1 .1 .0 ∙ length-replicate {A = ℕ} 98 0) (c .before .before .before .before .before .before .before .before .before .before .before .before .before .before .before .before .before .before .wide .ensures) (c .before .before .before .before .before .before .before .before .before .before .before .before .before .before .before .before .before .due-of .ensures .0) (c .before .before .before .before .before .before .before .before .before .before .before .before .before .before .before .first-with-room .ensures))
+
+array-write-rank : tie.Need-array-write-rank
+array-write-rank c = omega (arith, insert-within (c .before .before .before .before .before .before .before .before .before .before .before .before .before .before .before .before .before .before .before .before .before .before .before .before .before .before .before .before .before .before .before .pre .0) (c .before .before .before .before .before .before .before .before .before .before .before .before .before .before .before .before .before .before .before .before .before .before .before .before .before .before .before .before .before .before .before .pre .1) (c .before .before .before .before .before .before .before .before .before .before .before .before .before .before .before .before .before .before .before .before .before .before .list-landings .ensures) (c .before .before .before .before .before .before .before .before .before .before .before .before .before .before .before .before .before .before .before .before .before .before .list-landings .kept .1 .1 .1 .1 .0 ∙ length-replicate {A = ℕ} 128 0) (c .before .before .before .before .before .before .before .before .before .before .before .before .before .before .before .before .before .before .before .before .before .before .list-landings .kept .1 .1 .1 .1 .1 .0 ∙ length-replicate {A = ℕ} 98 0) (c .before .before .before .before .before .before .before .before .before .before .before .before .before .before .before .before .before .before .wide .ensures) (c .before .before .before .before .before .before .before .before .before .before .before .before .before .before .before .before .before .due-of .ensures .0) (c .before .before .before .before .before .before .before .before .before .before .before .before .before .before .before .first-with-room .ensures))
+
+slice-aggregate-walk : tie.Need-slice-aggregate-walk
+slice-aggregate-walk c = sym (c .before .before .before .before .before .before .before .before .before .before .before .before .before .before .before .before .before .before .before .before .before .before .before .list-landings .kept .1 .1 .1 .1 .0 ∙ length-replicate {A = ℕ} 128 0)
+
+slice-aggregate-walk-2 : tie.Need-slice-aggregate-walk-2
+slice-aggregate-walk-2 c = search needs
+
+slice-aggregate-walk-3 : tie.Need-slice-aggregate-walk-3
+slice-aggregate-walk-3 c = search needs
+
+walk-requires : tie.Need-walk-requires
+walk-requires c κs = insert-walk (c .before .before .before .before .before .before .before .before .before .before .before .before .before .before .before .before .before .before .before .before .before .before .before .before .before .before .before .before .before .before .before .before .before .before .before .pre .0) (c .before .before .before .before .before .before .before .before .before .before .before .before .before .before .before .before .before .before .before .before .before .before .before .before .before .before .before .before .before .before .before .before .before .before .before .pre .1) (c .before .before .before .before .before .before .before .before .before .before .before .before .before .before .before .before .before .before .before .before .before .before .before .before .before .before .list-landings .ensures) (c .before .before .before .before .before .before .before .before .before .before .before .before .before .before .before .before .before .before .before .before .before .before .before .before .before .before .list-landings .kept .1 .1 .1 .1 .0 ∙ length-replicate {A = ℕ} 128 0) (c .before .before .before .before .before .before .before .before .before .before .before .before .before .before .before .before .before .before .before .before .before .before .before .before .before .before .list-landings .kept .1 .1 .1 .1 .1 .0 ∙ length-replicate {A = ℕ} 98 0) (c .before .before .before .before .before .before .before .before .before .before .before .before .before .before .before .before .before .before .before .before .before .before .wide .ensures) (c .before .before .before .before .before .before .before .before .before .before .before .before .before .before .before .before .before .before .before .before .before .due-of .ensures .0) (c .before .before .before .before .before .before .before .before .before .before .before .before .before .before .before .before .before .before .before .first-with-room .ensures) (c .before .before .before .before .before .before .before .find-path .ensures)
 
 slice-aggregate-raise : tie.Need-slice-aggregate-raise
 slice-aggregate-raise c = search needs
 
 raise-requires : tie.Need-raise-requires
-raise-requires c κs = insert-raise (c .before .before .before .before .before .before .before .before .before .before .before .before .before .before .before .before .before .before .before .before .before .before .before .before .before .before .before .before .pre .0) (c .before .before .before .before .before .before .before .before .before .before .before .before .before .before .before .before .before .before .before .before .before .before .before .before .before .before .before .before .pre .1) (c .before .before .before .before .before .before .before .before .before .before .before .before .before .before .before .before .before .before .before .before .wide .ensures) (c .before .before .before .before .before .before .before .before .before .before .before .before .before .before .before .before .before .before .before .due-of .ensures .0) (c .before .before .before .before .before .before .before .before .before .before .before .before .before .before .before .before .before .first-with-room .ensures) (c .before .before .before .before .before .find-path .ensures)
-
-mul-rank : tie.Need-mul-rank
-mul-rank c = omega (arith, insert-within (c .before .before .before .before .before .before .before .before .before .before .before .before .before .before .before .before .before .before .before .before .before .before .before .before .before .before .before .before .before .before .before .pre .0) (c .before .before .before .before .before .before .before .before .before .before .before .before .before .before .before .before .before .before .before .before .before .before .before .before .before .before .before .before .before .before .before .pre .1) (c .before .before .before .before .before .before .before .before .before .before .before .before .before .before .before .before .before .before .before .before .before .before .before .wide .ensures) (c .before .before .before .before .before .before .before .before .before .before .before .before .before .before .before .before .before .before .before .before .before .before .due-of .ensures .0) (c .before .before .before .before .before .before .before .before .before .before .before .before .before .before .before .before .before .before .before .before .first-with-room .ensures))
-
-array-write-rank : tie.Need-array-write-rank
-array-write-rank c = omega (arith, insert-within (c .before .before .before .before .before .before .before .before .before .before .before .before .before .before .before .before .before .before .before .before .before .before .before .before .before .before .before .before .before .before .before .pre .0) (c .before .before .before .before .before .before .before .before .before .before .before .before .before .before .before .before .before .before .before .before .before .before .before .before .before .before .before .before .before .before .before .pre .1) (c .before .before .before .before .before .before .before .before .before .before .before .before .before .before .before .before .before .before .before .before .before .before .before .wide .ensures) (c .before .before .before .before .before .before .before .before .before .before .before .before .before .before .before .before .before .before .before .before .before .before .due-of .ensures .0) (c .before .before .before .before .before .before .before .before .before .before .before .before .before .before .before .before .before .before .before .before .first-with-room .ensures))
-
-slice-aggregate-walk : tie.Need-slice-aggregate-walk
-slice-aggregate-walk c = search needs
-
-slice-aggregate-walk-2 : tie.Need-slice-aggregate-walk-2
-slice-aggregate-walk-2 c = search needs
-
-walk-requires : tie.Need-walk-requires
-walk-requires c κs = insert-walk (c .before .before .before .before .before .before .before .before .before .before .before .before .before .before .before .before .before .before .before .before .before .before .before .before .before .before .before .before .before .before .before .before .before .before .pre .0) (c .before .before .before .before .before .before .before .before .before .before .before .before .before .before .before .before .before .before .before .before .before .before .before .before .before .before .before .before .before .before .before .before .before .before .pre .1) (c .before .before .before .before .before .before .before .before .before .before .before .before .before .before .before .before .before .before .before .before .before .before .before .before .before .before .wide .ensures) (c .before .before .before .before .before .before .before .before .before .before .before .before .before .before .before .before .before .before .before .before .before .before .before .before .before .due-of .ensures .0) (c .before .before .before .before .before .before .before .before .before .before .before .before .before .before .before .before .before .before .before .before .before .before .before .first-with-room .ensures) (c .before .before .before .before .before .before .before .before .before .before .before .find-path .ensures)
-
-mul-loads : tie.Need-mul-loads
-mul-loads c = omega (arith, insert-within (c .before .before .before .before .before .before .before .before .before .before .before .before .before .before .before .before .before .before .before .before .before .before .before .before .before .before .before .before .before .before .before .before .before .before .before .before .before .pre .0) (c .before .before .before .before .before .before .before .before .before .before .before .before .before .before .before .before .before .before .before .before .before .before .before .before .before .before .before .before .before .before .before .before .before .before .before .before .before .pre .1) (c .before .before .before .before .before .before .before .before .before .before .before .before .before .before .before .before .before .before .before .before .before .before .before .before .before .before .before .before .before .wide .ensures) (c .before .before .before .before .before .before .before .before .before .before .before .before .before .before .before .before .before .before .before .before .before .before .before .before .before .before .before .before .due-of .ensures .0) (c .before .before .before .before .before .before .before .before .before .before .before .before .before .before .before .before .before .before .before .before .before .before .before .before .before .before .first-with-room .ensures))
-
-slice-read-loads : tie.Need-slice-read-loads
-slice-read-loads c = insert-rows (c .before .before .before .before .before .before .before .before .before .before .before .before .before .before .before .before .before .before .before .before .before .before .before .before .before .before .before .before .before .before .before .before .before .before .before .before .before .before .pre .0) (c .before .before .before .before .before .before .before .before .before .before .before .before .before .before .before .before .before .before .before .before .before .before .before .before .before .before .before .before .before .before .before .before .before .before .before .before .before .before .pre .1) (c .before .before .before .before .before .before .before .before .before .before .before .before .before .before .before .before .before .before .before .before .before .before .before .before .before .before .before .before .before .before .wide .ensures) (c .before .before .before .before .before .before .before .before .before .before .before .before .before .before .before .before .before .before .before .before .before .before .before .before .before .before .before .before .before .due-of .ensures .0) (c .before .before .before .before .before .before .before .before .before .before .before .before .before .before .before .before .before .before .before .before .before .before .before .before .before .before .before .first-with-room .ensures) (c .before .before .before .before .before .before .before .before .before .before .before .before .before .before .before .find-path .ensures) .2
-
-add-loads : tie.Need-add-loads
-add-loads c = omega (arith, insert-few (c .before .before .before .before .before .before .before .before .before .before .before .before .before .before .before .before .before .before .before .before .before .before .before .before .before .before .before .before .before .before .before .before .before .before .before .before .before .before .pre .0) (c .before .before .before .before .before .before .before .before .before .before .before .before .before .before .before .before .before .before .before .before .before .before .before .before .before .before .before .before .before .before .before .before .before .before .before .before .before .before .pre .1) (c .before .before .before .before .before .before .before .before .before .before .before .before .before .before .before .before .before .before .before .before .before .before .before .before .before .before .before .before .before .before .wide .ensures) (c .before .before .before .before .before .before .before .before .before .before .before .before .before .before .before .before .before .before .before .before .before .before .before .before .before .before .before .before .before .due-of .ensures .0) (c .before .before .before .before .before .before .before .before .before .before .before .before .before .before .before .before .before .before .before .before .before .before .before .before .before .before .before .first-with-room .ensures) (c .before .before .before .before .before .before .before .before .before .before .before .before .before .before .before .find-path .ensures) (c .before .before .before .before .before .before .before .before .before .raise .ensures) (c .before .before .before .walk .ensures) (c .before .before .before .walk .kept .0) (c .before .before .before .before .before .before .before .before .before .raise .kept .0))
-
-mul-loads-2 : tie.Need-mul-loads-2
-mul-loads-2 c = omega (arith, insert-within (c .before .before .before .before .before .before .before .before .before .before .before .before .before .before .before .before .before .before .before .before .before .before .before .before .before .before .before .before .before .before .before .before .before .before .before .before .before .before .pre .0) (c .before .before .before .before .before .before .before .before .before .before .before .before .before .before .before .before .before .before .before .before .before .before .before .before .before .before .before .before .before .before .before .before .before .before .before .before .before .before .pre .1) (c .before .before .before .before .before .before .before .before .before .before .before .before .before .before .before .before .before .before .before .before .before .before .before .before .before .before .before .before .before .before .wide .ensures) (c .before .before .before .before .before .before .before .before .before .before .before .before .before .before .before .before .before .before .before .before .before .before .before .before .before .before .before .before .before .due-of .ensures .0) (c .before .before .before .before .before .before .before .before .before .before .before .before .before .before .before .before .before .before .before .before .before .before .before .before .before .before .before .first-with-room .ensures))
-
-slice-write-loads : tie.Need-slice-write-loads
-slice-write-loads c = insert-rows (c .before .before .before .before .before .before .before .before .before .before .before .before .before .before .before .before .before .before .before .before .before .before .before .before .before .before .before .before .before .before .before .before .before .before .before .before .before .before .pre .0) (c .before .before .before .before .before .before .before .before .before .before .before .before .before .before .before .before .before .before .before .before .before .before .before .before .before .before .before .before .before .before .before .before .before .before .before .before .before .before .pre .1) (c .before .before .before .before .before .before .before .before .before .before .before .before .before .before .before .before .before .before .before .before .before .before .before .before .before .before .before .before .before .before .wide .ensures) (c .before .before .before .before .before .before .before .before .before .before .before .before .before .before .before .before .before .before .before .before .before .before .before .before .before .before .before .before .before .due-of .ensures .0) (c .before .before .before .before .before .before .before .before .before .before .before .before .before .before .before .before .before .before .before .before .before .before .before .before .before .before .before .first-with-room .ensures) (c .before .before .before .before .before .before .before .before .before .before .before .before .before .before .before .find-path .ensures) .2
+raise-requires c κs = insert-raise (c .before .before .before .before .before .before .before .before .before .before .before .before .before .before .before .before .before .before .before .before .before .before .before .before .before .before .before .before .before .before .before .before .before .before .before .before .before .before .before .before .pre .0) (c .before .before .before .before .before .before .before .before .before .before .before .before .before .before .before .before .before .before .before .before .before .before .before .before .before .before .before .before .before .before .before .before .before .before .before .before .before .before .before .before .pre .1) (c .before .before .before .before .before .before .before .before .before .before .before .before .before .before .before .before .before .before .before .before .before .before .before .before .before .before .before .before .before .before .before .list-landings .ensures) (c .before .before .before .before .before .before .before .before .before .before .before .before .before .before .before .before .before .before .before .before .before .before .before .before .before .before .before .before .before .before .before .list-landings .kept .1 .1 .1 .1 .0 ∙ length-replicate {A = ℕ} 128 0) (c .before .before .before .before .before .before .before .before .before .before .before .before .before .before .before .before .before .before .before .before .before .before .before .before .before .before .before .before .before .before .before .list-landings .kept .1 .1 .1 .1 .1 .0 ∙ length-replicate {A = ℕ} 98 0) (c .before .before .before .before .before .before .before .before .before .before .before .before .before .before .before .before .before .before .before .before .before .before .before .before .before .before .before .wide .ensures) (c .before .before .before .before .before .before .before .before .before .before .before .before .before .before .before .before .before .before .before .before .before .before .before .before .before .before .due-of .ensures .0) (c .before .before .before .before .before .before .before .before .before .before .before .before .before .before .before .before .before .before .before .before .before .before .before .before .first-with-room .ensures) (c .before .before .before .before .before .before .before .before .before .before .before .before .find-path .ensures) (c .before .before .before .before .walk .ensures)
 
 mul-result : tie.Need-mul-result
-mul-result c = omega (arith, insert-within (c .before .before .before .before .before .before .before .before .before .before .before .before .before .before .before .before .before .before .before .before .before .before .before .before .before .before .before .before .before .before .before .before .before .before .before .before .before .before .pre .0) (c .before .before .before .before .before .before .before .before .before .before .before .before .before .before .before .before .before .before .before .before .before .before .before .before .before .before .before .before .before .before .before .before .before .before .before .before .before .before .pre .1) (c .before .before .before .before .before .before .before .before .before .before .before .before .before .before .before .before .before .before .before .before .before .before .before .before .before .before .before .before .before .before .wide .ensures) (c .before .before .before .before .before .before .before .before .before .before .before .before .before .before .before .before .before .before .before .before .before .before .before .before .before .before .before .before .before .due-of .ensures .0) (c .before .before .before .before .before .before .before .before .before .before .before .before .before .before .before .before .before .before .before .before .before .before .before .before .before .before .before .first-with-room .ensures))
+mul-result c = omega (arith, insert-within (c .before .before .before .before .before .before .before .before .before .before .before .before .before .before .before .before .before .before .before .before .before .before .before .before .before .before .before .before .before .before .before .before .before .before .before .before .before .before .before .before .before .before .before .pre .0) (c .before .before .before .before .before .before .before .before .before .before .before .before .before .before .before .before .before .before .before .before .before .before .before .before .before .before .before .before .before .before .before .before .before .before .before .before .before .before .before .before .before .before .before .pre .1) (c .before .before .before .before .before .before .before .before .before .before .before .before .before .before .before .before .before .before .before .before .before .before .before .before .before .before .before .before .before .before .before .before .before .before .list-landings .ensures) (c .before .before .before .before .before .before .before .before .before .before .before .before .before .before .before .before .before .before .before .before .before .before .before .before .before .before .before .before .before .before .before .before .before .before .list-landings .kept .1 .1 .1 .1 .0 ∙ length-replicate {A = ℕ} 128 0) (c .before .before .before .before .before .before .before .before .before .before .before .before .before .before .before .before .before .before .before .before .before .before .before .before .before .before .before .before .before .before .before .before .before .before .list-landings .kept .1 .1 .1 .1 .1 .0 ∙ length-replicate {A = ℕ} 98 0) (c .before .before .before .before .before .before .before .before .before .before .before .before .before .before .before .before .before .before .before .before .before .before .before .before .before .before .before .before .before .before .wide .ensures) (c .before .before .before .before .before .before .before .before .before .before .before .before .before .before .before .before .before .before .before .before .before .before .before .before .before .before .before .before .before .due-of .ensures .0) (c .before .before .before .before .before .before .before .before .before .before .before .before .before .before .before .before .before .before .before .before .before .before .before .before .before .before .before .first-with-room .ensures))
 
 array-read-result : tie.Need-array-read-result
-array-read-result c = omega (arith, insert-within (c .before .before .before .before .before .before .before .before .before .before .before .before .before .before .before .before .before .before .before .before .before .before .before .before .before .before .before .before .before .before .before .before .before .before .before .before .before .before .pre .0) (c .before .before .before .before .before .before .before .before .before .before .before .before .before .before .before .before .before .before .before .before .before .before .before .before .before .before .before .before .before .before .before .before .before .before .before .before .before .before .pre .1) (c .before .before .before .before .before .before .before .before .before .before .before .before .before .before .before .before .before .before .before .before .before .before .before .before .before .before .before .before .before .before .wide .ensures) (c .before .before .before .before .before .before .before .before .before .before .before .before .before .before .before .before .before .before .before .before .before .before .before .before .before .before .before .before .before .due-of .ensures .0) (c .before .before .before .before .before .before .before .before .before .before .before .before .before .before .before .before .before .before .before .before .before .before .before .before .before .before .before .first-with-room .ensures))
+array-read-result c = omega (arith, insert-within (c .before .before .before .before .before .before .before .before .before .before .before .before .before .before .before .before .before .before .before .before .before .before .before .before .before .before .before .before .before .before .before .before .before .before .before .before .before .before .before .before .before .before .before .pre .0) (c .before .before .before .before .before .before .before .before .before .before .before .before .before .before .before .before .before .before .before .before .before .before .before .before .before .before .before .before .before .before .before .before .before .before .before .before .before .before .before .before .before .before .before .pre .1) (c .before .before .before .before .before .before .before .before .before .before .before .before .before .before .before .before .before .before .before .before .before .before .before .before .before .before .before .before .before .before .before .before .before .before .list-landings .ensures) (c .before .before .before .before .before .before .before .before .before .before .before .before .before .before .before .before .before .before .before .before .before .before .before .before .before .before .before .before .before .before .before .before .before .before .list-landings .kept .1 .1 .1 .1 .0 ∙ length-replicate {A = ℕ} 128 0) (c .before .before .before .before .before .before .before .before .before .before .before .before .before .before .before .before .before .before .before .before .before .before .before .before .before .before .before .before .before .before .before .before .before .before .list-landings .kept .1 .1 .1 .1 .1 .0 ∙ length-replicate {A = ℕ} 98 0) (c .before .before .before .before .before .before .before .before .before .before .before .before .before .before .before .before .before .before .before .before .before .before .before .before .before .before .before .before .before .before .wide .ensures) (c .before .before .before .before .before .before .before .before .before .before .before .before .before .before .before .before .before .before .before .before .before .before .before .before .before .before .before .before .before .due-of .ensures .0) (c .before .before .before .before .before .before .before .before .before .before .before .before .before .before .before .before .before .before .before .before .before .before .before .before .before .before .before .first-with-room .ensures))
 
 same-length : tie.Need-same-length
 same-length c = search needs
@@ -90,20 +95,21 @@ same-length c = search needs
 same-length-2 : tie.Need-same-length-2
 same-length-2 c = search needs
 
-same-length-3 : tie.Need-same-length-3
-same-length-3 c = search needs
-
 returns : tie.Need-returns
-returns c = insert-end (c .before .before .before .before .before .before .before .before .before .before .before .before .before .before .before .before .before .before .before .before .before .before .before .before .before .before .before .before .before .before .before .before .before .before .before .before .before .before .pre .0) (c .before .before .before .before .before .before .before .before .before .before .before .before .before .before .before .before .before .before .before .before .before .before .before .before .before .before .before .before .before .before .before .before .before .before .before .before .before .before .pre .1) (c .before .before .before .before .before .before .before .before .before .before .before .before .before .before .before .before .before .before .before .before .before .before .before .before .before .before .before .before .before .before .wide .ensures) (c .before .before .before .before .before .before .before .before .before .before .before .before .before .before .before .before .before .before .before .before .before .before .before .before .before .before .before .before .before .due-of .ensures .0) (c .before .before .before .before .before .before .before .before .before .before .before .before .before .before .before .before .before .before .before .before .before .before .before .before .before .before .before .first-with-room .ensures) (c .before .before .before .before .before .before .before .before .before .before .before .before .before .before .before .find-path .ensures) (c .before .before .before .before .before .before .before .before .before .raise .ensures) (c .before .before .before .walk .ensures) (c .before .before .before .walk .kept .0) (c .before .before .before .before .before .before .before .before .before .raise .kept .0) refl
+returns c = insert-end (c .before .before .before .before .before .before .before .before .before .before .before .before .before .before .before .before .before .before .before .before .before .before .before .before .before .before .before .before .before .before .before .before .before .before .before .before .before .before .before .before .before .before .before .pre .0) (c .before .before .before .before .before .before .before .before .before .before .before .before .before .before .before .before .before .before .before .before .before .before .before .before .before .before .before .before .before .before .before .before .before .before .before .before .before .before .before .before .before .before .before .pre .1) (c .before .before .before .before .before .before .before .before .before .before .before .before .before .before .before .before .before .before .before .before .before .before .before .before .before .before .before .before .before .before .before .before .before .before .list-landings .ensures) (c .before .before .before .before .before .before .before .before .before .before .before .before .before .before .before .before .before .before .before .before .before .before .before .before .before .before .before .before .before .before .before .before .before .before .list-landings .kept .1 .1 .1 .1 .0 ∙ length-replicate {A = ℕ} 128 0) (c .before .before .before .before .before .before .before .before .before .before .before .before .before .before .before .before .before .before .before .before .before .before .before .before .before .before .before .before .before .before .before .before .before .before .list-landings .kept .1 .1 .1 .1 .1 .0 ∙ length-replicate {A = ℕ} 98 0) (c .before .before .before .before .before .before .before .before .before .before .before .before .before .before .before .before .before .before .before .before .before .before .before .before .before .before .before .before .before .before .wide .ensures) (c .before .before .before .before .before .before .before .before .before .before .before .before .before .before .before .before .before .before .before .before .before .before .before .before .before .before .before .before .before .due-of .ensures .0) (c .before .before .before .before .before .before .before .before .before .before .before .before .before .before .before .before .before .before .before .before .before .before .before .before .before .before .before .first-with-room .ensures) (c .before .before .before .before .before .before .before .before .before .before .before .before .before .before .before .find-path .ensures) (c .before .before .before .before .before .before .before .walk .ensures) (c .before .before .raise .ensures) (c .before .before .before .before .before .before .before .walk .kept .1 .1 .1 .1 .0) (c .before .before .raise .kept .0) refl
 
 pub insert-spec : {M : Type 1} → statement M
 insert-spec =
     tie.close
     (tie.spec
+    slice-aggregate-list-landings
+    slice-aggregate-list-landings-2
+    list-landings-requires
     mul-wide
     shared-slice-read-wide
     wide-requires
     due-of-requires
+    slice-aggregate-first-with-room
     first-with-room-requires
     slice-aggregate-offer
     slice-aggregate-offer-2
@@ -111,22 +117,18 @@ insert-spec =
     slice-aggregate-find-path
     slice-aggregate-find-path-2
     slice-aggregate-find-path-3
+    slice-aggregate-find-path-4
     find-path-requires
-    slice-aggregate-raise
-    raise-requires
     mul-rank
     array-write-rank
     slice-aggregate-walk
     slice-aggregate-walk-2
+    slice-aggregate-walk-3
     walk-requires
-    mul-loads
-    slice-read-loads
-    add-loads
-    mul-loads-2
-    slice-write-loads
+    slice-aggregate-raise
+    raise-requires
     mul-result
     array-read-result
     same-length
     same-length-2
-    same-length-3
     returns)

@@ -6,19 +6,19 @@ use Rattle.insertion.proofs.raise.Statement.{statement}
 use Rattle.insertion.proofs.raise.Tie as tie
 
 abbrev Inv-loop : tie.InvT-loop
-Inv-loop price₀ dist first target goal k₀ price k = Raising price₀ price dist first target goal k
+Inv-loop prices₀ dist first target goal k₀ prices k = Raising prices₀ prices dist first target goal k
 
 abbrev μ-loop : tie.MeasureT-loop
-μ-loop price₀ dist first target goal k₀ price k = target - k
+μ-loop prices₀ dist first target goal k₀ prices k = target - k
 
 mul-goal : tie.Need-mul-goal Inv-loop μ-loop
-mul-goal c = omega (arith, c .pre .within)
+mul-goal c = omega (arith, raise-room (c .before .before .pre))
 
 shared-slice-read-goal : tie.Need-shared-slice-read-goal Inv-loop μ-loop
-shared-slice-read-goal c = raise-room (c .before .pre)
+shared-slice-read-goal c = raise-room (c .before .before .before .pre) .0
 
 loop-holds : tie.Need-loop-holds Inv-loop μ-loop
-loop-holds c = raising-start (c .before .pre)
+loop-holds c = raising-start (c .before .before .before .pre)
 
 add-k : tie.Need-add-k Inv-loop μ-loop
 add-k c = omega (arith, raising-room (c .before .loop .inv) (c .loop-test .taken))
@@ -29,35 +29,38 @@ mul-if1 c = omega (arith, raising-room (c .before .loop .inv) (c .loop-test .tak
 shared-slice-read-if1 : tie.Need-shared-slice-read-if1 Inv-loop μ-loop
 shared-slice-read-if1 c = raising-room (c .before .before .loop .inv) (c .before .loop-test .taken) .0
 
+of-period-requires : tie.Need-of-period-requires Inv-loop μ-loop
+of-period-requires c κs = tt
+
 mul-price : tie.Need-mul-price Inv-loop μ-loop
-mul-price c = omega (arith, raising-room (c .before .before .before .loop .inv) (c .before .before .loop-test .taken))
-
-slice-read-price : tie.Need-slice-read-price Inv-loop μ-loop
-slice-read-price c = raising-room (c .before .before .before .before .loop .inv) (c .before .before .before .loop-test .taken) .1
-
-mul-price-2 : tie.Need-mul-price-2 Inv-loop μ-loop
-mul-price-2 c = omega (arith, raising-room (c .before .before .before .before .loop .inv) (c .before .before .before .loop-test .taken))
+mul-price c = omega (arith, raising-room (c .before .before .before .before .before .loop .inv) (c .before .before .before .before .loop-test .taken))
 
 shared-slice-read-price : tie.Need-shared-slice-read-price Inv-loop μ-loop
-shared-slice-read-price c = raising-room (c .before .before .before .before .before .loop .inv) (c .before .before .before .before .loop-test .taken) .0
+shared-slice-read-price c = raising-room (c .before .before .before .before .before .before .loop .inv) (c .before .before .before .before .before .loop-test .taken) .0
 
 sub-price : tie.Need-sub-price Inv-loop μ-loop
-sub-price c = omega (arith, c .before .before .if1 .taken)
+sub-price c = omega (arith, c .before .before .before .if1 .taken)
 
 add-price : tie.Need-add-price Inv-loop μ-loop
-add-price c = omega (arith, raising-small (c .before .before .before .before .before .loop .inv) (c .before .before .before .before .loop-test .taken))
+add-price c = omega (arith, raising-small (c .before .before .before .before .before .before .loop .inv) (c .before .before .before .before .before .loop-test .taken) (c .before .of-period .ensures .0))
 
-mul-price-3 : tie.Need-mul-price-3 Inv-loop μ-loop
-mul-price-3 c = omega (arith, raising-room (c .before .before .before .before .before .loop .inv) (c .before .before .before .before .loop-test .taken))
+cast-prices : tie.Need-cast-prices Inv-loop μ-loop
+cast-prices c = omega (arith, raising-small (c .before .before .before .before .before .before .loop .inv) (c .before .before .before .before .before .loop-test .taken) (c .before .of-period .ensures .0))
 
-slice-write-price : tie.Need-slice-write-price Inv-loop μ-loop
-slice-write-price c = raising-room (c .before .before .before .before .before .loop .inv) (c .before .before .before .before .loop-test .taken) .1
+sub-prices : tie.Need-sub-prices Inv-loop μ-loop
+sub-prices c = omega (arith, raising-room (c .before .before .before .before .before .before .loop .inv) (c .before .before .before .before .before .loop-test .taken))
+
+mul-prices : tie.Need-mul-prices Inv-loop μ-loop
+mul-prices c = omega (arith, raising-room (c .before .before .before .before .before .before .loop .inv) (c .before .before .before .before .before .loop-test .taken))
+
+slice-write-prices : tie.Need-slice-write-prices Inv-loop μ-loop
+slice-write-prices c = raising-room (c .before .before .before .before .before .before .loop .inv) (c .before .before .before .before .before .loop-test .taken) .1
 
 loop-less : tie.Need-loop-less Inv-loop μ-loop
-loop-less c = omega (arith, c .before .before .before .before .loop-test .taken)
+loop-less c = omega (arith, c .before .before .before .before .before .loop-test .taken)
 
 loop-again : tie.Need-loop-again Inv-loop μ-loop
-loop-again c = raising-up (c .before .before .before .before .before .loop .inv) (c .before .before .before .before .loop-test .taken)
+loop-again c = raising-up (c .before .before .before .before .before .before .loop .inv) (c .before .before .before .before .before .loop-test .taken) (c .before .of-period .ensures .0)
 
 loop-less-2 : tie.Need-loop-less-2 Inv-loop μ-loop
 loop-less-2 c = omega (arith, c .before .before .loop-test .taken)
@@ -83,14 +86,15 @@ raise-spec =
     add-k
     mul-if1
     shared-slice-read-if1
+    of-period-requires
     mul-price
-    slice-read-price
-    mul-price-2
     shared-slice-read-price
     sub-price
     add-price
-    mul-price-3
-    slice-write-price
+    cast-prices
+    sub-prices
+    mul-prices
+    slice-write-prices
     loop-less
     loop-again
     loop-less-2

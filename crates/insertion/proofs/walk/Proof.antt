@@ -1,60 +1,74 @@
--- Ranks fall along the way, so a flight that has moved is not met again; each move is a tie. Assumes nothing.
+-- Flights move on, each from a period of a lower rank, until the new one takes a place. Assumes nothing.
 use native.Mathlib.Omega.{arith}
-use lib.ListN.{getD, length-set}
-use Rattle.insertion.proofs.Steps.{Walking, walk-in, walking-start, walking-room, walking-less, walking-step, walking-end}
+use mathlib.Core.Path.{refl, sym, _∙_}
+use Rattle.day.specs.Day.{day}
+use Rattle.path.specs.Path.{el}
+use Rattle.insertion.proofs.Steps.{Walking, walk-in, walking-start, walking-hold, walking-room, walking-less, walking-table, walking-step, walking-new, walking-end}
 use Rattle.insertion.proofs.walk.Statement.{statement}
 use Rattle.insertion.proofs.walk.Tie as tie
 
 abbrev Inv-loop : tie.InvT-loop
-Inv-loop lands₀ rank via n target at₀ i₀ lands at i = Walking lands₀ lands rank via n target at i
+Inv-loop capacities flights order lands holds₀ rank via n target at₀ who₀ holds at who = Walking (day capacities flights) order lands holds₀ holds rank via n target at who
 
 abbrev μ-loop : tie.MeasureT-loop
-μ-loop lands₀ rank via n target at₀ i₀ lands at i = getD rank at 0
+μ-loop capacities flights order lands holds₀ rank via n target at₀ who₀ holds at who = el rank at
 
-mul-i : tie.Need-mul-i Inv-loop μ-loop
-mul-i c = omega (arith, c .pre .within)
+mul-who : tie.Need-mul-who Inv-loop μ-loop
+mul-who c = omega (arith, c .before .before .before .before .before .before .before .pre .within)
 
-shared-slice-read-i : tie.Need-shared-slice-read-i Inv-loop μ-loop
-shared-slice-read-i c = walk-in (c .before .pre)
+shared-slice-read-who : tie.Need-shared-slice-read-who Inv-loop μ-loop
+shared-slice-read-who c = walk-in (c .before .before .before .before .before .before .before .before .pre)
 
 loop-holds : tie.Need-loop-holds Inv-loop μ-loop
-loop-holds c = walking-start (c .before .pre)
+loop-holds c = walking-start (c .before .before .before .before .before .before .before .before .pre)
 
-mul-next : tie.Need-mul-next Inv-loop μ-loop
-mul-next c = omega (arith, walking-room (c .before .loop .inv) (c .loop-test .taken))
+mul-wide : tie.Need-mul-wide Inv-loop μ-loop
+mul-wide c = omega (arith, walking-room (c .before .before .loop .inv) (c .before .loop-test .taken))
 
-slice-read-next : tie.Need-slice-read-next Inv-loop μ-loop
-slice-read-next c = walking-room (c .before .before .loop .inv) (c .before .loop-test .taken) .0
+shared-slice-read-wide : tie.Need-shared-slice-read-wide Inv-loop μ-loop
+shared-slice-read-wide c = walking-room (c .before .before .before .loop .inv) (c .before .before .loop-test .taken) .0
 
-mul-lands : tie.Need-mul-lands Inv-loop μ-loop
-mul-lands c = omega (arith, walking-room (c .before .before .loop .inv) (c .before .loop-test .taken))
+wide-requires : tie.Need-wide-requires Inv-loop μ-loop
+wide-requires c κs = tt
 
-slice-write-lands : tie.Need-slice-write-lands Inv-loop μ-loop
-slice-write-lands c = walking-room (c .before .before .loop .inv) (c .before .loop-test .taken) .0
+hold-until-requires : tie.Need-hold-until-requires Inv-loop μ-loop
+hold-until-requires c κs = walking-hold (c .before .before .before .before .loop .inv) refl (walking-table (c .before .before .before .before .loop .inv) (c .before .before .before .loop-test .taken)) (c .wide .ensures)
 
-mul-i-2 : tie.Need-mul-i-2 Inv-loop μ-loop
-mul-i-2 c = omega (arith, walking-room (c .before .before .loop .inv) (c .before .loop-test .taken))
+mul-at : tie.Need-mul-at Inv-loop μ-loop
+mul-at c = omega (arith, walking-room (c .before .before .before .before .before .before .before .loop .inv) (c .before .before .before .before .before .before .loop-test .taken))
 
-shared-slice-read-i-2 : tie.Need-shared-slice-read-i-2 Inv-loop μ-loop
-shared-slice-read-i-2 c = walking-room (c .before .before .before .loop .inv) (c .before .before .loop-test .taken) .1
+shared-slice-read-at : tie.Need-shared-slice-read-at Inv-loop μ-loop
+shared-slice-read-at c = walking-room (c .before .before .before .before .before .before .before .before .loop .inv) (c .before .before .before .before .before .before .before .loop-test .taken) .1
+
+mul-who-2 : tie.Need-mul-who-2 Inv-loop μ-loop
+mul-who-2 c = omega (arith, walking-room (c .before .before .before .before .before .before .before .before .loop .inv) (c .before .before .before .before .before .before .before .loop-test .taken))
+
+shared-slice-read-who-2 : tie.Need-shared-slice-read-who-2 Inv-loop μ-loop
+shared-slice-read-who-2 c = walking-room (c .before .before .before .before .before .before .before .before .before .loop .inv) (c .before .before .before .before .before .before .before .before .loop-test .taken) .3
 
 loop-less : tie.Need-loop-less Inv-loop μ-loop
-loop-less c = walking-less (c .before .before .before .loop .inv) (c .before .before .loop-test .taken)
+loop-less c = walking-less (c .before .before .before .before .before .before .before .before .before .loop .inv) (c .before .before .before .before .before .before .before .before .loop-test .taken)
 
 loop-again : tie.Need-loop-again Inv-loop μ-loop
-loop-again c = walking-step (c .before .before .before .loop .inv) (c .before .before .loop-test .taken)
+loop-again c = rw (c .before .before .before .before .hold-until .ensures) (walking-step (c .before .before .before .before .before .before .before .before .before .loop .inv) (c .before .before .before .before .before .before .before .before .loop-test .taken) (c .before .before .before .before .before .wide .ensures))
 
-mul-lands-2 : tie.Need-mul-lands-2 Inv-loop μ-loop
-mul-lands-2 c = omega (arith, c .before .before .before .pre .small)
+mul-wide-2 : tie.Need-mul-wide-2 Inv-loop μ-loop
+mul-wide-2 c = omega (arith, walking-new (c .before .before .loop .inv))
 
-slice-write-lands-2 : tie.Need-slice-write-lands-2 Inv-loop μ-loop
-slice-write-lands-2 c = omega (arith, c .before .before .before .pre .room, c .before .loop .inv .same)
+shared-slice-read-wide-2 : tie.Need-shared-slice-read-wide-2 Inv-loop μ-loop
+shared-slice-read-wide-2 c = walking-new (c .before .before .before .loop .inv) .0
+
+wide-requires-2 : tie.Need-wide-requires-2 Inv-loop μ-loop
+wide-requires-2 c κs = tt
+
+hold-until-requires-2 : tie.Need-hold-until-requires-2 Inv-loop μ-loop
+hold-until-requires-2 c κs = walking-hold (c .before .before .before .before .loop .inv) (sym (c .before .before .before .loop-test .left)) (walking-new (c .before .before .before .before .loop .inv) .2) (c .wide2 .ensures)
 
 same-length : tie.Need-same-length Inv-loop μ-loop
-same-length c = simp length-set (c .before .loop .inv .same)
+same-length c = c .before .before .hold-until2 .kept .1 .0 ∙ c .before .before .before .before .before .before .before .loop .inv .same
 
 returns : tie.Need-returns Inv-loop μ-loop
-returns c = walking-end (c .before .loop .inv) (c .loop-test .left)
+returns c = rw (c .before .before .hold-until2 .ensures) (walking-end (c .before .before .before .before .before .before .before .loop .inv) (c .before .before .before .before .before .before .loop-test .left) (c .before .before .before .wide2 .ensures))
 
 pub walk-spec : {M : Type 1} → statement M
 walk-spec =
@@ -62,18 +76,22 @@ walk-spec =
     (tie.spec
     Inv-loop
     μ-loop
-    mul-i
-    shared-slice-read-i
+    mul-who
+    shared-slice-read-who
     loop-holds
-    mul-next
-    slice-read-next
-    mul-lands
-    slice-write-lands
-    mul-i-2
-    shared-slice-read-i-2
+    mul-wide
+    shared-slice-read-wide
+    wide-requires
+    hold-until-requires
+    mul-at
+    shared-slice-read-at
+    mul-who-2
+    shared-slice-read-who-2
     loop-less
     loop-again
-    mul-lands-2
-    slice-write-lands-2
+    mul-wide-2
+    shared-slice-read-wide-2
+    wide-requires-2
+    hold-until-requires-2
     same-length
     returns)

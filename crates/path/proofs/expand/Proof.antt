@@ -2,14 +2,15 @@
 use native.Mathlib.Omega.{arith}
 use Prim.Native.Nat.{_-_}
 use Rattle.path.proofs.Expanding.{Expanding, expand-room, expanding-start, expanding-pass, expanding-end, expanding-room, expanding-stands, expanding-due, expanding-small, expanding-can, expanding-offered}
+use Rattle.day.specs.Day.{day}
 use Rattle.path.proofs.expand.Statement.{statement}
 use Rattle.path.proofs.expand.Tie as tie
 
 abbrev Inv-loop : tie.InvT-loop
-Inv-loop capacities flights order lands price dist₀ via₀ n target k from m₀ dist via m = Expanding capacities flights order lands price n target dist₀ dist via₀ via k from m
+Inv-loop capacities flights order lands prices dist₀ via₀ n target k from m₀ dist via m = Expanding (day capacities flights) order lands prices n target dist₀ dist via₀ via k from m
 
 abbrev μ-loop : tie.MeasureT-loop
-μ-loop capacities flights order lands price dist₀ via₀ n target k from m₀ dist via m = n - m
+μ-loop capacities flights order lands prices dist₀ via₀ n target k from m₀ dist via m = n - m
 
 mul-from : tie.Need-mul-from Inv-loop μ-loop
 mul-from c = omega (arith, expand-room (c .before .before .before .before .before .before .before .pre))
@@ -47,23 +48,20 @@ sub-cost-of c = expanding-due (c .before .before .before .before .before .before
 cost-of-requires : tie.Need-cost-of-requires Inv-loop μ-loop
 cost-of-requires c κs = (expanding-stands (c .before .before .before .before .before .before .loop .inv) (c .before .before .before .before .before .loop-test .taken) (c .before .wide .ensures), omega (arith, expanding-due (c .before .before .before .before .before .before .loop .inv) (c .before .before .before .before .before .loop-test .taken) (c .before .wide .ensures) (c .before .before .before .if1 .taken) (c .due-of .ensures .0)))
 
-mul-base : tie.Need-mul-base Inv-loop μ-loop
-mul-base c = omega (arith, expand-room (c .before .before .before .before .before .before .before .before .before .before .before .before .before .before .before .before .pre))
-
-shared-slice-read-base : tie.Need-shared-slice-read-base Inv-loop μ-loop
-shared-slice-read-base c = expand-room (c .before .before .before .before .before .before .before .before .before .before .before .before .before .before .before .before .before .pre) .1
+of-period-requires : tie.Need-of-period-requires Inv-loop μ-loop
+of-period-requires c κs = tt
 
 add-base : tie.Need-add-base Inv-loop μ-loop
-add-base c = omega (arith, expanding-small (c .before .before .before .before .before .before .before .before .loop .inv) (c .before .before .before .before .before .before .before .loop-test .taken) (c .before .before .before .wide .ensures) (c .before .before .before .before .before .if1 .taken) (c .before .before .due-of .ensures .0) (c .before .cost-of .ensures))
+add-base c = omega (arith, expanding-small (c .before .before .before .before .before .before .before .before .loop .inv) (c .before .before .before .before .before .before .before .loop-test .taken) (c .before .before .before .wide .ensures) (c .before .before .before .before .before .if1 .taken) (c .before .before .due-of .ensures .0) (c .before .cost-of .ensures) (c .of-period .ensures .0))
 
 offer-requires : tie.Need-offer-requires Inv-loop μ-loop
-offer-requires c κs = expanding-can (c .before .before .before .before .before .before .before .before .before .before .loop .inv) (c .before .before .before .before .before .before .before .before .before .loop-test .taken) (c .before .before .before .before .before .wide .ensures) (c .before .before .before .before .before .before .before .if1 .taken) (c .before .before .before .before .due-of .ensures .0) (c .before .before .before .cost-of .ensures)
+offer-requires c κs = expanding-can (c .before .before .before .before .before .before .before .before .before .before .loop .inv) (c .before .before .before .before .before .before .before .before .before .loop-test .taken) (c .before .before .before .before .before .wide .ensures) (c .before .before .before .before .before .before .before .if1 .taken) (c .before .before .before .before .due-of .ensures .0) (c .before .before .before .cost-of .ensures) (c .before .before .of-period .ensures .0)
 
 loop-less : tie.Need-loop-less Inv-loop μ-loop
 loop-less c = omega (arith, c .before .before .before .before .before .before .before .before .before .before .before .before .before .before .loop-test .taken)
 
 loop-again : tie.Need-loop-again Inv-loop μ-loop
-loop-again c = expanding-offered (c .before .before .before .before .before .before .before .before .before .before .before .before .before .before .before .loop .inv) (c .before .before .before .before .before .before .before .before .before .before .before .before .before .before .loop-test .taken) (c .before .before .before .before .before .before .before .before .before .before .wide .ensures) (c .before .before .before .before .before .before .before .before .before .before .before .before .if1 .taken) (c .before .before .before .before .before .before .before .before .before .due-of .ensures .0) (c .before .before .before .before .before .before .before .before .cost-of .ensures) (c .before .before .before .before .offer .kept .1 .1 .1 .0) (c .before .before .before .before .offer .kept .1 .1 .1 .1 .0) (c .before .before .before .before .offer .ensures)
+loop-again c = expanding-offered (c .before .before .before .before .before .before .before .before .before .before .before .before .before .before .before .loop .inv) (c .before .before .before .before .before .before .before .before .before .before .before .before .before .before .loop-test .taken) (c .before .before .before .before .before .before .before .before .before .before .wide .ensures) (c .before .before .before .before .before .before .before .before .before .before .before .before .if1 .taken) (c .before .before .before .before .before .before .before .before .before .due-of .ensures .0) (c .before .before .before .before .before .before .before .before .cost-of .ensures) (c .before .before .before .before .before .before .before .of-period .ensures .0) (c .before .before .before .before .offer .kept .1 .1 .1 .0) (c .before .before .before .before .offer .kept .1 .1 .1 .1 .0) (c .before .before .before .before .offer .ensures)
 
 loop-less-2 : tie.Need-loop-less-2 Inv-loop μ-loop
 loop-less-2 c = omega (arith, c .before .before .loop-test .taken)
@@ -98,8 +96,7 @@ expand-spec =
     due-of-requires
     sub-cost-of
     cost-of-requires
-    mul-base
-    shared-slice-read-base
+    of-period-requires
     add-base
     offer-requires
     loop-less

@@ -3,11 +3,12 @@ use native.Mathlib.Omega.{arith}
 use mathlib.Core.Path.{_∙_, sym}
 use Prim.Native.Nat.{_-_}
 use Rattle.path.proofs.Expanding.{Finding, finding-near, finding-start, finding-end, finding-in, finding-expand, finding-again, finding-next}
+use Rattle.day.specs.Day.{day}
 use Rattle.path.proofs.find_path.Statement.{statement}
 use Rattle.path.proofs.find_path.Tie as tie
 
 abbrev Inv-loop : tie.InvT-loop
-Inv-loop capacities flights order lands price dist₀ rank₀ via₀ n first target t₀ k₀ dist rank via t k = Finding capacities flights order lands price dist₀ dist rank₀ rank via₀ via n first target t k
+Inv-loop capacities flights order lands price dist₀ rank₀ via₀ n first target t₀ k₀ dist rank via t k = Finding (day capacities flights) order lands price dist₀ dist rank₀ rank via₀ via n first target t k
 
 abbrev μ-loop : tie.MeasureT-loop
 μ-loop capacities flights order lands price dist₀ rank₀ via₀ n first target t₀ k₀ dist rank via t k = 98 - t

@@ -8,10 +8,10 @@ use Rattle.path.proofs.offer.Statement.{statement}
 use Rattle.path.proofs.offer.Tie as tie
 
 abbrev Inv-loop : tie.InvT-loop
-Inv-loop capacities flights price dist₀ via₀ target i who from base due rate after jump last k₀ dist via k = Offering (day capacities flights) price dist₀ dist via₀ via target i who from base k × Numbers (day capacities flights) target i due rate after jump last
+Inv-loop capacities flights prices dist₀ via₀ target i who from base due rate after jump last k₀ dist via k = Offering (day capacities flights) prices dist₀ dist via₀ via target i who from base k × Numbers (day capacities flights) target i due rate after jump last
 
 abbrev μ-loop : tie.MeasureT-loop
-μ-loop capacities flights price dist₀ via₀ target i who from base due rate after jump last k₀ dist via k = (last + 1) - k
+μ-loop capacities flights prices dist₀ via₀ target i who from base due rate after jump last k₀ dist via k = (last + 1) - k
 
 due-of-requires : tie.Need-due-of-requires Inv-loop μ-loop
 due-of-requires c κs = c .before .before .before .before .before .pre .room
@@ -41,22 +41,19 @@ sub-hold-cost : tie.Need-sub-hold-cost Inv-loop μ-loop
 sub-hold-cost c = omega (arith, offering-room (c .before .loop .inv .0) (c .before .loop .inv .1) (c .loop-test .taken))
 
 hold-cost-requires : tie.Need-hold-cost-requires Inv-loop μ-loop
-hold-cost-requires c κs = omega (arith, offering-fits (c .before .loop .inv .0) (c .before .loop .inv .1) (c .loop-test .taken))
+hold-cost-requires c κs = offering-fits (c .before .loop .inv .0) (c .before .loop .inv .1) (c .loop-test .taken) (omega (arith, offering-room (c .before .loop .inv .0) (c .before .loop .inv .1) (c .loop-test .taken)))
 
-mul-away : tie.Need-mul-away Inv-loop μ-loop
-mul-away c = omega (arith, offering-room (c .before .before .loop .inv .0) (c .before .before .loop .inv .1) (c .before .loop-test .taken))
-
-shared-slice-read-away : tie.Need-shared-slice-read-away Inv-loop μ-loop
-shared-slice-read-away c = offering-room (c .before .before .before .loop .inv .0) (c .before .before .before .loop .inv .1) (c .before .before .loop-test .taken) .2
+of-period-requires : tie.Need-of-period-requires Inv-loop μ-loop
+of-period-requires c κs = tt
 
 add-away : tie.Need-add-away Inv-loop μ-loop
-add-away c = omega (arith, offering-small (c .before .before .before .loop .inv .0) (c .before .before .before .loop .inv .1) (c .before .before .loop-test .taken) (cost-is (c .before .before .before .loop .k) (c .before .before .before .loop .inv .1) (c .before .hold-cost .ensures)))
+add-away c = omega (arith, offering-small (c .before .before .before .loop .inv .0) (c .before .before .before .loop .inv .1) (c .before .before .loop-test .taken) (cost-is (c .before .before .before .loop .k) (c .before .before .before .loop .inv .1) (c .before .hold-cost .ensures)) (c .of-period .ensures .0))
 
 add-away-2 : tie.Need-add-away-2 Inv-loop μ-loop
-add-away-2 c = omega (arith, offering-small (c .before .before .before .loop .inv .0) (c .before .before .before .loop .inv .1) (c .before .before .loop-test .taken) (cost-is (c .before .before .before .loop .k) (c .before .before .before .loop .inv .1) (c .before .hold-cost .ensures)))
+add-away-2 c = omega (arith, offering-small (c .before .before .before .loop .inv .0) (c .before .before .before .loop .inv .1) (c .before .before .loop-test .taken) (cost-is (c .before .before .before .loop .k) (c .before .before .before .loop .inv .1) (c .before .hold-cost .ensures)) (c .of-period .ensures .0))
 
 sub-away : tie.Need-sub-away Inv-loop μ-loop
-sub-away c = omega (arith, offering-small (c .before .before .before .loop .inv .0) (c .before .before .before .loop .inv .1) (c .before .before .loop-test .taken) (cost-is (c .before .before .before .loop .k) (c .before .before .before .loop .inv .1) (c .before .hold-cost .ensures)))
+sub-away c = omega (arith, offering-small (c .before .before .before .loop .inv .0) (c .before .before .before .loop .inv .1) (c .before .before .loop-test .taken) (cost-is (c .before .before .before .loop .k) (c .before .before .before .loop .inv .1) (c .before .hold-cost .ensures)) (c .of-period .ensures .0))
 
 mul-if1 : tie.Need-mul-if1 Inv-loop μ-loop
 mul-if1 c = omega (arith, offering-room (c .before .before .before .loop .inv .0) (c .before .before .before .loop .inv .1) (c .before .before .loop-test .taken))
@@ -80,13 +77,13 @@ loop-less : tie.Need-loop-less Inv-loop μ-loop
 loop-less c = omega (arith, c .before .before .before .before .loop-test .taken)
 
 loop-again : tie.Need-loop-again Inv-loop μ-loop
-loop-again c = (offering-take (c .before .before .before .before .before .loop .inv .0) (c .before .before .before .before .before .loop .inv .1) (c .before .before .before .before .loop-test .taken) (cost-is (c .before .before .before .before .before .loop .k) (c .before .before .before .before .before .loop .inv .1) (c .before .before .before .hold-cost .ensures)) (c .if1 .taken), c .before .before .before .before .before .loop .inv .1)
+loop-again c = (offering-take (c .before .before .before .before .before .loop .inv .0) (c .before .before .before .before .before .loop .inv .1) (c .before .before .before .before .loop-test .taken) (cost-is (c .before .before .before .before .before .loop .k) (c .before .before .before .before .before .loop .inv .1) (c .before .before .before .hold-cost .ensures)) (c .before .before .of-period .ensures .0) (c .if1 .taken), c .before .before .before .before .before .loop .inv .1)
 
 loop-less-2 : tie.Need-loop-less-2 Inv-loop μ-loop
 loop-less-2 c = omega (arith, c .before .before .before .before .loop-test .taken)
 
 loop-again-2 : tie.Need-loop-again-2 Inv-loop μ-loop
-loop-again-2 c = (offering-keep (c .before .before .before .before .before .loop .inv .0) (c .before .before .before .before .before .loop .inv .1) (c .before .before .before .before .loop-test .taken) (cost-is (c .before .before .before .before .before .loop .k) (c .before .before .before .before .before .loop .inv .1) (c .before .before .before .hold-cost .ensures)) (c .if1 .left), c .before .before .before .before .before .loop .inv .1)
+loop-again-2 c = (offering-keep (c .before .before .before .before .before .loop .inv .0) (c .before .before .before .before .before .loop .inv .1) (c .before .before .before .before .loop-test .taken) (cost-is (c .before .before .before .before .before .loop .k) (c .before .before .before .before .before .loop .inv .1) (c .before .before .before .hold-cost .ensures)) (c .before .before .of-period .ensures .0) (c .if1 .left), c .before .before .before .before .before .loop .inv .1)
 
 same-length : tie.Need-same-length Inv-loop μ-loop
 same-length c = c .before .loop .inv .0 .same-d
@@ -113,8 +110,7 @@ offer-spec =
     add-k
     sub-hold-cost
     hold-cost-requires
-    mul-away
-    shared-slice-read-away
+    of-period-requires
     add-away
     add-away-2
     sub-away

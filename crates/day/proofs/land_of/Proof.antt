@@ -4,8 +4,8 @@ use native.Mathlib.Omega.{arith}
 use mathlib.Core.Path.{ap₂}
 use Prim.Native.Nat.{_+_}
 use borrow.Author.Needs.{needs}
-use Rattle.legality.proofs.land_of.Statement.{statement}
-use Rattle.legality.proofs.land_of.Tie as tie
+use Rattle.day.proofs.land_of.Statement.{statement}
+use Rattle.day.proofs.land_of.Tie as tie
 
 due-of-requires : tie.Need-due-of-requires
 due-of-requires c κs = search needs
