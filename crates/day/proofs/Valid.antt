@@ -9,7 +9,7 @@ use native.Mathlib.Omega.{arith}
 use lib.ListN.{length, getD}
 use lib.Dec.{leb, eqb}
 use borrow.Author.Tests.{le-leb, lt-leb, eq-eqb, ne-eqb, leb-true, eqb-true, eqb-false, not-true}
-use Rattle.day.specs.Day.{Day, P, N, number, due, rate, after, jump, limit, missing, all, inside, inRange, isNew, valid}
+use Rattle.day.specs.Day.{Day, P, N, number, due, rate, after, jump, limit, missing, all, inside, numbersFit, inRange, isNew, valid}
 use Rattle.day.proofs.Tests.{all-next, all-not, all-at, and-true, and-assoc}
 
 -- ---- a number that stands at no lower place
@@ -85,7 +85,7 @@ or-true true b e = inl refl
 or-true false b e = inr e
 
 range-means : (d : Day) (i : ℕ) → inRange d i ≡ true → InRange d i
-unfolding inRange
+unfolding numbersFit
 range-means d i e =
     let limits = and-true e in
     let jumps = and-true (limits .0) in

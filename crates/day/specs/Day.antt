@@ -100,11 +100,13 @@ all (suc n) f = all n f && f n
 abbrev pub inside : ℕ → ℕ → ℕ → Bool
 inside a b x = leb a x && leb x b
 
--- the table's ranges of one flight's numbers
-unfoldable pub inRange : Day → ℕ → Bool
-inRange d i =
-    inside 1 9999 (number d i) && inside 1 (P d) (due d i) && inside 1 10000 (rate d i) && leb (after d i) 96 && leb (jump d i) 1000000
-    && (leb (limit d i) 96 || missing (limit d i))
+-- the table's ranges of a flight's six numbers, on a day of p periods
+unfoldable pub numbersFit : ℕ → ℕ → ℕ → ℕ → ℕ → ℕ → ℕ → Bool
+numbersFit p number due rate after jump limit =
+    inside 1 9999 number && inside 1 p due && inside 1 10000 rate && leb after 96 && leb jump 1000000 && (leb limit 96 || missing limit)
+
+abbrev pub inRange : Day → ℕ → Bool
+inRange d i = numbersFit (P d) (number d i) (due d i) (rate d i) (after d i) (jump d i) (limit d i)
 
 -- the flight's number stands at no lower table place
 unfoldable pub isNew : Day → ℕ → Bool
@@ -113,7 +115,7 @@ isNew d i = all i (λ j. not (eqb (number d j) (number d i)))
 
 -- no "length or value against the table above, or a repeated flight number": what refusal 6 tests
 unfoldable pub valid : Day → Bool
-unfolding N all inRange isNew
+unfolding N all numbersFit isNew
 valid d =
     inside 1 96 (P d) && eqb (length (d .flights)) (N d * width) && leb (N d) 128 && all (P d) (λ k. leb (getD (d .capacities) k 0) 255)
     && all (N d) (inRange d) && all (N d) (isNew d)

@@ -4,7 +4,7 @@ ghost use mathlib.Core.Bool.{Bool, true, false, _&&_, _||_};
 ghost use Prim.Native.Nat.{ℕ, _+_, _*_, _/_, _^_, _<_, _≤_};
 ghost use lib.ListN.{getD, length};
 ghost use lib.Dec.{leb};
-ghost use Rattle.day.specs.Day.{day, column, width, ofPeriod, land, cost, latest, all, inside, missing, valid, inRange, isNew};
+ghost use Rattle.day.specs.Day.{day, column, width, ofPeriod, land, cost, latest, all, inside, missing, numbersFit, inRange, isNew, valid};
 
 pub fn wide(x: u32) -> usize
     ensures { λ r. ⌜ r ≡ x ⌝ }
@@ -13,7 +13,7 @@ pub fn wide(x: u32) -> usize
 }
 
 // How many numbers a flight takes in its row.
-const WIDTH: usize = 6;
+pub const WIDTH: usize = 6;
 
 // How many flights the row has.
 pub fn flight_count(flights: &[u32]) -> usize
@@ -137,21 +137,38 @@ fn limit_fits(limit: usize) -> bool
     limit <= 96 || limit == 255
 }
 
+// A flight's six numbers are within the table's ranges, on a day of so many periods.
+pub fn numbers_fit(
+    periods: usize,
+    number: usize,
+    due: usize,
+    rate: usize,
+    after: usize,
+    jump: usize,
+    limit: usize,
+) -> bool
+    ensures { λ r. ⌜ r ≡ numbersFit periods number due rate after jump limit ⌝ }
+{
+    let named = both(is_inside(1, 9999, number), is_inside(1, periods, due));
+    let rated = both(named, is_inside(1, 10000, rate));
+    let priced = both(both(rated, after <= 96), jump <= 1000000);
+    both(priced, limit_fits(limit))
+}
+
 // The numbers of the flight at table place i are within the table's ranges.
 fn is_in_range(capacities: &[u32], flights: &[u32], i: usize) -> bool
     requires { ⌜ (i + 1) * width ≤ length (now flights) ⌝ }
     ensures { λ r. ⌜ r ≡ inRange (day (now (capacities .entry)) (now (flights .entry))) i ⌝ }
 {
-    let named = both(
-        is_inside(1, 9999, number_of(flights, i)),
-        is_inside(1, capacities.len(), due_of(flights, i)),
-    );
-    let rated = both(named, is_inside(1, 10000, rate_of(flights, i)));
-    let priced = both(
-        both(rated, after_of(flights, i) <= 96),
-        jump_of(flights, i) <= 1000000,
-    );
-    both(priced, limit_fits(limit_of(flights, i)))
+    numbers_fit(
+        capacities.len(),
+        number_of(flights, i),
+        due_of(flights, i),
+        rate_of(flights, i),
+        after_of(flights, i),
+        jump_of(flights, i),
+        limit_of(flights, i),
+    )
 }
 
 // No flight above the one at table place i has its number.

@@ -5,6 +5,7 @@ ghost use mathlib.Core.Path.{_≡_};
 ghost use Prim.Native.Nat.{_≤_};
 ghost use lib.ListN.{length};
 use answers::Code;
+use day::WIDTH;
 
 // What the rows hold before each call.
 const RUBBISH: u32 = 4294967295;
@@ -176,8 +177,8 @@ fn run_sheet(sheet: &[u8]) {
     let count = read.second as usize;
     expect_kept(&capacities, periods);
     if count <= 128 {
-        expect_kept(&flights, count * 6);
-        run_day(front(&capacities, periods), front(&flights, count * 6));
+        expect_kept(&flights, count * WIDTH);
+        run_day(front(&capacities, periods), front(&flights, count * WIDTH));
     }
 }
 

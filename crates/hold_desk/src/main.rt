@@ -92,7 +92,7 @@ fn plan_sheet(sheet: &[u8], text: &mut [u8]) -> usize {
     }
     plan_day(
         front(&capacities, periods),
-        front(&flights, count * 6),
+        front(&flights, count * day::WIDTH),
         front_mut(&mut holds, count),
         front_mut(&mut prices, periods),
         text,

@@ -75,7 +75,7 @@ distinct-less above (g ∷ fs) f h =
 
 module _ (d : Day) where
   fits-at : (i : ℕ) → flightFits (d .capacities) (flightAt (d .flights) i) ≡ inRange d i
-  unfolding flightFits inRange flightAt
+  unfolding flightFits flightAt
   fits-at i = refl
 
   not-or : (a b : Bool) → not a && not b ≡ not (a || b)

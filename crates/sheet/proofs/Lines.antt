@@ -17,7 +17,7 @@ use Rattle.text.specs.declared.Number.{Number}
 use Rattle.text.specs.declared.Number.the-variants.{Value, Bad}
 use Rattle.text.proofs.Digits.{first-digit}
 use Rattle.text.proofs.Reading.{and-true, Stands, join, picked, past, at-place, there, field-read, field-write, open-up, end-no-digit, comma-no-digit}
-use Rattle.day.specs.Day.{missing, inside, inRange}
+use Rattle.day.specs.Day.{missing, inside, numbersFit}
 use Rattle.sheet.specs.declared.Flight.{Flight}
 use Rattle.sheet.specs.declared.PeriodLine.{PeriodLine}
 use Rattle.sheet.specs.declared.PeriodLine.the-variants.{Period, NoPeriod}
@@ -204,7 +204,7 @@ inside-le : (a b x : ℕ) → inside a b x ≡ true → x ≤ b
 inside-le a b x e = leb-true x b (and-true (leb a x) (leb x b) e .1)
 
 pub fits-small : (capacities : List ℕ) (f : Flight) → length capacities ≤ 96 → flightFits capacities f ≡ true → Small f
-unfolding flightFits inRange
+unfolding flightFits numbersFit
 fits-small capacities f h e =
     let l = and-true (inside 1 9999 (f .number) && inside 1 (length capacities) (f .due) && inside 1 10000 (f .rate) && leb (f .after) 96 && leb (f .jump) 1000000) _ e in
     let j = and-true (inside 1 9999 (f .number) && inside 1 (length capacities) (f .due) && inside 1 10000 (f .rate) && leb (f .after) 96) _ (l .0) in
@@ -219,35 +219,6 @@ fits-small capacities f h e =
       jump = leb-true _ _ (j .1);
       limit = l .1;
     }
-
--- the ways through the test of a flight's ranges
-module _ (capacities : List ℕ) (f : Flight) where
-  pub number-out : inside 1 9999 (f .number) ≡ false → false ≡ flightFits capacities f
-  unfolding flightFits inRange
-  number-out e = rw e
-
-  module _ (n : inside 1 9999 (f .number) ≡ true) where
-    pub due-out : inside 1 (length capacities) (f .due) ≡ false → false ≡ flightFits capacities f
-    unfolding flightFits inRange
-    due-out e = rw (n, e)
-
-    module _ (d : inside 1 (length capacities) (f .due) ≡ true) where
-      pub rate-out : inside 1 10000 (f .rate) ≡ false → false ≡ flightFits capacities f
-      unfolding flightFits inRange
-      rate-out e = rw (n, d, e)
-
-      module _ (r : inside 1 10000 (f .rate) ≡ true) where
-        pub after-out : 96 < f .after → false ≡ flightFits capacities f
-        unfolding flightFits inRange
-        after-out e = rw (n, d, r, lt-leb (f .after) 96 e)
-
-        pub jump-out : f .after ≤ 96 → 1000000 < f .jump → false ≡ flightFits capacities f
-        unfolding flightFits inRange
-        jump-out a e = rw (n, d, r, le-leb (f .after) 96 a, lt-leb (f .jump) 1000000 e)
-
-        pub limit-left : f .after ≤ 96 → f .jump ≤ 1000000 → limitFits (f .limit) ≡ flightFits capacities f
-        unfolding flightFits inRange
-        limit-left a j = rw (n, d, r, le-leb (f .after) 96 a, le-leb (f .jump) 1000000 j)
 
 pub flight-write : (s : List ℕ) (at : ℕ) (f : Flight) (ys : List ℕ) → Small f → drop at s ≡ flightText f ++ ys
     → flightLine s at ≡ Row f (at + length (flightText f))

@@ -4,18 +4,17 @@ use Prim.Native.Nat.{ℕ, _+_}
 use mathlib.Core.List.{List, [], _∷_}
 use mathlib.Core.Bool.{Bool, false, cond, _||_}
 use lib.Dec.{leb, eqb}
-use lib.ListN.{getD}
+use lib.ListN.{length, getD}
 use Rattle.text.specs.Digits.{comma, lineEnd}
 use Rattle.text.specs.Reading.{field}
 use Rattle.text.specs.declared.Number.{Number}
 use Rattle.text.specs.declared.Number.the-variants.{Value, Bad}
-use Rattle.day.specs.Day.{day, inRange}
+use Rattle.day.specs.Day.{numbersFit}
 use Rattle.sheet.specs.declared.Flight.{Flight}
 use Rattle.sheet.specs.declared.PeriodLine.{PeriodLine}
 use Rattle.sheet.specs.declared.PeriodLine.the-variants.{Period, NoPeriod}
 use Rattle.sheet.specs.declared.FlightLine.{FlightLine}
 use Rattle.sheet.specs.declared.FlightLine.the-variants.{Row, NoRow}
-use Rattle.sheet.specs.Flights.{six}
 
 -- a written limit as it is in memory: 256, which is in no range, for one above 96, since 255 in memory means missing
 unfoldable pub limitRead : ℕ → ℕ
@@ -55,7 +54,7 @@ flightLine s at =
 
 -- the flight's numbers are within the table's ranges, on a day of these capacities
 unfoldable pub flightFits : List ℕ → Flight → Bool
-flightFits capacities f = inRange (day capacities (six f)) 0
+flightFits capacities f = numbersFit (length capacities) (f .number) (f .due) (f .rate) (f .after) (f .jump) (f .limit)
 
 -- "flight number used above"
 unfoldable pub used : ℕ → List Flight → Bool

@@ -1,27 +1,22 @@
 // The reader of day sheets: it fills two lent rows from a sheet, or says why not.
 ghost use mathlib.Core.Path.{_≡_};
-ghost use mathlib.Core.Bool.{_&&_, _||_};
-ghost use lib.Dec.{leb};
 ghost use mathlib.Core.List.{List, [], _∷_, _++_};
 ghost use Prim.Native.Nat.{ℕ, _+_, _-_, _*_, _≤_, _<_};
 ghost use lib.ListN.{length, take, drop};
 ghost use Rattle.text.specs.Fixed.{startsWith};
-ghost use Rattle.day.specs.Day.{day, inside, missing};
 ghost use Rattle.sheet.specs.Flights.{firstFlights};
 ghost use Rattle.sheet.specs.Text.{periodNames, flightNames};
 ghost use Rattle.sheet.specs.Lines.{limitField, periodLine, flightLine, flightFits, used};
 ghost use Rattle.sheet.specs.Sheet.{readPeriods, readFlights, reading, answerOf, capacitiesAfter, flightsAfter};
 ghost use Rattle.sheet_reader.specs.Loop.{goOn, Ready, filled, Few};
 use answers::Answer;
+use day::WIDTH;
 use sheet::FLIGHT_NAMES;
 use sheet::Flight;
 use sheet::FlightLine;
 use sheet::PERIOD_NAMES;
 use sheet::PeriodLine;
 use text::Number;
-
-// How many numbers a flight takes in its row.
-const WIDTH: usize = 6;
 
 // The last field of a flight line: a byte 45 for a missing limit, or a number.
 fn limit_at(s: &[u8], at: usize) -> Number
@@ -124,38 +119,19 @@ fn flight_line(s: &[u8], at: usize) -> FlightLine
     }
 }
 
-fn is_inside(low: usize, high: usize, x: u32) -> bool
-    ensures { λ r. ⌜ r ≡ inside low high x ⌝ }
-{
-    low <= day::wide(x) && day::wide(x) <= high
-}
-
-fn limit_fits(limit: u32) -> bool
-    ensures { λ r. ⌜ r ≡ (leb limit 96 || missing limit) ⌝ }
-{
-    limit <= 96 || limit == 255
-}
-
 // Whether the flight's numbers are within the table's ranges, on a day of p periods.
 fn flight_fits(p: usize, f: Flight) -> bool
     ensures { λ r. ⌜ ((capacities : List ℕ) → length capacities ≡ p → r ≡ flightFits capacities f) ⌝ }
 {
-    if !is_inside(1, 9999, f.number) {
-        return false;
-    }
-    if !is_inside(1, p, f.due) {
-        return false;
-    }
-    if !is_inside(1, 10000, f.rate) {
-        return false;
-    }
-    if 96 < f.after {
-        return false;
-    }
-    if 1000000 < f.jump {
-        return false;
-    }
-    limit_fits(f.limit)
+    day::numbers_fit(
+        p,
+        day::wide(f.number),
+        day::wide(f.due),
+        day::wide(f.rate),
+        day::wide(f.after),
+        day::wide(f.jump),
+        day::wide(f.limit),
+    )
 }
 
 // The period lines read: how many, and where the flight lines begin; or why not.
