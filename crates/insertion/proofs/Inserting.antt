@@ -3,7 +3,7 @@
 use mathlib.Core.Path.{_≡_, refl, ap, _∙_}
 use mathlib.Core.Logic.{_⊎_, inl, inr, _≢_}
 use mathlib.Core.List.{List}
-use Prim.Native.Nat.{ℕ, suc, _+_, _-_, _*_, _≤_, _<_, min}
+use Prim.Native.Nat.{ℕ, suc, _+_, _-_, _*_, _≤_, _<_}
 use native.Mathlib.Nat.{mul-le-mul-left}
 use native.Mathlib.Omega.{arith}
 use lib.Dec.{ltb}
@@ -17,13 +17,13 @@ use Rattle.assignment.proofs.Near.{Step}
 use Rattle.assignment.proofs.Insertion.{Sound, Found, price-le, going, ground, order as reach-order, z-free, going-end, going-total, sound-ext, total-ext}
 use Rattle.assignment.proofs.Permuted.{permuted-short}
 use Rattle.assignment.proofs.Restricted.{Rising, until-near, until-le, restricted, restrict, widen, widen-short}
-use Rattle.day.specs.Day.{Day, width, P, N, ofPeriod, due, rate, after, jump, limit, latest, cost}
+use Rattle.day.specs.Day.{Day, width, P, N, ofPeriod, due, rate, after, jump, limit, cost}
 use Rattle.day.proofs.Costs.{latest-missing, latest-given}
 use Rattle.day.proofs.Instance.{instance, last, last-to, places, places-in, places-closing, cost-le, instance-short}
-use Rattle.path.specs.Path.{el, far, away, scope, Table, Scene, CanOffer, Offers, CanSearch, Searched}
+use Rattle.path.specs.Path.{el, far, away, scope, Table, Scene, CanSearch, Searched}
 use Rattle.path.proofs.Rows.{set-moved, as-read}
-use Rattle.path.proofs.Reaching.{blank, search-start}
-use Rattle.path.proofs.Expanding.{stands, until-target}
+use Rattle.path.proofs.Reaching.{blank}
+use Rattle.path.proofs.Expanding.{stands}
 use Rattle.insertion.specs.Insertion.{begun, landing, Placed, cost-of-placed, CanList, Listed, CanFind, FirstRoom, Linked, CanWalk, Arrived, Walked, CanRaise, Raised, Inserted}
 
 -- ---- the numbers of a day
@@ -168,39 +168,15 @@ module _ {d : Day} {order holds prices : List ℕ} {n : ℕ} (s : Placed d order
                     (permuted-short (instance d) (s .table .by-due .permuted) l (widen-short (begun d order (suc n)) target less short)));
               }
 
-          pub insert-offer : CanOffer d prices (replicate 98 4611686018427387904) (replicate 98 n) target i 0 0
-          insert-offer =
-              let f = s .table .valid .flight i (rw (← i-is) at (in-table (s .table) n l)) in
-              record {
-                few = s .table .valid .periods-to;
-                room = insert-stands;
-                rates = f .rate-to;
-                jumps = f .jump-to;
-                within = insert-within;
-                dists = length-replicate {A = ℕ} 98 far;
-                vias = length-replicate {A = ℕ} 98 n;
-                low = omega arith;
-                pays = λ k a b. (omega arith, rw i-is (omega (arith, pay k (rw i-is at b), placed-low k)));
-              }
-            where
-              pay : (k : ℕ) → k ≤ min (latest d (el order n)) target → cost d (el order n) (k - due d (el order n)) ≤ 1960000
-              pay k b = place-cost (s .table) n k l (omega (
-                arith,
-                until-target d (el order n) target (room .to) (omega (arith, first-at, room .from)),
-                until-le target (due d (el order n)) (last d (el order n)),
-              ))
-
-          pub insert-search : {dist via : List ℕ} → length dist ≡ length (replicate {A = ℕ} 98 4611686018427387904) → length via ≡ length (replicate {A = ℕ} 98 n)
-              → Offers d prices target i n 0 0 (replicate 98 4611686018427387904) dist (replicate 98 n) via
-              → CanSearch d order lands prices dist (replicate 98 0) via n first target
-          insert-search {dist} {via} dists vias o = record {
+          pub insert-search : CanSearch d order lands prices (replicate 98 4611686018427387904) (replicate 98 0) (replicate 98 n) n target
+          insert-search = record {
             table = s .table;
             scene = insert-scene;
             upto = l;
             lands-room = omega (arith, insert-room, lands-row);
-            so-far = search-start dist via insert-scene (until-target d (el order n) target (room .to) (omega (arith, first-at, room .from)))
-                (dists ∙ length-replicate {A = ℕ} 98 far) (vias ∙ length-replicate {A = ℕ} 98 n) (rw i-is at o);
-            first-is = first-at;
+            all-far = refl;
+            no-ranks = refl;
+            no-links = refl;
           }
 
           module _ {dist rank via : List ℕ} (h : Searched (scope d order n target) (el lands) (ofPeriod prices) target dist rank via) where

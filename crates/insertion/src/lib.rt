@@ -13,7 +13,6 @@ use day::wide;
 use due_order::order_by_due;
 use path::FAR;
 use path::find_path;
-use path::offer;
 
 // A rank above those of all reached periods.
 const LAST: usize = 99;
@@ -123,24 +122,11 @@ fn insert(
     let mut lands = [0; 128];
     let mut loads = [0; 98];
     list_landings(capacities, flights, order, holds, &mut lands, &mut loads, n);
-    let i = wide(order[n]);
-    let first = due_of(flights, i);
+    let first = due_of(flights, wide(order[n]));
     let target = first_with_room(capacities, &loads, first);
     let mut dist = [FAR; 98];
     let mut rank = [0; 98];
     let mut via = [n; 98];
-    offer(
-        capacities,
-        flights,
-        prices,
-        &mut dist,
-        &mut via,
-        target,
-        i,
-        n,
-        0,
-        0,
-    );
     find_path(
         capacities,
         flights,
@@ -151,7 +137,6 @@ fn insert(
         &mut rank,
         &mut via,
         n,
-        first,
         target,
     );
     rank[target] = LAST;

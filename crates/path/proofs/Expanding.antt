@@ -5,14 +5,14 @@ use mathlib.Core.Logic.{_≢_}
 use mathlib.Core.List.{List}
 use Prim.Native.Nat.{ℕ, _+_, _-_, _*_, _≤_, _<_, min}
 use native.Mathlib.Omega.{arith}
-use lib.ListN.{getD, length, set}
+use lib.ListN.{getD, length, set, length-replicate}
 use Rattle.assignment.specs.Assignment.{Instance, In}
 use Rattle.assignment.proofs.Restricted.{until, until-near}
 use Rattle.day.specs.Day.{Day, P, N, width, ofPeriod, due, latest, cost}
 use Rattle.day.proofs.Instance.{last}
-use Rattle.path.specs.Path.{el, away, dearest, scope, Table, Search, Around, CanNear, Nearest, CanOffer, Offers, CanExpand, Expanded, CanSearch, Searched}
+use Rattle.path.specs.Path.{el, far, away, dearest, scope, Table, Scene, Rows, Search, Around, CanNear, Nearest, CanOffer, Offers, CanExpand, Expanded, CanSearch, Searched}
 use Rattle.path.proofs.Rows.{as-read}
-use Rattle.path.proofs.Reaching.{around-pass, around-kept, around-offered, search-near, reach-in, reach-next, search-end}
+use Rattle.path.proofs.Reaching.{search-start, around-pass, around-kept, around-offered, search-near, reach-in, reach-next, search-end}
 
 -- a flight of the day stands in its row
 pub stands : {d : Day} {order : List ℕ} (t : Table d order) (i : ℕ) → i < N d → (i + 1) * width ≤ length (d .flights)
@@ -134,38 +134,92 @@ module _ {d : Day} {order lands prices dist₀ dist via₀ via : List ℕ} {n ta
 
 -- ---- find_path
 
--- the rows that the search started with have the subscript
-pub record Finding (d : Day) (order lands prices dist₀ dist rank₀ rank via₀ via : List ℕ) (n first target t k : ℕ) : Type 0 where
-  pub can : CanSearch d order lands prices dist₀ rank₀ via₀ n first target
+-- t periods are reached, and k is the nearest of the others
+pub record Finding (d : Day) (order lands prices dist rank via : List ℕ) (n first target t k : ℕ) : Type 0 where
+  pub table : Table d order
+  pub scene : Scene (scope d order n target) (el lands) (ofPeriod prices) target
+  pub upto : n < N d
+  pub lands-room : n ≤ length lands
+  pub first-is : first ≡ due d (el order n)
   pub so-far : Search (scope d order n target) (el lands) (ofPeriod prices) target dist rank via t n
   pub nearest : Nearest dist rank first target k
 
-pub finding-near : {d : Day} {order lands prices dist rank via : List ℕ} {n first target : ℕ}
-    → CanSearch d order lands prices dist rank via n first target → CanNear dist rank first target
-finding-near c = search-near (c .so-far) (c .scene) (c .first-is)
+module _ {d : Day} {order lands prices dist rank via : List ℕ} {n target : ℕ} (c : CanSearch d order lands prices dist rank via n target) where
+  pub find-rows : Rows dist rank via
+  find-rows = record {
+    dists = rw (c .all-far) (length-replicate {A = ℕ} 98 far);
+    ranks = rw (c .no-ranks) (length-replicate {A = ℕ} 98 0);
+    vias = rw (c .no-links) (length-replicate {A = ℕ} 98 n);
+  }
 
-pub finding-start : {d : Day} {order lands prices dist rank via : List ℕ} {n first target k : ℕ}
-    → CanSearch d order lands prices dist rank via n first target → Nearest dist rank first target k
-    → Finding d order lands prices dist dist rank rank via via n first target 0 k
-finding-start c a = record { can = c; so-far = c .so-far; nearest = a }
+  pub find-room : (n < length order) × (n < 128)
+  find-room = omega (arith, c .upto, c .table .by-due .row, c .table .valid .flights-to)
 
-module _ {d : Day} {order lands prices dist₀ dist rank₀ rank via₀ via : List ℕ} {n first target t k : ℕ}
-    (s : Finding d order lands prices dist₀ dist rank₀ rank via₀ via n first target t k) where
+  module _ {i : ℕ} (i-is : i ≡ getD order n 0) where
+    in-day : i < N d
+    in-day = omega (arith, c .table .by-due .permuted .below n (c .upto))
+
+    pub find-stands : (i + 1) * width ≤ length (d .flights)
+    find-stands = stands (c .table) i in-day
+
+    window-to : min (latest d (getD order n 0)) target ≡ scope d order n target .hi n
+    window-to = until-target d (getD order n 0) target (omega (arith, c .scene .within)) (c .scene .before)
+
+    pub find-offer : CanOffer d prices dist via target i 0 0
+    find-offer = record {
+      few = c .table .valid .periods-to;
+      room = find-stands;
+      rates = c .table .valid .flight i in-day .rate-to;
+      jumps = c .table .valid .flight i in-day .jump-to;
+      within = omega (arith, c .scene .within, c .scene .periods);
+      dists = find-rows .dists;
+      vias = find-rows .vias;
+      low = omega arith;
+      pays = λ k a b.
+          let w : In (scope d order n target) n k = record { from = rw i-is at a; to = omega (arith, window-to, rw i-is at b) } in
+          (omega arith, rw i-is (c .scene .pays n k (omega arith) w));
+    }
+
+    module _ (dist₁ via₁ : List ℕ) {first : ℕ} (first-is : first ≡ due d i) (same-d : length dist₁ ≡ length dist) (same-v : length via₁ ≡ length via)
+        (o : Offers d prices target i n 0 0 dist dist₁ via via₁) where
+      first-at : first ≡ due d (getD order n 0)
+      first-at = rw i-is at first-is
+
+      begun : Search (scope d order n target) (el lands) (ofPeriod prices) target dist₁ rank via₁ 0 n
+      begun = rw (c .no-ranks) (search-start dist₁ via₁ (c .scene) window-to (same-d ∙ find-rows .dists) (same-v ∙ find-rows .vias)
+          (rw (i-is, c .all-far, c .no-links) at o))
+
+      pub finding-near : CanNear dist₁ rank first target
+      finding-near = search-near begun (c .scene) first-at
+
+      pub finding-start : {k : ℕ} → Nearest dist₁ rank first target k → Finding d order lands prices dist₁ rank via₁ n first target 0 k
+      finding-start a = record {
+        table = c .table;
+        scene = c .scene;
+        upto = c .upto;
+        lands-room = c .lands-room;
+        first-is = first-at;
+        so-far = begun;
+        nearest = a;
+      }
+
+module _ {d : Day} {order lands prices dist rank via : List ℕ} {n first target t k : ℕ}
+    (s : Finding d order lands prices dist rank via n first target t k) where
   pub finding-end : k ≡ target → Searched (scope d order n target) (el lands) (ofPeriod prices) target dist rank via
-  finding-end e = search-end (s .so-far) (s .can .scene) (s .can .first-is) (s .nearest) e
+  finding-end e = search-end (s .so-far) (s .scene) (s .first-is) (s .nearest) e
 
   module _ (e : k ≢ target) where
     pub finding-in : (k < 98) × (t < 98) × (k < length rank)
-    finding-in = let a = reach-in (s .so-far) (s .can .scene) (s .can .first-is) (s .nearest) e in (a .1, a .2, a .3)
+    finding-in = let a = reach-in (s .so-far) (s .scene) (s .first-is) (s .nearest) e in (a .1, a .2, a .3)
 
     pub finding-expand : CanExpand d order lands prices dist via n target k
     finding-expand =
-        let a = reach-in (s .so-far) (s .can .scene) (s .can .first-is) (s .nearest) e in
+        let a = reach-in (s .so-far) (s .scene) (s .first-is) (s .nearest) e in
         record {
-          table = s .can .table;
-          scene = s .can .scene;
-          upto = s .can .upto;
-          lands-room = s .can .lands-room;
+          table = s .table;
+          scene = s .scene;
+          upto = s .upto;
+          lands-room = s .lands-room;
           dists = s .so-far .rows .dists;
           vias = s .so-far .rows .vias;
           to = a .0;
@@ -175,11 +229,19 @@ module _ {d : Day} {order lands prices dist₀ dist rank₀ rank via₀ via : Li
     module _ {dist₂ via₂ : List ℕ}
         (h : Expanded (scope d order n target) (el lands) (ofPeriod prices) target dist dist₂ via via₂ k n) where
       expanded : Search (scope d order n target) (el lands) (ofPeriod prices) target dist₂ (set rank k (t + 1)) via₂ (t + 1) n
-      expanded = h .keeps (set rank k (t + 1)) (t + 1) (reach-next (s .so-far) (s .can .scene) (s .can .first-is) (s .nearest) e) .so-far
+      expanded = h .keeps (set rank k (t + 1)) (t + 1) (reach-next (s .so-far) (s .scene) (s .first-is) (s .nearest) e) .so-far
 
       pub finding-again : CanNear dist₂ (set rank k (t + 1)) first target
-      finding-again = search-near expanded (s .can .scene) (s .can .first-is)
+      finding-again = search-near expanded (s .scene) (s .first-is)
 
       pub finding-next : {j : ℕ} → Nearest dist₂ (set rank k (t + 1)) first target j
-          → Finding d order lands prices dist₀ dist₂ rank₀ (set rank k (t + 1)) via₀ via₂ n first target (t + 1) j
-      finding-next a = record { can = s .can; so-far = expanded; nearest = a }
+          → Finding d order lands prices dist₂ (set rank k (t + 1)) via₂ n first target (t + 1) j
+      finding-next a = record {
+        table = s .table;
+        scene = s .scene;
+        upto = s .upto;
+        lands-room = s .lands-room;
+        first-is = s .first-is;
+        so-far = expanded;
+        nearest = a;
+      }

@@ -4,7 +4,7 @@ use mathlib.Core.Path.{_≡_}
 use mathlib.Core.Logic.{_≢_}
 use mathlib.Core.List.{List}
 use Prim.Native.Nat.{ℕ, _+_, _-_, _*_, _≤_, _<_, min}
-use lib.ListN.{getD, length}
+use lib.ListN.{getD, length, replicate}
 use Rattle.assignment.specs.Sum.{count}
 use Rattle.assignment.specs.Assignment.{Instance, In, Short}
 use Rattle.assignment.proofs.Near.{Near, Offered}
@@ -127,13 +127,15 @@ pub record CanExpand (d : Day) (order lands prices dist via : List ℕ) (n targe
 pub record Expanded (d : Instance) (x p : ℕ → ℕ) (target : ℕ) (dist dist₂ via via₂ : List ℕ) (k m : ℕ) : Type 0 where
   pub keeps : (rank : List ℕ) (t : ℕ) → Around d x p target dist rank via t k 0 → Around d x p target dist₂ rank via₂ t k m
 
-pub record CanSearch (d : Day) (order lands prices dist rank via : List ℕ) (n first target : ℕ) : Type 0 where
+-- nothing is reached yet
+pub record CanSearch (d : Day) (order lands prices dist rank via : List ℕ) (n target : ℕ) : Type 0 where
   pub table : Table d order
   pub scene : Scene (scope d order n target) (el lands) (ofPeriod prices) target
   pub upto : n < N d
   pub lands-room : n ≤ length lands
-  pub so-far : Search (scope d order n target) (el lands) (ofPeriod prices) target dist rank via 0 n
-  pub first-is : first ≡ due d (el order n)
+  pub all-far : dist ≡ replicate 98 far
+  pub no-ranks : rank ≡ replicate 98 0
+  pub no-links : via ≡ replicate 98 n
 
 -- the target is the nearest of the periods that are not reached, and it is not far
 pub record Searched (d : Instance) (x p : ℕ → ℕ) (target : ℕ) (dist rank via : List ℕ) : Type 0 where

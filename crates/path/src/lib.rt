@@ -61,7 +61,7 @@ fn nearest(dist: &[usize], rank: &[usize], first: usize, target: usize) -> usize
 
 // The flight at table place i, who is known to the search as `who`, offers the periods of its window up to the target: from distance `from`,
 // where it pays `base`, to what it pays there.
-pub fn offer(
+fn offer(
     capacities: &[u32],
     flights: &[u32],
     prices: &[u32],
@@ -134,7 +134,8 @@ fn expand(
     }
 }
 
-// Reaches the nearest period again and again, until that is the target.
+// The cheapest chain of moves that makes room for flight n of the order, due by the target: the flight offers, and then the nearest period is
+// reached again and again, until that is the target. All is far at the start, and `via` names the new flight everywhere.
 pub fn find_path(
     capacities: &[u32],
     flights: &[u32],
@@ -145,12 +146,14 @@ pub fn find_path(
     rank: &mut [usize],
     via: &mut [usize],
     n: usize,
-    first: usize,
     target: usize,
 )
-    requires { ⌜ CanSearch (day (now capacities) (now flights)) (now order) (now lands) (now prices) (now dist) (now rank) (now via) n first target ⌝ }
+    requires { ⌜ CanSearch (day (now capacities) (now flights)) (now order) (now lands) (now prices) (now dist) (now rank) (now via) n target ⌝ }
     ensures { λ _. ⌜ Searched (scope (day (now (capacities .entry)) (now (flights .entry))) (now (order .entry)) n target) (el (now (lands .entry))) (ofPeriod (now (prices .entry))) target (now (dist .exit)) (now (rank .exit)) (now (via .exit)) ⌝ }
 {
+    let i = wide(order[n]);
+    let first = due_of(flights, i);
+    offer(capacities, flights, prices, dist, via, target, i, n, 0, 0);
     let mut t = 0;
     let mut k = nearest(dist, rank, first, target);
     while k != target {

@@ -1,10 +1,10 @@
--- The steps hand over: landings, first room, the new flight's offers, the search, the walk, the raise. Assumes nothing.
-use borrow.Author.Needs.{needs}
+-- The steps hand over: landings, first room, the search, the walk, the raise. Assumes nothing.
 use native.Mathlib.Omega.{arith}
 use mathlib.Core.Path.{refl, sym, _∙_}
 use Prim.Native.Nat.{ℕ}
 use lib.ListN.{length-replicate}
-use Rattle.insertion.proofs.Inserting.{insert-list, insert-room, insert-stands, insert-find, insert-offer, insert-search, insert-rows, insert-within, insert-walk, insert-raise, insert-end}
+use Rattle.insertion.proofs.Inserting.{insert-list, insert-room, insert-stands, insert-find, insert-search, insert-rows, insert-within, insert-walk, insert-raise, insert-end}
+use borrow.Author.Needs.{needs}
 use Rattle.insertion.proofs.insert.Statement.{statement}
 use Rattle.insertion.proofs.insert.Tie as tie
 
@@ -35,17 +35,8 @@ slice-aggregate-first-with-room c = sym (c .before .before .before .before .befo
 first-with-room-requires : tie.Need-first-with-room-requires
 first-with-room-requires c κs = insert-find (c .before .before .before .before .before .before .before .before .before .before .before .before .before .before .before .pre .0) (c .before .before .before .before .before .before .before .before .before .before .before .before .before .before .before .pre .1) (c .before .before .before .before .before .before .list-landings .ensures) (c .before .before .before .before .before .before .list-landings .kept .1 .1 .1 .1 .0 ∙ length-replicate {A = ℕ} 128 0) (c .before .before .before .before .before .before .list-landings .kept .1 .1 .1 .1 .1 .0 ∙ length-replicate {A = ℕ} 98 0) (c .before .before .wide .ensures) (c .before .due-of .ensures .0)
 
-slice-aggregate-offer : tie.Need-slice-aggregate-offer
-slice-aggregate-offer c = search needs
-
-slice-aggregate-offer-2 : tie.Need-slice-aggregate-offer-2
-slice-aggregate-offer-2 c = search needs
-
-offer-requires : tie.Need-offer-requires
-offer-requires c κs = insert-offer (c .before .before .before .before .before .before .before .before .before .before .before .before .before .before .before .before .before .before .before .pre .0) (c .before .before .before .before .before .before .before .before .before .before .before .before .before .before .before .before .before .before .before .pre .1) (c .before .before .before .before .before .before .before .before .before .before .list-landings .ensures) (c .before .before .before .before .before .before .before .before .before .before .list-landings .kept .1 .1 .1 .1 .0 ∙ length-replicate {A = ℕ} 128 0) (c .before .before .before .before .before .before .before .before .before .before .list-landings .kept .1 .1 .1 .1 .1 .0 ∙ length-replicate {A = ℕ} 98 0) (c .before .before .before .before .before .before .wide .ensures) (c .before .before .before .before .before .due-of .ensures .0) (c .before .before .before .first-with-room .ensures)
-
 slice-aggregate-find-path : tie.Need-slice-aggregate-find-path
-slice-aggregate-find-path c = sym (c .before .before .before .before .before .before .before .before .before .before .before .before .before .before .list-landings .kept .1 .1 .1 .1 .0 ∙ length-replicate {A = ℕ} 128 0)
+slice-aggregate-find-path c = sym (c .before .before .before .before .before .before .before .before .list-landings .kept .1 .1 .1 .1 .0 ∙ length-replicate {A = ℕ} 128 0)
 
 slice-aggregate-find-path-2 : tie.Need-slice-aggregate-find-path-2
 slice-aggregate-find-path-2 c = search needs
@@ -57,16 +48,16 @@ slice-aggregate-find-path-4 : tie.Need-slice-aggregate-find-path-4
 slice-aggregate-find-path-4 c = search needs
 
 find-path-requires : tie.Need-find-path-requires
-find-path-requires c κs = insert-search (c .before .before .before .before .before .before .before .before .before .before .before .before .before .before .before .before .before .before .before .before .before .before .before .before .before .before .before .pre .0) (c .before .before .before .before .before .before .before .before .before .before .before .before .before .before .before .before .before .before .before .before .before .before .before .before .before .before .before .pre .1) (c .before .before .before .before .before .before .before .before .before .before .before .before .before .before .before .before .before .before .list-landings .ensures) (c .before .before .before .before .before .before .before .before .before .before .before .before .before .before .before .before .before .before .list-landings .kept .1 .1 .1 .1 .0 ∙ length-replicate {A = ℕ} 128 0) (c .before .before .before .before .before .before .before .before .before .before .before .before .before .before .before .before .before .before .list-landings .kept .1 .1 .1 .1 .1 .0 ∙ length-replicate {A = ℕ} 98 0) (c .before .before .before .before .before .before .before .before .before .before .before .before .before .before .wide .ensures) (c .before .before .before .before .before .before .before .before .before .before .before .before .before .due-of .ensures .0) (c .before .before .before .before .before .before .before .before .before .before .before .first-with-room .ensures) (c .before .before .before .before .before .before .before .offer .kept .1 .1 .1 .0) (c .before .before .before .before .before .before .before .offer .kept .1 .1 .1 .1 .0) (c .before .before .before .before .before .before .before .offer .ensures)
+find-path-requires c κs = insert-search (c .before .before .before .before .before .before .before .before .before .before .before .before .before .before .before .before .before .before .before .before .before .pre .0) (c .before .before .before .before .before .before .before .before .before .before .before .before .before .before .before .before .before .before .before .before .before .pre .1) (c .before .before .before .before .before .before .before .before .before .before .before .before .list-landings .ensures) (c .before .before .before .before .before .before .before .before .before .before .before .before .list-landings .kept .1 .1 .1 .1 .0 ∙ length-replicate {A = ℕ} 128 0) (c .before .before .before .before .before .before .before .before .before .before .before .before .list-landings .kept .1 .1 .1 .1 .1 .0 ∙ length-replicate {A = ℕ} 98 0) (c .before .before .before .before .before .before .before .before .wide .ensures) (c .before .before .before .before .before .before .before .due-of .ensures .0) (c .before .before .before .before .before .first-with-room .ensures)
 
 mul-rank : tie.Need-mul-rank
-mul-rank c = omega (arith, insert-within (c .before .before .before .before .before .before .before .before .before .before .before .before .before .before .before .before .before .before .before .before .before .before .before .before .before .before .before .before .before .before .before .pre .0) (c .before .before .before .before .before .before .before .before .before .before .before .before .before .before .before .before .before .before .before .before .before .before .before .before .before .before .before .before .before .before .before .pre .1) (c .before .before .before .before .before .before .before .before .before .before .before .before .before .before .before .before .before .before .before .before .before .before .list-landings .ensures) (c .before .before .before .before .before .before .before .before .before .before .before .before .before .before .before .before .before .before .before .before .before .before .list-landings .kept .1 .1 .1 .1 .0 ∙ length-replicate {A = ℕ} 128 0) (c .before .before .before .before .before .before .before .before .before .before .before .before .before .before .before .before .before .before .before .before .before .before .list-landings .kept .1 .1 .1 .1 .1 .0 ∙ length-replicate {A = ℕ} 98 0) (c .before .before .before .before .before .before .before .before .before .before .before .before .before .before .before .before .before .before .wide .ensures) (c .before .before .before .before .before .before .before .before .before .before .before .before .before .before .before .before .before .due-of .ensures .0) (c .before .before .before .before .before .before .before .before .before .before .before .before .before .before .before .first-with-room .ensures))
+mul-rank c = omega (arith, insert-within (c .before .before .before .before .before .before .before .before .before .before .before .before .before .before .before .before .before .before .before .before .before .before .before .before .before .pre .0) (c .before .before .before .before .before .before .before .before .before .before .before .before .before .before .before .before .before .before .before .before .before .before .before .before .before .pre .1) (c .before .before .before .before .before .before .before .before .before .before .before .before .before .before .before .before .list-landings .ensures) (c .before .before .before .before .before .before .before .before .before .before .before .before .before .before .before .before .list-landings .kept .1 .1 .1 .1 .0 ∙ length-replicate {A = ℕ} 128 0) (c .before .before .before .before .before .before .before .before .before .before .before .before .before .before .before .before .list-landings .kept .1 .1 .1 .1 .1 .0 ∙ length-replicate {A = ℕ} 98 0) (c .before .before .before .before .before .before .before .before .before .before .before .before .wide .ensures) (c .before .before .before .before .before .before .before .before .before .before .before .due-of .ensures .0) (c .before .before .before .before .before .before .before .before .before .first-with-room .ensures))
 
 array-write-rank : tie.Need-array-write-rank
-array-write-rank c = omega (arith, insert-within (c .before .before .before .before .before .before .before .before .before .before .before .before .before .before .before .before .before .before .before .before .before .before .before .before .before .before .before .before .before .before .before .pre .0) (c .before .before .before .before .before .before .before .before .before .before .before .before .before .before .before .before .before .before .before .before .before .before .before .before .before .before .before .before .before .before .before .pre .1) (c .before .before .before .before .before .before .before .before .before .before .before .before .before .before .before .before .before .before .before .before .before .before .list-landings .ensures) (c .before .before .before .before .before .before .before .before .before .before .before .before .before .before .before .before .before .before .before .before .before .before .list-landings .kept .1 .1 .1 .1 .0 ∙ length-replicate {A = ℕ} 128 0) (c .before .before .before .before .before .before .before .before .before .before .before .before .before .before .before .before .before .before .before .before .before .before .list-landings .kept .1 .1 .1 .1 .1 .0 ∙ length-replicate {A = ℕ} 98 0) (c .before .before .before .before .before .before .before .before .before .before .before .before .before .before .before .before .before .before .wide .ensures) (c .before .before .before .before .before .before .before .before .before .before .before .before .before .before .before .before .before .due-of .ensures .0) (c .before .before .before .before .before .before .before .before .before .before .before .before .before .before .before .first-with-room .ensures))
+array-write-rank c = omega (arith, insert-within (c .before .before .before .before .before .before .before .before .before .before .before .before .before .before .before .before .before .before .before .before .before .before .before .before .before .pre .0) (c .before .before .before .before .before .before .before .before .before .before .before .before .before .before .before .before .before .before .before .before .before .before .before .before .before .pre .1) (c .before .before .before .before .before .before .before .before .before .before .before .before .before .before .before .before .list-landings .ensures) (c .before .before .before .before .before .before .before .before .before .before .before .before .before .before .before .before .list-landings .kept .1 .1 .1 .1 .0 ∙ length-replicate {A = ℕ} 128 0) (c .before .before .before .before .before .before .before .before .before .before .before .before .before .before .before .before .list-landings .kept .1 .1 .1 .1 .1 .0 ∙ length-replicate {A = ℕ} 98 0) (c .before .before .before .before .before .before .before .before .before .before .before .before .wide .ensures) (c .before .before .before .before .before .before .before .before .before .before .before .due-of .ensures .0) (c .before .before .before .before .before .before .before .before .before .first-with-room .ensures))
 
 slice-aggregate-walk : tie.Need-slice-aggregate-walk
-slice-aggregate-walk c = sym (c .before .before .before .before .before .before .before .before .before .before .before .before .before .before .before .before .before .before .before .before .before .before .before .list-landings .kept .1 .1 .1 .1 .0 ∙ length-replicate {A = ℕ} 128 0)
+slice-aggregate-walk c = sym (c .before .before .before .before .before .before .before .before .before .before .before .before .before .before .before .before .before .list-landings .kept .1 .1 .1 .1 .0 ∙ length-replicate {A = ℕ} 128 0)
 
 slice-aggregate-walk-2 : tie.Need-slice-aggregate-walk-2
 slice-aggregate-walk-2 c = search needs
@@ -75,19 +66,19 @@ slice-aggregate-walk-3 : tie.Need-slice-aggregate-walk-3
 slice-aggregate-walk-3 c = search needs
 
 walk-requires : tie.Need-walk-requires
-walk-requires c κs = insert-walk (c .before .before .before .before .before .before .before .before .before .before .before .before .before .before .before .before .before .before .before .before .before .before .before .before .before .before .before .before .before .before .before .before .before .before .before .pre .0) (c .before .before .before .before .before .before .before .before .before .before .before .before .before .before .before .before .before .before .before .before .before .before .before .before .before .before .before .before .before .before .before .before .before .before .before .pre .1) (c .before .before .before .before .before .before .before .before .before .before .before .before .before .before .before .before .before .before .before .before .before .before .before .before .before .before .list-landings .ensures) (c .before .before .before .before .before .before .before .before .before .before .before .before .before .before .before .before .before .before .before .before .before .before .before .before .before .before .list-landings .kept .1 .1 .1 .1 .0 ∙ length-replicate {A = ℕ} 128 0) (c .before .before .before .before .before .before .before .before .before .before .before .before .before .before .before .before .before .before .before .before .before .before .before .before .before .before .list-landings .kept .1 .1 .1 .1 .1 .0 ∙ length-replicate {A = ℕ} 98 0) (c .before .before .before .before .before .before .before .before .before .before .before .before .before .before .before .before .before .before .before .before .before .before .wide .ensures) (c .before .before .before .before .before .before .before .before .before .before .before .before .before .before .before .before .before .before .before .before .before .due-of .ensures .0) (c .before .before .before .before .before .before .before .before .before .before .before .before .before .before .before .before .before .before .before .first-with-room .ensures) (c .before .before .before .before .before .before .before .find-path .ensures)
+walk-requires c κs = insert-walk (c .before .before .before .before .before .before .before .before .before .before .before .before .before .before .before .before .before .before .before .before .before .before .before .before .before .before .before .before .before .pre .0) (c .before .before .before .before .before .before .before .before .before .before .before .before .before .before .before .before .before .before .before .before .before .before .before .before .before .before .before .before .before .pre .1) (c .before .before .before .before .before .before .before .before .before .before .before .before .before .before .before .before .before .before .before .before .list-landings .ensures) (c .before .before .before .before .before .before .before .before .before .before .before .before .before .before .before .before .before .before .before .before .list-landings .kept .1 .1 .1 .1 .0 ∙ length-replicate {A = ℕ} 128 0) (c .before .before .before .before .before .before .before .before .before .before .before .before .before .before .before .before .before .before .before .before .list-landings .kept .1 .1 .1 .1 .1 .0 ∙ length-replicate {A = ℕ} 98 0) (c .before .before .before .before .before .before .before .before .before .before .before .before .before .before .before .before .wide .ensures) (c .before .before .before .before .before .before .before .before .before .before .before .before .before .before .before .due-of .ensures .0) (c .before .before .before .before .before .before .before .before .before .before .before .before .before .first-with-room .ensures) (c .before .before .before .before .before .before .before .find-path .ensures)
 
 slice-aggregate-raise : tie.Need-slice-aggregate-raise
 slice-aggregate-raise c = search needs
 
 raise-requires : tie.Need-raise-requires
-raise-requires c κs = insert-raise (c .before .before .before .before .before .before .before .before .before .before .before .before .before .before .before .before .before .before .before .before .before .before .before .before .before .before .before .before .before .before .before .before .before .before .before .before .before .before .before .before .pre .0) (c .before .before .before .before .before .before .before .before .before .before .before .before .before .before .before .before .before .before .before .before .before .before .before .before .before .before .before .before .before .before .before .before .before .before .before .before .before .before .before .before .pre .1) (c .before .before .before .before .before .before .before .before .before .before .before .before .before .before .before .before .before .before .before .before .before .before .before .before .before .before .before .before .before .before .before .list-landings .ensures) (c .before .before .before .before .before .before .before .before .before .before .before .before .before .before .before .before .before .before .before .before .before .before .before .before .before .before .before .before .before .before .before .list-landings .kept .1 .1 .1 .1 .0 ∙ length-replicate {A = ℕ} 128 0) (c .before .before .before .before .before .before .before .before .before .before .before .before .before .before .before .before .before .before .before .before .before .before .before .before .before .before .before .before .before .before .before .list-landings .kept .1 .1 .1 .1 .1 .0 ∙ length-replicate {A = ℕ} 98 0) (c .before .before .before .before .before .before .before .before .before .before .before .before .before .before .before .before .before .before .before .before .before .before .before .before .before .before .before .wide .ensures) (c .before .before .before .before .before .before .before .before .before .before .before .before .before .before .before .before .before .before .before .before .before .before .before .before .before .before .due-of .ensures .0) (c .before .before .before .before .before .before .before .before .before .before .before .before .before .before .before .before .before .before .before .before .before .before .before .before .first-with-room .ensures) (c .before .before .before .before .before .before .before .before .before .before .before .before .find-path .ensures) (c .before .before .before .before .walk .ensures)
+raise-requires c κs = insert-raise (c .before .before .before .before .before .before .before .before .before .before .before .before .before .before .before .before .before .before .before .before .before .before .before .before .before .before .before .before .before .before .before .before .before .before .pre .0) (c .before .before .before .before .before .before .before .before .before .before .before .before .before .before .before .before .before .before .before .before .before .before .before .before .before .before .before .before .before .before .before .before .before .before .pre .1) (c .before .before .before .before .before .before .before .before .before .before .before .before .before .before .before .before .before .before .before .before .before .before .before .before .before .list-landings .ensures) (c .before .before .before .before .before .before .before .before .before .before .before .before .before .before .before .before .before .before .before .before .before .before .before .before .before .list-landings .kept .1 .1 .1 .1 .0 ∙ length-replicate {A = ℕ} 128 0) (c .before .before .before .before .before .before .before .before .before .before .before .before .before .before .before .before .before .before .before .before .before .before .before .before .before .list-landings .kept .1 .1 .1 .1 .1 .0 ∙ length-replicate {A = ℕ} 98 0) (c .before .before .before .before .before .before .before .before .before .before .before .before .before .before .before .before .before .before .before .before .before .wide .ensures) (c .before .before .before .before .before .before .before .before .before .before .before .before .before .before .before .before .before .before .before .before .due-of .ensures .0) (c .before .before .before .before .before .before .before .before .before .before .before .before .before .before .before .before .before .before .first-with-room .ensures) (c .before .before .before .before .before .before .before .before .before .before .before .before .find-path .ensures) (c .before .before .before .before .walk .ensures)
 
 mul-result : tie.Need-mul-result
-mul-result c = omega (arith, insert-within (c .before .before .before .before .before .before .before .before .before .before .before .before .before .before .before .before .before .before .before .before .before .before .before .before .before .before .before .before .before .before .before .before .before .before .before .before .before .before .before .before .before .before .before .pre .0) (c .before .before .before .before .before .before .before .before .before .before .before .before .before .before .before .before .before .before .before .before .before .before .before .before .before .before .before .before .before .before .before .before .before .before .before .before .before .before .before .before .before .before .before .pre .1) (c .before .before .before .before .before .before .before .before .before .before .before .before .before .before .before .before .before .before .before .before .before .before .before .before .before .before .before .before .before .before .before .before .before .before .list-landings .ensures) (c .before .before .before .before .before .before .before .before .before .before .before .before .before .before .before .before .before .before .before .before .before .before .before .before .before .before .before .before .before .before .before .before .before .before .list-landings .kept .1 .1 .1 .1 .0 ∙ length-replicate {A = ℕ} 128 0) (c .before .before .before .before .before .before .before .before .before .before .before .before .before .before .before .before .before .before .before .before .before .before .before .before .before .before .before .before .before .before .before .before .before .before .list-landings .kept .1 .1 .1 .1 .1 .0 ∙ length-replicate {A = ℕ} 98 0) (c .before .before .before .before .before .before .before .before .before .before .before .before .before .before .before .before .before .before .before .before .before .before .before .before .before .before .before .before .before .before .wide .ensures) (c .before .before .before .before .before .before .before .before .before .before .before .before .before .before .before .before .before .before .before .before .before .before .before .before .before .before .before .before .before .due-of .ensures .0) (c .before .before .before .before .before .before .before .before .before .before .before .before .before .before .before .before .before .before .before .before .before .before .before .before .before .before .before .first-with-room .ensures))
+mul-result c = omega (arith, insert-within (c .before .before .before .before .before .before .before .before .before .before .before .before .before .before .before .before .before .before .before .before .before .before .before .before .before .before .before .before .before .before .before .before .before .before .before .before .before .pre .0) (c .before .before .before .before .before .before .before .before .before .before .before .before .before .before .before .before .before .before .before .before .before .before .before .before .before .before .before .before .before .before .before .before .before .before .before .before .before .pre .1) (c .before .before .before .before .before .before .before .before .before .before .before .before .before .before .before .before .before .before .before .before .before .before .before .before .before .before .before .before .list-landings .ensures) (c .before .before .before .before .before .before .before .before .before .before .before .before .before .before .before .before .before .before .before .before .before .before .before .before .before .before .before .before .list-landings .kept .1 .1 .1 .1 .0 ∙ length-replicate {A = ℕ} 128 0) (c .before .before .before .before .before .before .before .before .before .before .before .before .before .before .before .before .before .before .before .before .before .before .before .before .before .before .before .before .list-landings .kept .1 .1 .1 .1 .1 .0 ∙ length-replicate {A = ℕ} 98 0) (c .before .before .before .before .before .before .before .before .before .before .before .before .before .before .before .before .before .before .before .before .before .before .before .before .wide .ensures) (c .before .before .before .before .before .before .before .before .before .before .before .before .before .before .before .before .before .before .before .before .before .before .before .due-of .ensures .0) (c .before .before .before .before .before .before .before .before .before .before .before .before .before .before .before .before .before .before .before .before .before .first-with-room .ensures))
 
 array-read-result : tie.Need-array-read-result
-array-read-result c = omega (arith, insert-within (c .before .before .before .before .before .before .before .before .before .before .before .before .before .before .before .before .before .before .before .before .before .before .before .before .before .before .before .before .before .before .before .before .before .before .before .before .before .before .before .before .before .before .before .pre .0) (c .before .before .before .before .before .before .before .before .before .before .before .before .before .before .before .before .before .before .before .before .before .before .before .before .before .before .before .before .before .before .before .before .before .before .before .before .before .before .before .before .before .before .before .pre .1) (c .before .before .before .before .before .before .before .before .before .before .before .before .before .before .before .before .before .before .before .before .before .before .before .before .before .before .before .before .before .before .before .before .before .before .list-landings .ensures) (c .before .before .before .before .before .before .before .before .before .before .before .before .before .before .before .before .before .before .before .before .before .before .before .before .before .before .before .before .before .before .before .before .before .before .list-landings .kept .1 .1 .1 .1 .0 ∙ length-replicate {A = ℕ} 128 0) (c .before .before .before .before .before .before .before .before .before .before .before .before .before .before .before .before .before .before .before .before .before .before .before .before .before .before .before .before .before .before .before .before .before .before .list-landings .kept .1 .1 .1 .1 .1 .0 ∙ length-replicate {A = ℕ} 98 0) (c .before .before .before .before .before .before .before .before .before .before .before .before .before .before .before .before .before .before .before .before .before .before .before .before .before .before .before .before .before .before .wide .ensures) (c .before .before .before .before .before .before .before .before .before .before .before .before .before .before .before .before .before .before .before .before .before .before .before .before .before .before .before .before .before .due-of .ensures .0) (c .before .before .before .before .before .before .before .before .before .before .before .before .before .before .before .before .before .before .before .before .before .before .before .before .before .before .before .first-with-room .ensures))
+array-read-result c = omega (arith, insert-within (c .before .before .before .before .before .before .before .before .before .before .before .before .before .before .before .before .before .before .before .before .before .before .before .before .before .before .before .before .before .before .before .before .before .before .before .before .before .pre .0) (c .before .before .before .before .before .before .before .before .before .before .before .before .before .before .before .before .before .before .before .before .before .before .before .before .before .before .before .before .before .before .before .before .before .before .before .before .before .pre .1) (c .before .before .before .before .before .before .before .before .before .before .before .before .before .before .before .before .before .before .before .before .before .before .before .before .before .before .before .before .list-landings .ensures) (c .before .before .before .before .before .before .before .before .before .before .before .before .before .before .before .before .before .before .before .before .before .before .before .before .before .before .before .before .list-landings .kept .1 .1 .1 .1 .0 ∙ length-replicate {A = ℕ} 128 0) (c .before .before .before .before .before .before .before .before .before .before .before .before .before .before .before .before .before .before .before .before .before .before .before .before .before .before .before .before .list-landings .kept .1 .1 .1 .1 .1 .0 ∙ length-replicate {A = ℕ} 98 0) (c .before .before .before .before .before .before .before .before .before .before .before .before .before .before .before .before .before .before .before .before .before .before .before .before .wide .ensures) (c .before .before .before .before .before .before .before .before .before .before .before .before .before .before .before .before .before .before .before .before .before .before .before .due-of .ensures .0) (c .before .before .before .before .before .before .before .before .before .before .before .before .before .before .before .before .before .before .before .before .before .first-with-room .ensures))
 
 same-length : tie.Need-same-length
 same-length c = search needs
@@ -96,7 +87,7 @@ same-length-2 : tie.Need-same-length-2
 same-length-2 c = search needs
 
 returns : tie.Need-returns
-returns c = insert-end (c .before .before .before .before .before .before .before .before .before .before .before .before .before .before .before .before .before .before .before .before .before .before .before .before .before .before .before .before .before .before .before .before .before .before .before .before .before .before .before .before .before .before .before .pre .0) (c .before .before .before .before .before .before .before .before .before .before .before .before .before .before .before .before .before .before .before .before .before .before .before .before .before .before .before .before .before .before .before .before .before .before .before .before .before .before .before .before .before .before .before .pre .1) (c .before .before .before .before .before .before .before .before .before .before .before .before .before .before .before .before .before .before .before .before .before .before .before .before .before .before .before .before .before .before .before .before .before .before .list-landings .ensures) (c .before .before .before .before .before .before .before .before .before .before .before .before .before .before .before .before .before .before .before .before .before .before .before .before .before .before .before .before .before .before .before .before .before .before .list-landings .kept .1 .1 .1 .1 .0 ∙ length-replicate {A = ℕ} 128 0) (c .before .before .before .before .before .before .before .before .before .before .before .before .before .before .before .before .before .before .before .before .before .before .before .before .before .before .before .before .before .before .before .before .before .before .list-landings .kept .1 .1 .1 .1 .1 .0 ∙ length-replicate {A = ℕ} 98 0) (c .before .before .before .before .before .before .before .before .before .before .before .before .before .before .before .before .before .before .before .before .before .before .before .before .before .before .before .before .before .before .wide .ensures) (c .before .before .before .before .before .before .before .before .before .before .before .before .before .before .before .before .before .before .before .before .before .before .before .before .before .before .before .before .before .due-of .ensures .0) (c .before .before .before .before .before .before .before .before .before .before .before .before .before .before .before .before .before .before .before .before .before .before .before .before .before .before .before .first-with-room .ensures) (c .before .before .before .before .before .before .before .before .before .before .before .before .before .before .before .find-path .ensures) (c .before .before .before .before .before .before .before .walk .ensures) (c .before .before .raise .ensures) (c .before .before .before .before .before .before .before .walk .kept .1 .1 .1 .1 .0) (c .before .before .raise .kept .0) refl
+returns c = insert-end (c .before .before .before .before .before .before .before .before .before .before .before .before .before .before .before .before .before .before .before .before .before .before .before .before .before .before .before .before .before .before .before .before .before .before .before .before .before .pre .0) (c .before .before .before .before .before .before .before .before .before .before .before .before .before .before .before .before .before .before .before .before .before .before .before .before .before .before .before .before .before .before .before .before .before .before .before .before .before .pre .1) (c .before .before .before .before .before .before .before .before .before .before .before .before .before .before .before .before .before .before .before .before .before .before .before .before .before .before .before .before .list-landings .ensures) (c .before .before .before .before .before .before .before .before .before .before .before .before .before .before .before .before .before .before .before .before .before .before .before .before .before .before .before .before .list-landings .kept .1 .1 .1 .1 .0 ∙ length-replicate {A = ℕ} 128 0) (c .before .before .before .before .before .before .before .before .before .before .before .before .before .before .before .before .before .before .before .before .before .before .before .before .before .before .before .before .list-landings .kept .1 .1 .1 .1 .1 .0 ∙ length-replicate {A = ℕ} 98 0) (c .before .before .before .before .before .before .before .before .before .before .before .before .before .before .before .before .before .before .before .before .before .before .before .before .wide .ensures) (c .before .before .before .before .before .before .before .before .before .before .before .before .before .before .before .before .before .before .before .before .before .before .before .due-of .ensures .0) (c .before .before .before .before .before .before .before .before .before .before .before .before .before .before .before .before .before .before .before .before .before .first-with-room .ensures) (c .before .before .before .before .before .before .before .before .before .before .before .before .before .before .before .find-path .ensures) (c .before .before .before .before .before .before .before .walk .ensures) (c .before .before .raise .ensures) (c .before .before .before .before .before .before .before .walk .kept .1 .1 .1 .1 .0) (c .before .before .raise .kept .0) refl
 
 pub insert-spec : {M : Type 1} → statement M
 insert-spec =
@@ -111,9 +102,6 @@ insert-spec =
     due-of-requires
     slice-aggregate-first-with-room
     first-with-room-requires
-    slice-aggregate-offer
-    slice-aggregate-offer-2
-    offer-requires
     slice-aggregate-find-path
     slice-aggregate-find-path-2
     slice-aggregate-find-path-3
