@@ -12,7 +12,8 @@ use Rattle.assignment.proofs.Permuted.{permuted-accepted, permuted-total}
 use Rattle.day.specs.Day.{Day, P, N, ofPeriod, land, total}
 use Rattle.day.proofs.Instance.{instance, instance-accepted, total-instance}
 use Rattle.due_order.specs.DueOrder.{DueOrder, CanOrder}
-use Rattle.insertion.specs.Insertion.{begun, landing, Placed, Inserted, cost-of-placed, Cleared, CanInsert, Planned}
+use Rattle.path.specs.Path.{landing}
+use Rattle.insertion.specs.Insertion.{begun, Placed, Inserted, cost-of-placed, Cleared, CanInsert, Planned}
 use Rattle.insertion.proofs.Inserting.{placed-total}
 
 -- n flights are placed at the cost that was added up

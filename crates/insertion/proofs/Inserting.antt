@@ -7,7 +7,7 @@ use Prim.Native.Nat.{ℕ, suc, _+_, _-_, _*_, _≤_, _<_}
 use native.Mathlib.Nat.{mul-le-mul-left}
 use native.Mathlib.Omega.{arith}
 use lib.Dec.{ltb}
-use lib.ListN.{getD, length, set, replicate, length-replicate}
+use lib.ListN.{getD, length, set, replicate, length-replicate, getD-replicate}
 use Rattle.assignment.specs.Sum.{gate, count}
 use Rattle.assignment.specs.Assignment as A
 use Rattle.assignment.proofs.Tests.{eq?, lt?, gate-lt, gate-ge}
@@ -20,11 +20,11 @@ use Rattle.assignment.proofs.Restricted.{Rising, until-near, until-le, restrict
 use Rattle.day.specs.Day.{Day, width, P, N, ofPeriod, due, rate, after, jump, limit, cost}
 use Rattle.day.proofs.Costs.{latest-missing, latest-given}
 use Rattle.day.proofs.Instance.{instance, last, last-to, places, places-in, places-closing, cost-le, instance-short}
-use Rattle.path.specs.Path.{el, far, away, scope, Table, Scene, CanSearch, Searched}
+use Rattle.path.specs.Path.{el, far, away, scope, landing, Table, Scene, CanSearch, Searched}
 use Rattle.path.proofs.Rows.{set-moved, as-read}
 use Rattle.path.proofs.Reaching.{blank}
 use Rattle.path.proofs.Expanding.{stands}
-use Rattle.insertion.specs.Insertion.{begun, landing, Placed, cost-of-placed, CanList, Listed, CanFind, FirstRoom, Linked, CanWalk, Arrived, Walked, CanRaise, Raised, Inserted}
+use Rattle.insertion.specs.Insertion.{begun, Placed, cost-of-placed, CanChain, Chains, CanFind, FirstRoom, Linked, CanWalk, Arrived, Walked, CanRaise, Raised, Inserted}
 
 -- ---- the numbers of a day
 
@@ -90,26 +90,24 @@ module _ {d : Day} {order holds prices : List ℕ} {n : ℕ} (s : Placed d order
   placed-low k = omega (arith, placed-total, price-le (s .sound) k)
 
   module _ (l : n < N d) where
-    pub insert-list : CanList d order holds (replicate 128 0) (replicate 98 0) n
-    insert-list = record {
+    pub insert-chain : CanChain d order holds (replicate 98 0) (replicate 98 n) (replicate 128 n) n
+    insert-chain = record {
       table = s .table;
       upto = s .upto;
       holds-row = s .holds-row;
-      lands-row = length-replicate {A = ℕ} 128 0;
       loads-row = length-replicate {A = ℕ} 98 0;
+      firsts = length-replicate {A = ℕ} 98 n;
+      nexts = length-replicate {A = ℕ} 128 n;
       empty = blank 98;
+      none = λ k b. getD-replicate {A = ℕ} 98 k n 0 b;
       in-day = λ o b. omega (arith, s .sound .accepted .legal .window o b .to, last-to d (el order o), s .table .valid .periods-to);
     }
 
     pub insert-room : (n < length order) × (n < 128)
     insert-room = omega (arith, s .table .by-due .row, s .table .valid .flights-to)
 
-    module _ {lands loads : List ℕ} (g : Listed d order holds lands loads n) (lands-row : length lands ≡ 128) (loads-row : length loads ≡ 98)
+    module _ {loads first-in next-in : List ℕ} (g : Chains d order holds loads first-in next-in n) (loads-row : length loads ≡ 98)
         {i : ℕ} (i-is : i ≡ getD order n 0) where
-      -- the plan, as it is listed
-      listed : Sound (begun d order n) (el lands) (ofPeriod prices)
-      listed = sound-ext (begun d order n) (landing d order holds) (el lands) (g .lands-are) (s .sound)
-
       pub insert-stands : (i + 1) * width ≤ length (d .flights)
       insert-stands = stands (s .table) i (omega (arith, in-table (s .table) n l))
 
@@ -131,20 +129,20 @@ module _ {d : Day} {order holds prices : List ℕ} {n : ℕ} (s : Placed d order
           pub insert-within : target < 98
           insert-within = omega (arith, room .to, s .table .valid .periods-to)
 
-          free : count n (el lands) target < places d target
+          free : count n (landing d order holds) target < places d target
           free = elim (lt? (P d) target) [
             | inr in-day ↦ omega (arith, places-in d target in-day, room .free in-day, g .loads-are target insert-within)
             | inl closing ↦
                 let e : target ≡ P d + 1 = omega (arith, room .to) in
-                rw e (omega (arith, places-closing d, count-le n (el lands) (P d + 1), insert-room))
+                rw e (omega (arith, places-closing d, count-le n (landing d order holds) (P d + 1), insert-room))
           ]
 
-          pub insert-scene : Scene (scope d order n target) (el lands) (ofPeriod prices) target
+          pub insert-scene : Scene (scope d order n target) (landing d order holds) (ofPeriod prices) target
           insert-scene =
               let near : due d (el order n) ≤ target = omega (arith, first-at, room .from) in
               let f = s .table .valid .flight (el order n) (in-table (s .table) n l) in
               record {
-                sound = restrict (begun d order n) target (rising (s .table) n (s .upto)) (listed .accepted .unsold target free) listed;
+                sound = restrict (begun d order n) target (rising (s .table) n (s .upto)) (s .sound .accepted .unsold target free) (s .sound);
                 periods = omega (arith, s .table .valid .periods-to);
                 pays = λ o k b w. omega (
                   arith,
@@ -168,25 +166,26 @@ module _ {d : Day} {order holds prices : List ℕ} {n : ℕ} (s : Placed d order
                     (permuted-short (instance d) (s .table .by-due .permuted) l (widen-short (begun d order (suc n)) target less short)));
               }
 
-          pub insert-search : CanSearch d order lands prices (replicate 98 4611686018427387904) (replicate 98 0) (replicate 98 n) n target
+          pub insert-search : CanSearch d order holds first-in next-in prices (replicate 98 4611686018427387904) (replicate 98 0) (replicate 98 n) n target
           insert-search = record {
             table = s .table;
             scene = insert-scene;
             upto = l;
-            lands-room = omega (arith, insert-room, lands-row);
+            holds-row = s .holds-row;
+            chained = g .chained;
             all-far = refl;
             no-ranks = refl;
             no-links = refl;
           }
 
-          module _ {dist rank via : List ℕ} (h : Searched (scope d order n target) (el lands) (ofPeriod prices) target dist rank via) where
+          module _ {dist rank via : List ℕ} (h : Searched (scope d order n target) (landing d order holds) (ofPeriod prices) target dist rank via) where
             fresh : el rank target ≡ 0
             fresh = elim (lt? 0 (el rank target)) [ inl some ↦ absurd (omega (arith, h .so-far .reached target some)) | inr e ↦ omega arith ]
 
             pub insert-rows : (target < length dist) × (target < length rank) × (target < 98)
             insert-rows = omega (arith, insert-within, h .so-far .rows .dists, h .so-far .rows .ranks)
 
-            found : Found (scope d order n target) (el lands) (ofPeriod prices) (h .so-far .root) (away dist) (el rank) (el via) (h .t) (away dist target) target
+            found : Found (scope d order n target) (landing d order holds) (ofPeriod prices) (h .so-far .root) (away dist) (el rank) (el via) (h .t) (away dist target) target
             found = record {
               near = h .so-far .near;
               fresh = fresh;
@@ -198,14 +197,12 @@ module _ {d : Day} {order holds prices : List ℕ} {n : ℕ} (s : Placed d order
               reach = h .so-far .reach;
             }
 
-            pub insert-walk : CanWalk d order lands holds (set rank target 99) via n target
+            pub insert-walk : CanWalk d order holds (set rank target 99) via n target
             insert-walk = record {
               table = s .table;
               upto = l;
               holds-row = s .holds-row;
-              lands-row = lands-row;
               vias = h .so-far .rows .vias;
-              lands-are = g .lands-are;
               within = insert-within;
               some = omega (arith, v .here);
               chain = λ k b some low. linked k some (h .so-far .near .how k);
@@ -225,16 +222,16 @@ module _ {d : Day} {order holds prices : List ℕ} {n : ℕ} (s : Placed d order
                 -- what the search reached from k keeps its rank
                 linked : (k : ℕ) → 0 < el (set rank target 99) k
                     → ((away dist k ≡ h .so-far .root k) × (k < P d + 2 → el via k ≡ n))
-                    ⊎ Step (scope d order n target) (el lands) (ofPeriod prices) (away dist) (el rank) k (el via k)
-                    → Linked d order lands (set rank target 99) via n k
+                    ⊎ Step (scope d order n target) (landing d order holds) (ofPeriod prices) (away dist) (el rank) k (el via k)
+                    → Linked d order (landing d order holds) (set rank target 99) via n k
                 linked k some how = elim how [
                   | inl e ↦
                       let new = e .1 (omega (arith, k-in k some .0)) in
                       record { due-by = rw new (h .so-far .rooted k (omega (arith, e .0, k-in k some .1)) .0 .from); flight = inl new }
                   | inr a ↦
-                      let other : el lands (el via k) ≢ target = λ f. omega (arith, a .from, fresh, ap (el rank) f) in
-                      let same = v .others (el lands (el via k)) other in
-                      let at = h .so-far .reached (el lands (el via k)) (a .from) in
+                      let other : landing d order holds (el via k) ≢ target = λ f. omega (arith, a .from, fresh, ap (el rank) f) in
+                      let same = v .others (landing d order holds (el via k)) other in
+                      let at = h .so-far .reached (landing d order holds (el via k)) (a .from) in
                       record {
                         due-by = a .fits .from;
                         flight = inr (record {
@@ -242,23 +239,23 @@ module _ {d : Day} {order holds prices : List ℕ} {n : ℕ} (s : Placed d order
                           in-day = omega (arith, at .1, insert-within);
                           some = omega (arith, same, a .from);
                           lower = elim (eq? k target) [
-                            | inl e ↦ omega (arith, same, ap (el (set rank target 99)) e, v .here, h .so-far .near .top (el lands (el via k)), h .so-far .zeros)
+                            | inl e ↦ omega (arith, same, ap (el (set rank target 99)) e, v .here, h .so-far .near .top (landing d order holds (el via k)), h .so-far .zeros)
                             | inr e ↦ omega (arith, same, v .others k e, a .lower (omega (arith, v .others k e)))
                           ];
                         });
                       }
                 ]
 
-            module _ {holds₂ : List ℕ} (w : Walked d order lands holds₂ via n target) where
-              f : Found (scope d order n target) (el lands) (ofPeriod prices) (h .so-far .root) (away dist) (el rank) (el via) (h .t) (away dist target) target
+            module _ {holds₂ : List ℕ} (w : Walked d order holds holds₂ via n target) where
+              f : Found (scope d order n target) (landing d order holds) (ofPeriod prices) (h .so-far .root) (away dist) (el rank) (el via) (h .t) (away dist target) target
               f = found
 
-              narrow : Sound (scope d order n target) (el lands) (ofPeriod prices)
+              narrow : Sound (scope d order n target) (landing d order holds) (ofPeriod prices)
               narrow = insert-scene .sound
 
               -- whatever prices are higher by what their periods are nearer than the target
               module _ {q : ℕ → ℕ} (rise : (k : ℕ) → q k ≡ ofPeriod prices k + (away dist target - away dist k)) where
-                arrived : Arrived (scope d order n target) (el lands) (w .y) q (reach-order f narrow rise) (el via) (away dist target) target
+                arrived : Arrived (scope d order n target) (landing d order holds) (w .y) q (reach-order f narrow rise) (el via) (away dist target) target
                 arrived = w .keeps (scope d order n target) q (reach-order f narrow rise) (away dist target) refl (going f narrow rise)
 
                 whole : Sound (begun d order (suc n)) (w .y) q
@@ -269,8 +266,7 @@ module _ {d : Day} {order holds prices : List ℕ} {n : ℕ} (s : Placed d order
                 adds = omega (
                   arith,
                   same-total (begun d order (suc n)) target (w .y),
-                  same-total (begun d order n) target (el lands),
-                  total-ext (begun d order n) (landing d order holds) (el lands) (g .lands-are),
+                  same-total (begun d order n) target (landing d order holds),
                   going-total (arrived .going) (ground f narrow rise) (arrived .new) (arrived .last) (z-free f narrow rise),
                 )
 

@@ -1,4 +1,4 @@
--- The loops of `list_landings`, `first_with_room`, `walk`, `raise` and `clear`.
+-- The loops of `chain_landings`, `first_with_room`, `walk`, `raise` and `clear`.
 -- Assumes nothing.
 use mathlib.Core.Path.{_≡_, refl, sym, ap, _∙_}
 use mathlib.Core.Logic.{inl, inr, _≢_}
@@ -10,97 +10,162 @@ use lib.ListN.{getD, length, set, length-set}
 use Rattle.assignment.specs.Sum.{gate, count}
 use Rattle.assignment.specs.Assignment.{Instance}
 use Rattle.assignment.proofs.Tests.{eq?, lt?, gate-eq, gate-ne}
-use Rattle.assignment.proofs.Sums.{count-suc, count-zero, count-ext, count-le}
+use Rattle.assignment.proofs.Sums.{count-suc, count-zero, count-le}
 use Rattle.assignment.proofs.Moves.{Moved, put, put-moved}
 use Rattle.assignment.proofs.Insertion.{Going, going-step}
 use Rattle.assignment.proofs.Permuted.{permuted-apart}
 use Rattle.day.specs.Day.{Day, P, N, width, ofPeriod, due, land}
 use Rattle.day.proofs.Costs.{period-out}
-use Rattle.path.specs.Path.{el, away, Table}
+use Rattle.path.specs.Path.{el, away, landing, Table, Next}
 use Rattle.path.proofs.Rows.{set-moved, as-read}
 use Rattle.path.proofs.Expanding.{stands}
-use Rattle.insertion.specs.Insertion.{landing, CanList, Listed, CanFind, FirstRoom, Hop, Linked, CanWalk, Walked, CanRaise, Raised, Cleared}
+use Rattle.insertion.specs.Insertion.{CanChain, Chains, CanFind, FirstRoom, Hop, Linked, CanWalk, Walked, CanRaise, Raised, Cleared}
 
--- ---- list_landings
+-- ---- chain_landings
 
--- the first s flights are listed
-pub record Listing (d : Day) (order holds lands₀ lands loads₀ loads : List ℕ) (n s : ℕ) : Type 0 where
-  pub can : CanList d order holds lands₀ loads₀ n
-  pub same-lands : length lands ≡ length lands₀
+-- the flights from s on are counted and chained
+pub record Chaining (d : Day) (order holds loads₀ loads first-in₀ first-in next-in₀ next-in : List ℕ) (n s : ℕ) : Type 0 where
+  pub can : CanChain d order holds loads₀ first-in₀ next-in₀ n
   pub same-loads : length loads ≡ length loads₀
+  pub same-firsts : length first-in ≡ length first-in₀
+  pub same-nexts : length next-in ≡ length next-in₀
   pub upto : s ≤ n
-  pub done : (o : ℕ) → o < s → el lands o ≡ landing d order holds o
-  pub counted : (k : ℕ) → k < 98 → el loads k ≡ count s (el lands) k
+  pub counted : (k : ℕ) → k < 98 → el loads k + count s (landing d order holds) k ≡ count n (landing d order holds) k
+  pub first : (k : ℕ) → k < 98 → Next (landing d order holds) n k s (el first-in k)
+  pub next : (o : ℕ) → s ≤ o → o < n → Next (landing d order holds) n (landing d order holds o) (o + 1) (el next-in o)
 
-pub listing-start : {d : Day} {order holds lands loads : List ℕ} {n : ℕ} → CanList d order holds lands loads n
-    → Listing d order holds lands lands loads loads n 0
-listing-start {lands = lands} c = record {
-  can = c;
-  same-lands = refl;
-  same-loads = refl;
-  upto = omega arith;
-  done = λ o l. absurd (omega arith);
-  counted = λ k _. c .empty k ∙ sym (count-zero (el lands) k);
-}
+module _ {d : Day} {order holds loads first-in next-in : List ℕ} {n : ℕ} (c : CanChain d order holds loads first-in next-in n) where
+  pub chaining-start : Chaining d order holds loads loads first-in first-in next-in next-in n n
+  chaining-start = record {
+    can = c;
+    same-loads = refl;
+    same-firsts = refl;
+    same-nexts = refl;
+    upto = omega arith;
+    counted = λ k _. omega (arith, c .empty k);
+    first = λ k b. rw (c .none k b) (record { after = omega arith; to = omega arith; none = λ o from less. absurd (omega arith); there = λ less. absurd (omega arith) });
+    next = λ o from less. absurd (omega arith);
+  }
 
-module _ {d : Day} {order holds lands₀ lands loads₀ loads : List ℕ} {n s : ℕ} (w : Listing d order holds lands₀ lands loads₀ loads n s) where
-  pub listing-end : n ≤ s → Listed d order holds lands loads n
-  listing-end l =
-      let e : s ≡ n = omega (arith, w .upto) in
-      record { lands-are = λ o b. w .done o (omega arith); loads-are = λ k b. rw e at (w .counted k b) }
+module _ {d : Day} {order holds loads₀ loads first-in₀ first-in next-in₀ next-in : List ℕ} {n s : ℕ}
+    (w : Chaining d order holds loads₀ loads first-in₀ first-in next-in₀ next-in n s) where
+  pub chaining-end : s ≤ 0 → Chains d order holds loads first-in next-in n
+  chaining-end l =
+      let e : s ≡ 0 = omega arith in
+      record {
+        loads-are = λ k b. omega (arith, w .counted k b, ap (λ z. count z (landing d order holds) k) e, count-zero (landing d order holds) k);
+        chained = record {
+          firsts = w .same-firsts ∙ w .can .firsts;
+          nexts = w .same-nexts ∙ w .can .nexts;
+          first = λ k b. rw e at (w .first k b);
+          next = λ o b. w .next o (omega arith) b;
+        };
+      }
 
-  module _ (l : s < n) where
-    pub listing-room : (s < length order) × (s < length lands) × (s < 128)
-    listing-room = omega (arith, w .can .upto, w .can .table .by-due .row, w .can .table .valid .flights-to, w .same-lands, w .can .lands-row)
+  module _ (l : 0 < s) where
+    pub chaining-room : (s - 1 < length order) × (s - 1 < length next-in) × (s - 1 < 128) × (s - 1 < n)
+    chaining-room = omega (
+      arith,
+      w .upto,
+      w .can .upto,
+      w .can .table .by-due .row,
+      w .can .table .valid .flights-to,
+      w .same-nexts,
+      w .can .nexts,
+    )
 
-    module _ {i : ℕ} (i-is : i ≡ getD order s 0) where
+    module _ {i : ℕ} (i-is : i ≡ getD order (s - 1) 0) where
       in-table : i < N d
-      in-table = omega (arith, w .can .table .by-due .permuted .below s (omega (arith, w .can .upto)))
+      in-table = omega (arith, w .can .table .by-due .permuted .below (s - 1) (omega (arith, chaining-room, w .can .upto)))
 
-      pub listing-stands : (i < length holds) × ((i + 1) * width ≤ length (d .flights))
-      listing-stands = (omega (arith, in-table, w .can .holds-row), stands (w .can .table) i in-table)
+      pub chaining-stands : (i < length holds) × ((i + 1) * width ≤ length (d .flights))
+      chaining-stands = (omega (arith, in-table, w .can .holds-row), stands (w .can .table) i in-table)
 
       module _ {k : ℕ} (k-is : k ≡ land d holds i) where
-        lands-there : k ≡ landing d order holds s
+        lands-there : k ≡ landing d order holds (s - 1)
         lands-there = rw i-is at k-is
 
-        pub listing-in : (k < length loads) × (k < 98) × (getD loads k 0 ≤ 128)
-        listing-in =
-            let low : k < 98 = omega (arith, lands-there, w .can .in-day s l) in
-            omega (arith, low, w .same-loads, w .can .loads-row, w .counted k low, count-le s (el lands) k, listing-room)
+        low : k < 98
+        low = omega (arith, lands-there, w .can .in-day (s - 1) (chaining-room .3))
 
-        pub listing-next : Listing d order holds lands₀ (set lands s k) loads₀ (set loads k (getD loads k 0 + 1)) n (s + 1)
-        listing-next = record {
+        pub chaining-in : (k < length loads) × (k < length first-in) × (k < 98) × (getD loads k 0 ≤ 128)
+        chaining-in = omega (
+          arith,
+          low,
+          w .same-loads,
+          w .can .loads-row,
+          w .same-firsts,
+          w .can .firsts,
+          w .counted k low,
+          count-le n (landing d order holds) k,
+          w .can .upto,
+          w .can .table .valid .flights-to,
+        )
+
+        pub chaining-next : Chaining d order holds loads₀ (set loads k (getD loads k 0 + 1)) first-in₀ (set first-in k (s - 1)) next-in₀
+            (set next-in (s - 1) (getD first-in k 0)) n (s - 1)
+        chaining-next = record {
           can = w .can;
-          same-lands = length-set lands s k ∙ w .same-lands;
           same-loads = length-set loads k (getD loads k 0 + 1) ∙ w .same-loads;
-          upto = omega arith;
-          done = λ o b. elim (eq? o s) [ inl e ↦ rw e (v .here ∙ lands-there) | inr e ↦ v .others o e ∙ w .done o (omega arith) ];
-          counted = λ j b. rw next at (here j b);
+          same-firsts = length-set first-in k (s - 1) ∙ w .same-firsts;
+          same-nexts = length-set next-in (s - 1) (getD first-in k 0) ∙ w .same-nexts;
+          upto = omega (arith, w .upto);
+          counted = counted-more;
+          first = λ j b. elim (eq? j k) [
+            | inl e ↦ rw (e, f .here) (record {
+              after = omega arith;
+              to = omega (arith, w .upto);
+              none = λ o from less. absurd (omega arith);
+              there = λ _. sym lands-there;
+            })
+            | inr e ↦ rw (f .others j e) (further j e (w .first j b))
+          ];
+          next = λ o from less. elim (eq? o (s - 1)) [
+            | inl e ↦ rw (e, v .here, ← lands-there, one-less) (w .first k low)
+            | inr e ↦ rw (v .others o e) (w .next o (omega arith) less)
+          ];
         }
           where
-            next : suc s ≡ s + 1
-            next = omega arith
-
-            v : Moved (el lands) (el (set lands s k)) s k
-            v = set-moved lands s k (listing-room .1)
+            one-less : (s - 1) + 1 ≡ s
+            one-less = omega arith
 
             u : Moved (el loads) (el (set loads k (getD loads k 0 + 1))) k (getD loads k 0 + 1)
-            u = set-moved loads k (getD loads k 0 + 1) (listing-in .0)
+            u = set-moved loads k (getD loads k 0 + 1) (chaining-in .0)
 
-            grows : (j : ℕ) → count (suc s) (el (set lands s k)) j ≡ count s (el lands) j + gate (eqb k j) 1
-            grows j = omega (
-              arith,
-              count-suc s (el (set lands s k)) j,
-              ap (λ z. gate (eqb z j) 1) (v .here),
-              count-ext s (el lands) (el (set lands s k)) (λ o b. v .others o (omega arith)) j,
-            )
+            f : Moved (el first-in) (el (set first-in k (s - 1))) k (s - 1)
+            f = set-moved first-in k (s - 1) (chaining-in .1)
 
-            here : (j : ℕ) → j < 98 → el (set loads k (getD loads k 0 + 1)) j ≡ count (suc s) (el (set lands s k)) j
-            here j b = elim (eq? j k) [
-              | inl e ↦ rw e (omega (arith, u .here, grows k, gate-eq k k 1 refl, w .counted k (listing-in .1)))
-              | inr e ↦ omega (arith, u .others j e, grows j, gate-ne k j 1 (λ f. e (sym f)), w .counted j b)
+            v : Moved (el next-in) (el (set next-in (s - 1) (getD first-in k 0))) (s - 1) (getD first-in k 0)
+            v = set-moved next-in (s - 1) (getD first-in k 0) (chaining-room .1)
+
+            -- flight s - 1 lands in k
+            counts : (j : ℕ) → count s (landing d order holds) j ≡ count (s - 1) (landing d order holds) j + gate (eqb k j) 1
+            counts j =
+                let e : suc (s - 1) ≡ s = omega arith in
+                omega (
+                  arith,
+                  ap (λ z. count z (landing d order holds) j) e,
+                  count-suc (s - 1) (landing d order holds) j,
+                  ap (λ z. gate (eqb z j) 1) lands-there,
+                )
+
+            counted-more : (j : ℕ) → j < 98
+                → el (set loads k (getD loads k 0 + 1)) j + count (s - 1) (landing d order holds) j ≡ count n (landing d order holds) j
+            counted-more j b = elim (eq? j k) [
+              | inl e ↦ rw e (omega (arith, u .here, counts k, gate-eq k k 1 refl, w .counted k low))
+              | inr e ↦ omega (arith, u .others j e, counts j, gate-ne k j 1 (λ z. e (sym z)), w .counted j b)
             ]
+
+            further : (j : ℕ) → j ≢ k → {r : ℕ} → Next (landing d order holds) n j s r → Next (landing d order holds) n j (s - 1) r
+            further j e h = record {
+              after = omega (arith, h .after);
+              to = h .to;
+              none = λ o from less. elim (eq? o (s - 1)) [
+                | inl g ↦ λ z. e (sym z ∙ ap (landing d order holds) g ∙ sym lands-there)
+                | inr g ↦ h .none o (omega arith) less
+              ];
+              there = h .there;
+            }
 
 -- ---- first_with_room
 
@@ -162,8 +227,8 @@ module _ {d : Day} {order : List ℕ} (holds : List ℕ) {who i k : ℕ} (t : Ta
   ]
 
 -- flight `who` is to land in `at`; x is the plan, and flights that land nearer to the new one have not moved
-pub record Walking (d : Day) (order lands holds₀ holds rank via : List ℕ) (n target at who : ℕ) : Type 0 where
-  pub can : CanWalk d order lands holds₀ rank via n target
+pub record Walking (d : Day) (order holds₀ holds rank via : List ℕ) (n target at who : ℕ) : Type 0 where
+  pub can : CanWalk d order holds₀ rank via n target
   pub same : length holds ≡ length holds₀
   pub in-day : at < 98
   pub some : 0 < el rank at
@@ -171,15 +236,16 @@ pub record Walking (d : Day) (order lands holds₀ holds rank via : List ℕ) (n
   pub is : who ≡ el via at
   pub x : ℕ → ℕ
   pub lands-are : (s : ℕ) → s < n → x s ≡ landing d order holds s
-  pub still : (s : ℕ) → s < n → el rank (el lands s) < el rank at → x s ≡ el lands s
-  pub keeps : (i : Instance) (q from : ℕ → ℕ) (u : ℕ) → i .n ≡ n → Going i (el lands) (el lands) q from (el via) u target target
-      → Going i (el lands) x q from (el via) u target at
+  pub still : (s : ℕ) → s < n → el rank (landing d order holds₀ s) < el rank at → x s ≡ landing d order holds₀ s
+  pub keeps : (i : Instance) (q from : ℕ → ℕ) (u : ℕ) → i .n ≡ n
+      → Going i (landing d order holds₀) (landing d order holds₀) q from (el via) u target target
+      → Going i (landing d order holds₀) x q from (el via) u target at
 
-module _ {d : Day} {order lands holds rank via : List ℕ} {n target : ℕ} (c : CanWalk d order lands holds rank via n target) where
+module _ {d : Day} {order holds rank via : List ℕ} {n target : ℕ} (c : CanWalk d order holds rank via n target) where
   pub walk-in : target < length via
   walk-in = omega (arith, c .within, c .vias)
 
-  pub walking-start : Walking d order lands holds holds rank via n target target (getD via target 0)
+  pub walking-start : Walking d order holds holds rank via n target target (getD via target 0)
   walking-start = record {
     can = c;
     same = refl;
@@ -187,14 +253,14 @@ module _ {d : Day} {order lands holds rank via : List ℕ} {n target : ℕ} (c :
     some = c .some;
     below = omega arith;
     is = refl;
-    x = el lands;
-    lands-are = c .lands-are;
+    x = landing d order holds;
+    lands-are = λ s b. refl;
     still = λ s b low. refl;
     keeps = λ i q from u e g. g;
   }
 
-module _ {d : Day} {order lands holds₀ holds rank via : List ℕ} {n target at who : ℕ} (s : Walking d order lands holds₀ holds rank via n target at who) where
-  linked : Linked d order lands rank via n at
+module _ {d : Day} {order holds₀ holds rank via : List ℕ} {n target at who : ℕ} (s : Walking d order holds₀ holds rank via n target at who) where
+  linked : Linked d order (landing d order holds₀) rank via n at
   linked = s .can .chain at (s .in-day) (s .some) (s .below)
 
   row : length holds ≡ N d
@@ -215,57 +281,56 @@ module _ {d : Day} {order lands holds₀ holds rank via : List ℕ} {n target at
         )
 
   module _ (e : who ≢ n) where
-    hop : Hop lands rank via n at
+    hop : Hop (landing d order holds₀) rank via n at
     hop = elim (linked .flight) [ inl new ↦ absurd (e (s .is ∙ new)) | inr h ↦ h ]
 
-    pub walking-who : who < n
-    walking-who = omega (arith, s .is, hop .who)
+    in-plan : who < n
+    in-plan = omega (arith, s .is, hop .who)
 
-    pub walking-room : (who < length order) × (who < length lands) × (who < 128) × (getD lands who 0 < length via) × (getD lands who 0 < 98)
-    walking-room = rw (s .is) (omega (
-      arith,
-      hop .who,
-      hop .in-day,
-      s .can .upto,
-      s .can .table .by-due .row,
-      s .can .table .valid .flights-to,
-      s .can .lands-row,
-      s .can .vias,
-    ))
-
-    pub walking-less : getD rank (getD lands who 0) 0 < getD rank at 0
-    walking-less = rw (s .is) (hop .lower)
+    lower : el rank (landing d order holds₀ who) < el rank at
+    lower = rw (s .is) (hop .lower)
 
     pub walking-table : who < N d
-    walking-table = omega (arith, walking-who, s .can .upto)
+    walking-table = omega (arith, in-plan, s .can .upto)
 
-    module _ {i : ℕ} (i-is : i ≡ getD order who 0) where
-      pub walking-step : Walking d order lands holds₀ (set holds i (at - due d i)) rank via n target (getD lands who 0) (getD via (getD lands who 0) 0)
+    pub walking-room : (who < length order) × (who < 128)
+    walking-room = omega (arith, walking-table, s .can .table .by-due .row, s .can .table .valid .flights-to)
+
+    module _ {i left : ℕ} (i-is : i ≡ getD order who 0) (left-is : left ≡ land d holds i) where
+      unmoved : left ≡ landing d order holds₀ who
+      unmoved = rw i-is at left-is ∙ sym (s .lands-are who in-plan) ∙ s .still who in-plan lower
+
+      pub walking-left : (left < length via) × (left < 98)
+      walking-left = rw (unmoved, s .is) (omega (arith, hop .in-day, s .can .vias))
+
+      pub walking-less : getD rank left 0 < getD rank at 0
+      walking-less = rw unmoved lower
+
+      pub walking-step : Walking d order holds₀ (set holds i (at - due d i)) rank via n target left (getD via left 0)
       walking-step = record {
         can = s .can;
         same = length-set holds i (at - due d i) ∙ s .same;
-        in-day = walking-room .4;
-        some = rw (s .is) (hop .some);
+        in-day = walking-left .1;
+        some = rw (unmoved, s .is) (hop .some);
         below = omega (arith, walking-less, s .below);
         is = refl;
         x = put (s .x) who at;
         lands-are = held-plan holds (s .can .table) walking-table row i-is (due-by refl walking-table i-is) n (s .x) (omega (arith, s .can .upto))
             (λ o b _. s .lands-are o b);
-        still = λ o b low. v .others o (λ f. omega (arith, ap (λ z. el rank (el lands z)) f)) ∙ s .still o b (omega (arith, walking-less));
-        keeps = λ j q from u f g. rw (← here) (rw (s .is) (going-step (s .keeps j q from u f g) (λ new. e (s .is ∙ new ∙ f)) (rw (s .is) at v)));
+        still = λ o b low. v .others o (λ f. omega (arith, unmoved, ap (λ z. el rank (landing d order holds₀ z)) f, ap (el rank) unmoved))
+            ∙ s .still o b (omega (arith, walking-less));
+        keeps = λ j q from u f g. rw (unmoved ∙ sym (s .still who in-plan lower))
+            (rw (s .is) (going-step (s .keeps j q from u f g) (λ new. e (s .is ∙ new ∙ f)) (rw (s .is) at v)));
       }
         where
           v : Moved (s .x) (put (s .x) who at) who at
           v = put-moved (s .x) who at
 
-          here : s .x who ≡ getD lands who 0
-          here = s .still who walking-who walking-less
-
   pub walking-new : (n < length order) × (n < 128) × (n < N d)
   walking-new = omega (arith, s .can .upto, s .can .table .by-due .row, s .can .table .valid .flights-to)
 
   module _ (e : who ≡ n) {i : ℕ} (i-is : i ≡ getD order n 0) where
-    pub walking-end : Walked d order lands (set holds i (at - due d i)) via n target
+    pub walking-end : Walked d order holds₀ (set holds i (at - due d i)) via n target
     walking-end = record {
       y = put (s .x) n at;
       lands-are = held-plan holds (s .can .table) (s .can .upto) row i-is (due-by (sym e) (s .can .upto) i-is) (suc n) (s .x) (s .can .upto)

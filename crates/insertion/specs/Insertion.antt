@@ -10,19 +10,15 @@ use Rattle.assignment.specs.Assignment as A
 use Rattle.assignment.proofs.Moves.{Moved}
 use Rattle.assignment.proofs.Insertion.{Sound, Going}
 use Rattle.assignment.proofs.Permuted.{ordered}
-use Rattle.day.specs.Day.{Day, day, P, N, ofPeriod, due, land, total}
+use Rattle.day.specs.Day.{Day, day, P, N, ofPeriod, due, total}
 use Rattle.day.specs.Plan.{Accepted, Short}
 use Rattle.day.proofs.Valid.{Valid}
 use Rattle.day.proofs.Instance.{instance}
-use Rattle.path.specs.Path.{el, away, Table}
+use Rattle.path.specs.Path.{el, away, landing, Table, Chained}
 
 -- the first n flights of the order
 abbrev pub begun : Day → List ℕ → ℕ → A.Instance
 begun d order n = ordered (instance d) (el order) n
-
--- where the flight at place s of the order lands
-abbrev pub landing : Day → List ℕ → List ℕ → ℕ → ℕ
-landing d order holds s = land d holds (el order s)
 
 -- n flights are placed: the hold row has their holds, the price row their prices; the holds of the others may be any numbers
 pub record Placed (d : Day) (order holds prices : List ℕ) (n : ℕ) : Type 0 where
@@ -39,20 +35,22 @@ cost-of-placed d order holds n = A.total (begun d order n) (landing d order hold
 
 -- ---- where the flights land
 
--- rows of zeros for the landings and the loads
-pub record CanList (d : Day) (order holds lands loads : List ℕ) (n : ℕ) : Type 0 where
+-- no landing is counted or chained
+pub record CanChain (d : Day) (order holds loads first-in next-in : List ℕ) (n : ℕ) : Type 0 where
   pub table : Table d order
   pub upto : n ≤ N d
   pub holds-row : length holds ≡ N d
-  pub lands-row : length lands ≡ 128
   pub loads-row : length loads ≡ 98
+  pub firsts : length first-in ≡ 98
+  pub nexts : length next-in ≡ 128
   pub empty : (k : ℕ) → el loads k ≡ 0
+  pub none : (k : ℕ) → k < 98 → el first-in k ≡ n
   pub in-day : (s : ℕ) → s < n → landing d order holds s < 98
 
--- the landings of n flights in the order, and how many there are in each period
-pub record Listed (d : Day) (order holds lands loads : List ℕ) (n : ℕ) : Type 0 where
-  pub lands-are : (s : ℕ) → s < n → el lands s ≡ landing d order holds s
-  pub loads-are : (k : ℕ) → k < 98 → el loads k ≡ count n (el lands) k
+-- how many of n flights land in each period, and the chains of those that land in the same
+pub record Chains (d : Day) (order holds loads first-in next-in : List ℕ) (n : ℕ) : Type 0 where
+  pub loads-are : (k : ℕ) → k < 98 → el loads k ≡ count n (landing d order holds) k
+  pub chained : Chained (landing d order holds) first-in next-in n
 
 -- ---- the first period with room
 
@@ -71,28 +69,26 @@ pub record FirstRoom (capacities loads : List ℕ) (first k : ℕ) : Type 0 wher
 
 -- ---- the walk back
 
--- a flight of the plan, which lands in a period of a lower rank, is to land in k
-pub record Hop (lands rank via : List ℕ) (n k : ℕ) : Type 0 where
+-- a flight of plan x, which lands in a period of a lower rank, is to land in k
+pub record Hop (x : ℕ → ℕ) (rank via : List ℕ) (n k : ℕ) : Type 0 where
   pub who : el via k < n
-  pub in-day : el lands (el via k) < 98
-  pub some : 0 < el rank (el lands (el via k))
-  pub lower : el rank (el lands (el via k)) < el rank k
+  pub in-day : x (el via k) < 98
+  pub some : 0 < el rank (x (el via k))
+  pub lower : el rank (x (el via k)) < el rank k
 
 -- period k is for the new flight or for one of the plan, and the flight is due by k
-pub record Linked (d : Day) (order lands rank via : List ℕ) (n k : ℕ) : Type 0 where
+pub record Linked (d : Day) (order : List ℕ) (x : ℕ → ℕ) (rank via : List ℕ) (n k : ℕ) : Type 0 where
   pub due-by : due d (el order (el via k)) ≤ k
-  pub flight : (el via k ≡ n) ⊎ Hop lands rank via n k
+  pub flight : (el via k ≡ n) ⊎ Hop x rank via n k
 
-pub record CanWalk (d : Day) (order lands holds rank via : List ℕ) (n target : ℕ) : Type 0 where
+pub record CanWalk (d : Day) (order holds rank via : List ℕ) (n target : ℕ) : Type 0 where
   pub table : Table d order
   pub upto : n < N d
   pub holds-row : length holds ≡ N d
-  pub lands-row : length lands ≡ 128
   pub vias : length via ≡ 98
-  pub lands-are : (s : ℕ) → s < n → el lands s ≡ landing d order holds s
   pub within : target < 98
   pub some : 0 < el rank target
-  pub chain : (k : ℕ) → k < 98 → 0 < el rank k → el rank k ≤ el rank target → Linked d order lands rank via n k
+  pub chain : (k : ℕ) → k < 98 → 0 < el rank k → el rank k ≤ el rank target → Linked d order (landing d order holds) rank via n k
 
 -- the new flight takes the last place, `at`
 pub record Arrived (d : A.Instance) (x₀ y q order via : ℕ → ℕ) (u z : ℕ) : Type 0 where
@@ -103,11 +99,12 @@ pub record Arrived (d : A.Instance) (x₀ y q order via : ℕ → ℕ) (u z : �
   pub last : Moved x y (d .n) at
 
 -- the hold row now has plan y, of n + 1 flights
-pub record Walked (d : Day) (order lands holds₂ via : List ℕ) (n target : ℕ) : Type 0 where
+pub record Walked (d : Day) (order holds holds₂ via : List ℕ) (n target : ℕ) : Type 0 where
   pub y : ℕ → ℕ
   pub lands-are : (s : ℕ) → s < suc n → y s ≡ landing d order holds₂ s
-  pub keeps : (i : A.Instance) (q rank : ℕ → ℕ) (u : ℕ) → i .n ≡ n → Going i (el lands) (el lands) q rank (el via) u target target
-      → Arrived i (el lands) y q rank (el via) u target
+  pub keeps : (i : A.Instance) (q rank : ℕ → ℕ) (u : ℕ) → i .n ≡ n
+      → Going i (landing d order holds) (landing d order holds) q rank (el via) u target target
+      → Arrived i (landing d order holds) y q rank (el via) u target
 
 -- ---- the raise
 

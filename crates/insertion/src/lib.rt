@@ -5,7 +5,7 @@ ghost use mathlib.Core.Path.{_≡_};
 ghost use Prim.Native.Nat.{ℕ, _+_, _-_, _*_, _<_, _≤_};
 ghost use lib.ListN.{length, set};
 ghost use Rattle.day.specs.Day.{day, width, column, N};
-ghost use Rattle.insertion.specs.Insertion.{CanList, Listed, CanFind, FirstRoom, CanWalk, Walked, CanRaise, Raised, Placed, Inserted, Cleared, CanInsert, Planned};
+ghost use Rattle.insertion.specs.Insertion.{CanChain, Chains, CanFind, FirstRoom, CanWalk, Walked, CanRaise, Raised, Placed, Inserted, Cleared, CanInsert, Planned};
 use day::due_of;
 use day::land_of;
 use day::of_period;
@@ -17,26 +17,27 @@ use path::find_path;
 // A rank above those of all reached periods.
 const LAST: usize = 99;
 
-// Lists where the first n flights of the order land, and how many of them in each period.
-fn list_landings(
+// Counts the first n flights of the order by the periods in which they land, and chains those of each period.
+fn chain_landings(
     capacities: &[u32],
     flights: &[u32],
     order: &[u32],
     holds: &[u32],
-    lands: &mut [usize],
     loads: &mut [usize],
+    first_in: &mut [usize],
+    next_in: &mut [usize],
     n: usize,
 )
-    requires { ⌜ CanList (day (now capacities) (now flights)) (now order) (now holds) (now lands) (now loads) n ⌝ }
-    ensures { λ _. ⌜ Listed (day (now (capacities .entry)) (now (flights .entry))) (now (order .entry)) (now (holds .entry)) (now (lands .exit)) (now (loads .exit)) n ⌝ }
+    requires { ⌜ CanChain (day (now capacities) (now flights)) (now order) (now holds) (now loads) (now first_in) (now next_in) n ⌝ }
+    ensures { λ _. ⌜ Chains (day (now (capacities .entry)) (now (flights .entry))) (now (order .entry)) (now (holds .entry)) (now (loads .exit)) (now (first_in .exit)) (now (next_in .exit)) n ⌝ }
 {
-    let mut s = 0;
-    while s < n {
-        let at = s;
-        s += 1;
-        let k = land_of(capacities, flights, holds, wide(order[at]));
-        lands[at] = k;
+    let mut s = n;
+    while 0 < s {
+        s -= 1;
+        let k = land_of(capacities, flights, holds, wide(order[s]));
         loads[k] = loads[k] + 1;
+        next_in[s] = first_in[k];
+        first_in[k] = s;
     }
 }
 
@@ -69,21 +70,22 @@ fn walk(
     capacities: &[u32],
     flights: &[u32],
     order: &[u32],
-    lands: &[usize],
     holds: &mut [u32],
     rank: &[usize],
     via: &[usize],
     n: usize,
     target: usize,
 )
-    requires { ⌜ CanWalk (day (now capacities) (now flights)) (now order) (now lands) (now holds) (now rank) (now via) n target ⌝ }
-    ensures { λ _. ⌜ Walked (day (now (capacities .entry)) (now (flights .entry))) (now (order .entry)) (now (lands .entry)) (now (holds .exit)) (now (via .entry)) n target ⌝ }
+    requires { ⌜ CanWalk (day (now capacities) (now flights)) (now order) (now holds) (now rank) (now via) n target ⌝ }
+    ensures { λ _. ⌜ Walked (day (now (capacities .entry)) (now (flights .entry))) (now (order .entry)) (now (holds .entry)) (now (holds .exit)) (now (via .entry)) n target ⌝ }
 {
     let mut at = target;
     let mut who = via[at];
     while who != n {
-        hold_until(flights, holds, wide(order[who]), at);
-        at = lands[who];
+        let i = wide(order[who]);
+        let left = land_of(capacities, flights, holds, i);
+        hold_until(flights, holds, i, at);
+        at = left;
         who = via[at];
     }
     hold_until(flights, holds, wide(order[n]), at);
@@ -119,9 +121,19 @@ fn insert(
     requires { ⌜ n < N (day (now capacities) (now flights)) ⌝ }
     ensures { λ r. ⌜ Inserted (day (now (capacities .entry)) (now (flights .entry))) (now (order .entry)) (now (holds .entry)) (now (holds .exit)) (now (prices .exit)) n r ⌝ }
 {
-    let mut lands = [0; 128];
     let mut loads = [0; 98];
-    list_landings(capacities, flights, order, holds, &mut lands, &mut loads, n);
+    let mut first_in = [n; 98];
+    let mut next_in = [n; 128];
+    chain_landings(
+        capacities,
+        flights,
+        order,
+        holds,
+        &mut loads,
+        &mut first_in,
+        &mut next_in,
+        n,
+    );
     let first = due_of(flights, wide(order[n]));
     let target = first_with_room(capacities, &loads, first);
     let mut dist = [FAR; 98];
@@ -131,7 +143,9 @@ fn insert(
         capacities,
         flights,
         order,
-        &lands,
+        holds,
+        &first_in,
+        &next_in,
         prices,
         &mut dist,
         &mut rank,
@@ -140,17 +154,7 @@ fn insert(
         target,
     );
     rank[target] = LAST;
-    walk(
-        capacities,
-        flights,
-        order,
-        &lands,
-        holds,
-        &rank,
-        &via,
-        n,
-        target,
-    );
+    walk(capacities, flights, order, holds, &rank, &via, n, target);
     raise(prices, &dist, first, target);
     dist[target]
 }

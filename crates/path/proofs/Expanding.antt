@@ -3,14 +3,15 @@
 use mathlib.Core.Path.{_≡_, refl, _∙_}
 use mathlib.Core.Logic.{_≢_}
 use mathlib.Core.List.{List}
-use Prim.Native.Nat.{ℕ, _+_, _-_, _*_, _≤_, _<_, min}
+use Prim.Native.Nat.{ℕ, zero, suc, _+_, _-_, _*_, _^_, _≤_, _<_, min}
+use native.Mathlib.Nat.{add-zero}
 use native.Mathlib.Omega.{arith}
 use lib.ListN.{getD, length, set, length-replicate}
 use Rattle.assignment.specs.Assignment.{Instance, In}
 use Rattle.assignment.proofs.Restricted.{until, until-near}
 use Rattle.day.specs.Day.{Day, P, N, width, ofPeriod, due, latest, cost}
 use Rattle.day.proofs.Instance.{last}
-use Rattle.path.specs.Path.{el, far, away, dearest, scope, Table, Scene, Rows, Search, Around, CanNear, Nearest, CanOffer, Offers, CanExpand, Expanded, CanSearch, Searched}
+use Rattle.path.specs.Path.{el, far, away, dearest, scope, landing, Table, Next, Chained, Scene, Rows, Search, Around, CanNear, Nearest, CanOffer, Offers, CanExpand, Expanded, CanSearch, Searched}
 use Rattle.path.proofs.Rows.{as-read}
 use Rattle.path.proofs.Reaching.{search-start, around-pass, around-kept, around-offered, search-near, reach-in, reach-next, search-end}
 
@@ -24,85 +25,116 @@ pub until-target : (d : Day) (i target : ℕ) → target ≤ P d + 1 → due d i
 unfolding last
 until-target d i target within l = omega (arith, until-near (last d i) l)
 
-module _ (d : Day) (order lands prices : List ℕ) (n target : ℕ) where
-  abbrev r : Instance
-  r = scope d order n target
+-- ---- expand
 
-  -- the flights before m that land in k have offered; `from` is the distance of k
-  pub record Expanding (dist₀ dist via₀ via : List ℕ) (k from m : ℕ) : Type 0 where
-    pub can : CanExpand d order lands prices dist₀ via₀ n target k
+-- flights that do not land in k are passed over
+module _ (m j : ℕ) where
+  one-more : (m + j) + 1 ≡ m + suc j
+  one-more = omega arith
+
+  before-more : (s : ℕ) → s < m + j → s < m + suc j
+  before-more s l = omega arith
+
+  next-in-range : (m ≤ m + j) × (m + j < m + suc j)
+  next-in-range = omega arith
+
+passes : {d : Instance} {x p : ℕ → ℕ} {target : ℕ} {dist rank via : List ℕ} {t k m : ℕ} (j : ℕ) → Around d x p target dist rank via t k m
+    → ((s : ℕ) → m ≤ s → s < m + j → x s ≢ k) → Around d x p target dist rank via t k (m + j)
+passes {m = m} zero a none = rw (add-zero m) a
+passes {m = m} (suc j) a none =
+    rw (one-more m j) at (around-pass (passes j a (λ s b c. none s b (before-more m j s c))) (none (m + j) (next-in-range m j .0) (next-in-range m j .1)))
+
+gap : {m r : ℕ} → m ≤ r → m + (r - m) ≡ r
+gap l = omega arith
+
+pass-to : {d : Instance} {x p : ℕ → ℕ} {target : ℕ} {dist rank via : List ℕ} {t k m n r : ℕ} → Next x n k m r
+    → Around d x p target dist rank via t k m → Around d x p target dist rank via t k r
+pass-to {m = m} {r = r} h a = rw (gap (h .after)) at (passes (r - m) a (λ s b c. h .none s b (rw (gap (h .after)) at c)))
+
+module _ (d : Day) (order holds first-in next-in prices : List ℕ) (n target : ℕ) where
+  -- the flights before `who` that land in k have offered, and `who` is the next of them; `from` is the distance of k
+  pub record Expanding (dist₀ dist via₀ via : List ℕ) (k from who : ℕ) : Type 0 where
+    pub can : CanExpand d order holds first-in next-in prices dist₀ via₀ n target k
     pub same-d : length dist ≡ length dist₀
     pub same-v : length via ≡ length via₀
-    pub upto : m ≤ n
+    pub upto : who ≤ n
+    pub there : who < n → landing d order holds who ≡ k
     pub from-is : from ≡ away dist₀ k
-    pub keeps : (rank : List ℕ) (t : ℕ) → Around r (el lands) (ofPeriod prices) target dist₀ rank via₀ t k 0
-        → Around r (el lands) (ofPeriod prices) target dist rank via t k m × (from ≡ away dist k)
+    pub keeps : (rank : List ℕ) (t : ℕ)
+        → Around (scope d order n target) (landing d order holds) (ofPeriod prices) target dist₀ rank via₀ t k 0
+        → Around (scope d order n target) (landing d order holds) (ofPeriod prices) target dist rank via t k who × (from ≡ away dist k)
 
-module _ {d : Day} {order lands prices dist via : List ℕ} {n target k : ℕ} (c : CanExpand d order lands prices dist via n target k) where
-  pub expand-room : (k < length dist) × (k < 98)
-  expand-room = omega (arith, c .to, c .scene .within, c .scene .periods, c .dists)
+module _ {d : Day} {order holds first-in next-in prices dist via : List ℕ} {n target k : ℕ}
+    (c : CanExpand d order holds first-in next-in prices dist via n target k) where
+  pub expand-room : (k < length dist) × (k < length first-in) × (k < 98)
+  expand-room = omega (arith, c .to, c .scene .within, c .scene .periods, c .dists, c .chained .firsts)
 
-  pub expanding-start : Expanding d order lands prices n target dist dist via via k (getD dist k 0) 0
-  expanding-start = record {
-    can = c;
-    same-d = refl;
-    same-v = refl;
-    upto = omega arith;
-    from-is = as-read dist k (expand-room .0);
-    keeps = λ rank t a. (a, as-read dist k (expand-room .0));
-  }
+  pub expanding-start : Expanding d order holds first-in next-in prices n target dist dist via via k (getD dist k 0) (getD first-in k 0)
+  expanding-start =
+      let h = c .chained .first k (expand-room .2) in
+      record {
+        can = c;
+        same-d = refl;
+        same-v = refl;
+        upto = h .to;
+        there = h .there;
+        from-is = as-read dist k (expand-room .0);
+        keeps = λ rank t a. (pass-to h a, as-read dist k (expand-room .0));
+      }
 
-module _ {d : Day} {order lands prices dist₀ dist via₀ via : List ℕ} {n target k from m : ℕ}
-    (s : Expanding d order lands prices n target dist₀ dist via₀ via k from m) where
-  pub expanding-pass : m < n → getD lands m 0 ≢ k → Expanding d order lands prices n target dist₀ dist via₀ via k from (m + 1)
-  expanding-pass l e = record {
-    can = s .can;
-    same-d = s .same-d;
-    same-v = s .same-v;
-    upto = omega arith;
-    from-is = s .from-is;
-    keeps = λ rank t a. let b = s .keeps rank t a in (around-pass (b .0) e, b .1);
-  }
+module _ {d : Day} {order holds first-in next-in prices dist₀ dist via₀ via : List ℕ} {n target k from who : ℕ}
+    (s : Expanding d order holds first-in next-in prices n target dist₀ dist via₀ via k from who) where
+  pub expanding-end : n ≤ who → Expanded (scope d order n target) (landing d order holds) (ofPeriod prices) target dist₀ dist via₀ via k n
+  expanding-end l = let e : who ≡ n = omega (arith, s .upto) in record { keeps = λ rank t a. rw e at (s .keeps rank t a .0) }
 
-  pub expanding-end : n ≤ m → Expanded (scope d order n target) (el lands) (ofPeriod prices) target dist₀ dist via₀ via k n
-  expanding-end l = let e : m ≡ n = omega (arith, s .upto) in record { keeps = λ rank t a. rw e at (s .keeps rank t a .0) }
+  module _ (l : who < n) where
+    pub expanding-room : (who < length order) × (who < length next-in) × (who < 128)
+    expanding-room = omega (arith, s .can .table .by-due .row, s .can .upto, s .can .table .valid .flights-to, s .can .chained .nexts)
 
-  module _ (l : m < n) where
-    pub expanding-room : (m < length lands) × (m < length order) × (n < 128)
-    expanding-room = omega (arith, s .can .lands-room, s .can .table .by-due .row, s .can .upto, s .can .table .valid .flights-to)
+    next : Next (landing d order holds) n (landing d order holds who) (who + 1) (el next-in who)
+    next = s .can .chained .next who l
 
-    module _ {i : ℕ} (i-is : i ≡ getD order m 0) where
+    pub expanding-less : who < getD next-in who 0
+    expanding-less = omega (arith, next .after)
+
+    here : landing d order holds who ≡ k
+    here = s .there l
+
+    window : In (scope d order n target) who k
+    window = rw here at (s .can .scene .sound .accepted .legal .window who l)
+
+    to : min (latest d (getD order who 0)) target ≡ scope d order n target .hi who
+    to = until-target d (getD order who 0) target (omega (arith, s .can .scene .within)) (omega (arith, window .from, s .can .to))
+
+    module _ {i : ℕ} (i-is : i ≡ getD order who 0) where
       in-table : i < N d
-      in-table = omega (arith, s .can .table .by-due .permuted .below m (omega (arith, s .can .upto)))
+      in-table = omega (arith, s .can .table .by-due .permuted .below who (omega (arith, s .can .upto)))
 
-      pub expanding-stands : (i + 1) * width ≤ length (d .flights)
-      expanding-stands = stands (s .can .table) i in-table
+      pub expanding-stands : ((i + 1) * width ≤ length (d .flights)) × (i < length holds) × (i < 128)
+      expanding-stands = (
+        stands (s .can .table) i in-table,
+        omega (arith, in-table, s .can .holds-row),
+        omega (arith, in-table, s .can .table .valid .flights-to),
+      )
 
-      module _ (here : getD lands m 0 ≡ k) where
-        window : In (scope d order n target) m k
-        window = rw here at (s .can .scene .sound .accepted .legal .window m l)
+      module _ {h : ℕ} (h-is : h ≡ getD holds i 0) where
+        held : h ≡ k - due d i
+        held = omega (arith, rw (← i-is) at here)
 
-        pub expanding-due : {u : ℕ} → u ≡ due d i → (u ≤ k) × (k < 98)
-        expanding-due e = omega (arith, rw (← i-is) at (window .from), s .can .to, s .can .scene .within, s .can .scene .periods)
+        pub expanding-hold : h < 2 ^ 32
+        expanding-hold = omega (arith, held, s .can .to, s .can .scene .within, s .can .scene .periods)
 
-        pays-here : {b q : ℕ} → b ≡ cost d i (k - due d i) → q ≡ ofPeriod prices k → b + q ≤ dearest
-        pays-here e g = rw (e, i-is, g) (s .can .scene .pays m k (omega arith) window)
+        module _ {b q : ℕ} (b-is : b ≡ cost d i h) (q-is : q ≡ ofPeriod prices k) where
+          base-is : b + q ≡ scope d order n target .cost who k + ofPeriod prices k
+          base-is = rw (b-is, held, i-is, q-is)
 
-        pub expanding-small : {u b q : ℕ} → u ≡ due d i → b ≡ cost d i (k - u) → q ≡ ofPeriod prices k → b + q ≤ dearest
-        expanding-small f e g = pays-here (rw f at e) g
-
-        to : min (latest d (getD order m 0)) target ≡ scope d order n target .hi m
-        to = until-target d (getD order m 0) target (omega (arith, s .can .scene .within)) (omega (arith, window .from, s .can .to))
-
-        module _ {u b q : ℕ} (u-is : u ≡ due d i) (b-is : b ≡ cost d i (k - u))
-            (q-is : q ≡ ofPeriod prices k) where
-          base-is : b + q ≡ scope d order n target .cost m k + ofPeriod prices k
-          base-is = rw (b-is, u-is, i-is, q-is)
+          pub expanding-small : b + q ≤ dearest
+          expanding-small = omega (arith, base-is, s .can .scene .pays who k (omega arith) window)
 
           pub expanding-can : CanOffer d prices dist via target i from (b + q)
           expanding-can = record {
             few = s .can .table .valid .periods-to;
-            room = expanding-stands;
+            room = expanding-stands .0;
             rates = s .can .table .valid .flight i in-table .rate-to;
             jumps = s .can .table .valid .flight i in-table .jump-to;
             within = omega (arith, s .can .scene .within, s .can .scene .periods);
@@ -110,24 +142,25 @@ module _ {d : Day} {order lands prices dist₀ dist via₀ via : List ℕ} {n ta
             vias = s .same-v ∙ s .can .vias;
             low = omega (arith, s .from-is, s .can .near);
             pays = λ j a e.
-                let w : In (scope d order n target) m j = record { from = rw i-is at a; to = omega (arith, to, rw i-is at e) } in
-                let best = s .can .scene .sound .accepted .best m j l w in
-                let least = s .can .scene .pays m j (omega arith) w in
+                let w : In (scope d order n target) who j = record { from = rw i-is at a; to = omega (arith, to, rw i-is at e) } in
+                let best = s .can .scene .sound .accepted .best who j l w in
+                let least = s .can .scene .pays who j (omega arith) w in
                 rw i-is (omega (arith, rw here at best, least, base-is));
           }
 
           pub expanding-offered : {dist₂ via₂ : List ℕ} → length dist₂ ≡ length dist → length via₂ ≡ length via
-              → Offers d prices target i m from (b + q) dist dist₂ via via₂
-              → Expanding d order lands prices n target dist₀ dist₂ via₀ via₂ k from (m + 1)
+              → Offers d prices target i who from (b + q) dist dist₂ via via₂
+              → Expanding d order holds first-in next-in prices n target dist₀ dist₂ via₀ via₂ k from (getD next-in who 0)
           expanding-offered {dist₂} {via₂} sd sv o = record {
             can = s .can;
             same-d = sd ∙ s .same-d;
             same-v = sv ∙ s .same-v;
-            upto = omega arith;
+            upto = next .to;
+            there = λ b. next .there b ∙ here;
             from-is = s .from-is;
             keeps = λ rank t a.
                 let g = s .keeps rank t a in (
-                  around-offered (g .0) dist₂ via₂ (s .can .scene) l here to (g .1) base-is sd sv (rw i-is at o),
+                  pass-to (rw here at next) (around-offered (g .0) dist₂ via₂ (s .can .scene) l here to (g .1) base-is sd sv (rw i-is at o)),
                   omega (arith, g .1, around-kept (g .0) dist₂ via₂ (s .can .scene) l here to (g .1) base-is sd sv (rw i-is at o)),
                 );
           }
@@ -135,16 +168,17 @@ module _ {d : Day} {order lands prices dist₀ dist via₀ via : List ℕ} {n ta
 -- ---- find_path
 
 -- t periods are reached, and k is the nearest of the others
-pub record Finding (d : Day) (order lands prices dist rank via : List ℕ) (n first target t k : ℕ) : Type 0 where
+pub record Finding (d : Day) (order holds first-in next-in prices dist rank via : List ℕ) (n first target t k : ℕ) : Type 0 where
   pub table : Table d order
-  pub scene : Scene (scope d order n target) (el lands) (ofPeriod prices) target
+  pub scene : Scene (scope d order n target) (landing d order holds) (ofPeriod prices) target
   pub upto : n < N d
-  pub lands-room : n ≤ length lands
+  pub holds-row : length holds ≡ N d
+  pub chained : Chained (landing d order holds) first-in next-in n
   pub first-is : first ≡ due d (el order n)
-  pub so-far : Search (scope d order n target) (el lands) (ofPeriod prices) target dist rank via t n
+  pub so-far : Search (scope d order n target) (landing d order holds) (ofPeriod prices) target dist rank via t n
   pub nearest : Nearest dist rank first target k
 
-module _ {d : Day} {order lands prices dist rank via : List ℕ} {n target : ℕ} (c : CanSearch d order lands prices dist rank via n target) where
+module _ {d : Day} {order holds first-in next-in prices dist rank via : List ℕ} {n target : ℕ} (c : CanSearch d order holds first-in next-in prices dist rank via n target) where
   pub find-rows : Rows dist rank via
   find-rows = record {
     dists = rw (c .all-far) (length-replicate {A = ℕ} 98 far);
@@ -185,41 +219,43 @@ module _ {d : Day} {order lands prices dist rank via : List ℕ} {n target : ℕ
       first-at : first ≡ due d (getD order n 0)
       first-at = rw i-is at first-is
 
-      begun : Search (scope d order n target) (el lands) (ofPeriod prices) target dist₁ rank via₁ 0 n
+      begun : Search (scope d order n target) (landing d order holds) (ofPeriod prices) target dist₁ rank via₁ 0 n
       begun = rw (c .no-ranks) (search-start dist₁ via₁ (c .scene) window-to (same-d ∙ find-rows .dists) (same-v ∙ find-rows .vias)
           (rw (i-is, c .all-far, c .no-links) at o))
 
       pub finding-near : CanNear dist₁ rank first target
       finding-near = search-near begun (c .scene) first-at
 
-      pub finding-start : {k : ℕ} → Nearest dist₁ rank first target k → Finding d order lands prices dist₁ rank via₁ n first target 0 k
+      pub finding-start : {k : ℕ} → Nearest dist₁ rank first target k → Finding d order holds first-in next-in prices dist₁ rank via₁ n first target 0 k
       finding-start a = record {
         table = c .table;
         scene = c .scene;
         upto = c .upto;
-        lands-room = c .lands-room;
+        holds-row = c .holds-row;
+        chained = c .chained;
         first-is = first-at;
         so-far = begun;
         nearest = a;
       }
 
-module _ {d : Day} {order lands prices dist rank via : List ℕ} {n first target t k : ℕ}
-    (s : Finding d order lands prices dist rank via n first target t k) where
-  pub finding-end : k ≡ target → Searched (scope d order n target) (el lands) (ofPeriod prices) target dist rank via
+module _ {d : Day} {order holds first-in next-in prices dist rank via : List ℕ} {n first target t k : ℕ}
+    (s : Finding d order holds first-in next-in prices dist rank via n first target t k) where
+  pub finding-end : k ≡ target → Searched (scope d order n target) (landing d order holds) (ofPeriod prices) target dist rank via
   finding-end e = search-end (s .so-far) (s .scene) (s .first-is) (s .nearest) e
 
   module _ (e : k ≢ target) where
     pub finding-in : (k < 98) × (t < 98) × (k < length rank)
     finding-in = let a = reach-in (s .so-far) (s .scene) (s .first-is) (s .nearest) e in (a .1, a .2, a .3)
 
-    pub finding-expand : CanExpand d order lands prices dist via n target k
+    pub finding-expand : CanExpand d order holds first-in next-in prices dist via n target k
     finding-expand =
         let a = reach-in (s .so-far) (s .scene) (s .first-is) (s .nearest) e in
         record {
           table = s .table;
           scene = s .scene;
           upto = s .upto;
-          lands-room = s .lands-room;
+          holds-row = s .holds-row;
+          chained = s .chained;
           dists = s .so-far .rows .dists;
           vias = s .so-far .rows .vias;
           to = a .0;
@@ -227,20 +263,21 @@ module _ {d : Day} {order lands prices dist rank via : List ℕ} {n first target
         }
 
     module _ {dist₂ via₂ : List ℕ}
-        (h : Expanded (scope d order n target) (el lands) (ofPeriod prices) target dist dist₂ via via₂ k n) where
-      expanded : Search (scope d order n target) (el lands) (ofPeriod prices) target dist₂ (set rank k (t + 1)) via₂ (t + 1) n
+        (h : Expanded (scope d order n target) (landing d order holds) (ofPeriod prices) target dist dist₂ via via₂ k n) where
+      expanded : Search (scope d order n target) (landing d order holds) (ofPeriod prices) target dist₂ (set rank k (t + 1)) via₂ (t + 1) n
       expanded = h .keeps (set rank k (t + 1)) (t + 1) (reach-next (s .so-far) (s .scene) (s .first-is) (s .nearest) e) .so-far
 
       pub finding-again : CanNear dist₂ (set rank k (t + 1)) first target
       finding-again = search-near expanded (s .scene) (s .first-is)
 
       pub finding-next : {j : ℕ} → Nearest dist₂ (set rank k (t + 1)) first target j
-          → Finding d order lands prices dist₂ (set rank k (t + 1)) via₂ n first target (t + 1) j
+          → Finding d order holds first-in next-in prices dist₂ (set rank k (t + 1)) via₂ n first target (t + 1) j
       finding-next a = record {
         table = s .table;
         scene = s .scene;
         upto = s .upto;
-        lands-room = s .lands-room;
+        holds-row = s .holds-row;
+        chained = s .chained;
         first-is = s .first-is;
         so-far = expanded;
         nearest = a;

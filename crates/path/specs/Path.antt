@@ -11,7 +11,7 @@ use Rattle.assignment.proofs.Near.{Near, Offered}
 use Rattle.assignment.proofs.Insertion.{Sound, grown}
 use Rattle.assignment.proofs.Permuted.{ordered}
 use Rattle.assignment.proofs.Restricted.{restricted}
-use Rattle.day.specs.Day.{Day, width, P, N, ofPeriod, due, rate, jump, cost, latest}
+use Rattle.day.specs.Day.{Day, width, P, N, ofPeriod, due, rate, jump, cost, latest, land}
 use Rattle.day.proofs.Valid.{Valid}
 use Rattle.day.proofs.Instance.{instance}
 use Rattle.due_order.specs.DueOrder.{DueOrder}
@@ -34,6 +34,10 @@ dearest = 5000000000
 abbrev pub scope : Day → List ℕ → ℕ → ℕ → Instance
 scope d order n target = restricted (ordered (instance d) (el order) n) target
 
+-- where the flight at place s of the order lands
+abbrev pub landing : Day → List ℕ → List ℕ → ℕ → ℕ
+landing d order holds s = land d holds (el order s)
+
 -- what a flight pays in period k
 abbrev pub payment : Day → List ℕ → ℕ → ℕ → ℕ
 payment d prices i k = cost d i (k - due d i) + ofPeriod prices k
@@ -42,6 +46,20 @@ payment d prices i k = cost d i (k - due d i) + ofPeriod prices k
 pub record Table (d : Day) (order : List ℕ) : Type 0 where
   pub valid : Valid d
   pub by-due : DueOrder d order
+
+-- r is the first place from `from` on whose flight lands in k, or n
+pub record Next (x : ℕ → ℕ) (n k from r : ℕ) : Type 0 where
+  pub after : from ≤ r
+  pub to : r ≤ n
+  pub none : (s : ℕ) → from ≤ s → s < r → x s ≢ k
+  pub there : r < n → x r ≡ k
+
+-- the flights that land in the same period are chained: one row has the first of each period, the other the next behind each flight
+pub record Chained (x : ℕ → ℕ) (first-in next-in : List ℕ) (n : ℕ) : Type 0 where
+  pub firsts : length first-in ≡ 98
+  pub nexts : length next-in ≡ 128
+  pub first : (k : ℕ) → k < 98 → Next x n k 0 (el first-in k)
+  pub next : (s : ℕ) → s < n → Next x n (x s) (s + 1) (el next-in s)
 
 -- a plan x of n flights with prices p, and a new flight; from its due period on, the target is the first period with room
 pub record Scene (d : Instance) (x p : ℕ → ℕ) (target : ℕ) : Type 0 where
@@ -113,11 +131,12 @@ abbrev pub Offers : (d : Day) (prices : List ℕ) (target i who from base : ℕ)
 Offers d prices target i who from base dist dist₂ via via₂ =
     Offered (due d i) (min (latest d i) target) (payment d prices i) who from base (away dist) (away dist₂) (el via) (el via₂)
 
-pub record CanExpand (d : Day) (order lands prices dist via : List ℕ) (n target k : ℕ) : Type 0 where
+pub record CanExpand (d : Day) (order holds first-in next-in prices dist via : List ℕ) (n target k : ℕ) : Type 0 where
   pub table : Table d order
-  pub scene : Scene (scope d order n target) (el lands) (ofPeriod prices) target
+  pub scene : Scene (scope d order n target) (landing d order holds) (ofPeriod prices) target
   pub upto : n < N d
-  pub lands-room : n ≤ length lands
+  pub holds-row : length holds ≡ N d
+  pub chained : Chained (landing d order holds) first-in next-in n
   pub dists : length dist ≡ 98
   pub vias : length via ≡ 98
   pub to : k < target
@@ -128,11 +147,12 @@ pub record Expanded (d : Instance) (x p : ℕ → ℕ) (target : ℕ) (dist dist
   pub keeps : (rank : List ℕ) (t : ℕ) → Around d x p target dist rank via t k 0 → Around d x p target dist₂ rank via₂ t k m
 
 -- nothing is reached yet
-pub record CanSearch (d : Day) (order lands prices dist rank via : List ℕ) (n target : ℕ) : Type 0 where
+pub record CanSearch (d : Day) (order holds first-in next-in prices dist rank via : List ℕ) (n target : ℕ) : Type 0 where
   pub table : Table d order
-  pub scene : Scene (scope d order n target) (el lands) (ofPeriod prices) target
+  pub scene : Scene (scope d order n target) (landing d order holds) (ofPeriod prices) target
   pub upto : n < N d
-  pub lands-room : n ≤ length lands
+  pub holds-row : length holds ≡ N d
+  pub chained : Chained (landing d order holds) first-in next-in n
   pub all-far : dist ≡ replicate 98 far
   pub no-ranks : rank ≡ replicate 98 0
   pub no-links : via ≡ replicate 98 n

@@ -4,7 +4,7 @@ ghost use Prim.Native.Nat.{ℕ, _+_, _*_, _^_, _<_, _≤_, min};
 ghost use lib.Dec.{ltb};
 ghost use Rattle.assignment.specs.Sum.{gate};
 ghost use Rattle.day.specs.Day.{day, ofPeriod};
-ghost use Rattle.path.specs.Path.{el, scope, CanNear, Nearest, CanOffer, Offers, CanExpand, Expanded, CanSearch, Searched};
+ghost use Rattle.path.specs.Path.{landing, scope, CanNear, Nearest, CanOffer, Offers, CanExpand, Expanded, CanSearch, Searched};
 use day::after_of;
 use day::cost_of;
 use day::due_of;
@@ -98,7 +98,9 @@ fn expand(
     capacities: &[u32],
     flights: &[u32],
     order: &[u32],
-    lands: &[usize],
+    holds: &[u32],
+    first_in: &[usize],
+    next_in: &[usize],
     prices: &[u32],
     dist: &mut [usize],
     via: &mut [usize],
@@ -106,31 +108,27 @@ fn expand(
     target: usize,
     k: usize,
 )
-    requires { ⌜ CanExpand (day (now capacities) (now flights)) (now order) (now lands) (now prices) (now dist) (now via) n target k ⌝ }
-    ensures { λ _. ⌜ Expanded (scope (day (now (capacities .entry)) (now (flights .entry))) (now (order .entry)) n target) (el (now (lands .entry))) (ofPeriod (now (prices .entry))) target (now (dist .entry)) (now (dist .exit)) (now (via .entry)) (now (via .exit)) k n ⌝ }
+    requires { ⌜ CanExpand (day (now capacities) (now flights)) (now order) (now holds) (now first_in) (now next_in) (now prices) (now dist) (now via) n target k ⌝ }
+    ensures { λ _. ⌜ Expanded (scope (day (now (capacities .entry)) (now (flights .entry))) (now (order .entry)) n target) (landing (day (now (capacities .entry)) (now (flights .entry))) (now (order .entry)) (now (holds .entry))) (ofPeriod (now (prices .entry))) target (now (dist .entry)) (now (dist .exit)) (now (via .entry)) (now (via .exit)) k n ⌝ }
 {
     let from = dist[k];
-    let mut m = 0;
-    while m < n {
-        let who = m;
-        m += 1;
-        if lands[who] == k {
-            let i = wide(order[who]);
-            let base = cost_of(capacities, flights, i, k - due_of(flights, i))
-                + of_period(prices, k);
-            offer(
-                capacities,
-                flights,
-                prices,
-                dist,
-                via,
-                target,
-                i,
-                who,
-                from,
-                base,
-            );
-        }
+    let mut who = first_in[k];
+    while who < n {
+        let i = wide(order[who]);
+        let base = cost_of(capacities, flights, i, wide(holds[i])) + of_period(prices, k);
+        offer(
+            capacities,
+            flights,
+            prices,
+            dist,
+            via,
+            target,
+            i,
+            who,
+            from,
+            base,
+        );
+        who = next_in[who];
     }
 }
 
@@ -140,7 +138,9 @@ pub fn find_path(
     capacities: &[u32],
     flights: &[u32],
     order: &[u32],
-    lands: &[usize],
+    holds: &[u32],
+    first_in: &[usize],
+    next_in: &[usize],
     prices: &[u32],
     dist: &mut [usize],
     rank: &mut [usize],
@@ -148,8 +148,8 @@ pub fn find_path(
     n: usize,
     target: usize,
 )
-    requires { ⌜ CanSearch (day (now capacities) (now flights)) (now order) (now lands) (now prices) (now dist) (now rank) (now via) n target ⌝ }
-    ensures { λ _. ⌜ Searched (scope (day (now (capacities .entry)) (now (flights .entry))) (now (order .entry)) n target) (el (now (lands .entry))) (ofPeriod (now (prices .entry))) target (now (dist .exit)) (now (rank .exit)) (now (via .exit)) ⌝ }
+    requires { ⌜ CanSearch (day (now capacities) (now flights)) (now order) (now holds) (now first_in) (now next_in) (now prices) (now dist) (now rank) (now via) n target ⌝ }
+    ensures { λ _. ⌜ Searched (scope (day (now (capacities .entry)) (now (flights .entry))) (now (order .entry)) n target) (landing (day (now (capacities .entry)) (now (flights .entry))) (now (order .entry)) (now (holds .entry))) (ofPeriod (now (prices .entry))) target (now (dist .exit)) (now (rank .exit)) (now (via .exit)) ⌝ }
 {
     let i = wide(order[n]);
     let first = due_of(flights, i);
@@ -163,7 +163,9 @@ pub fn find_path(
             capacities,
             flights,
             order,
-            lands,
+            holds,
+            first_in,
+            next_in,
             prices,
             dist,
             via,

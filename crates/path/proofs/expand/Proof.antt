@@ -1,73 +1,73 @@
--- Whatever was known with the period reached last stays known, now with the offers of the flights before m. Assumes nothing.
+-- The flights before `who` that land in k have offered; the chain of the period leads from one to the next. Assumes nothing.
 use native.Mathlib.Omega.{arith}
 use Prim.Native.Nat.{_-_}
-use Rattle.path.proofs.Expanding.{Expanding, expand-room, expanding-start, expanding-pass, expanding-end, expanding-room, expanding-stands, expanding-due, expanding-small, expanding-can, expanding-offered}
 use Rattle.day.specs.Day.{day}
+use Rattle.path.proofs.Expanding.{Expanding, expand-room, expanding-start, expanding-end, expanding-room, expanding-less, expanding-stands, expanding-hold, expanding-small, expanding-can, expanding-offered}
 use Rattle.path.proofs.expand.Statement.{statement}
 use Rattle.path.proofs.expand.Tie as tie
 
 abbrev Inv-loop : tie.InvT-loop
-Inv-loop capacities flights order lands prices dist₀ via₀ n target k from m₀ dist via m = Expanding (day capacities flights) order lands prices n target dist₀ dist via₀ via k from m
+Inv-loop capacities flights order holds first-in next-in prices dist₀ via₀ n target k from who₀ dist via who = Expanding (day capacities flights) order holds first-in next-in prices n target dist₀ dist via₀ via k from who
 
 abbrev μ-loop : tie.MeasureT-loop
-μ-loop capacities flights order lands prices dist₀ via₀ n target k from m₀ dist via m = n - m
+μ-loop capacities flights order holds first-in next-in prices dist₀ via₀ n target k from who₀ dist via who = n - who
 
 mul-from : tie.Need-mul-from Inv-loop μ-loop
-mul-from c = omega (arith, expand-room (c .before .before .before .before .before .before .before .pre))
+mul-from c = omega (arith, expand-room (c .before .before .before .before .before .before .before .before .before .pre))
 
 slice-read-from : tie.Need-slice-read-from Inv-loop μ-loop
-slice-read-from c = expand-room (c .before .before .before .before .before .before .before .before .pre) .0
+slice-read-from c = expand-room (c .before .before .before .before .before .before .before .before .before .before .pre) .0
+
+mul-who : tie.Need-mul-who Inv-loop μ-loop
+mul-who c = omega (arith, expand-room (c .before .before .before .before .before .before .before .before .before .before .pre))
+
+shared-slice-read-who : tie.Need-shared-slice-read-who Inv-loop μ-loop
+shared-slice-read-who c = expand-room (c .before .before .before .before .before .before .before .before .before .before .before .pre) .1
 
 loop-holds : tie.Need-loop-holds Inv-loop μ-loop
-loop-holds c = expanding-start (c .before .before .before .before .before .before .before .before .pre)
-
-add-m : tie.Need-add-m Inv-loop μ-loop
-add-m c = omega (arith, expanding-room (c .before .loop .inv) (c .loop-test .taken))
-
-mul-if1 : tie.Need-mul-if1 Inv-loop μ-loop
-mul-if1 c = omega (arith, expanding-room (c .before .loop .inv) (c .loop-test .taken))
-
-shared-slice-read-if1 : tie.Need-shared-slice-read-if1 Inv-loop μ-loop
-shared-slice-read-if1 c = expanding-room (c .before .before .loop .inv) (c .before .loop-test .taken) .0
+loop-holds c = expanding-start (c .before .before .before .before .before .before .before .before .before .before .before .pre)
 
 mul-wide : tie.Need-mul-wide Inv-loop μ-loop
-mul-wide c = omega (arith, expanding-room (c .before .before .before .loop .inv) (c .before .before .loop-test .taken))
+mul-wide c = omega (arith, expanding-room (c .before .loop .inv) (c .loop-test .taken))
 
 shared-slice-read-wide : tie.Need-shared-slice-read-wide Inv-loop μ-loop
-shared-slice-read-wide c = expanding-room (c .before .before .before .before .loop .inv) (c .before .before .before .loop-test .taken) .1
+shared-slice-read-wide c = expanding-room (c .before .before .loop .inv) (c .before .loop-test .taken) .0
 
 wide-requires : tie.Need-wide-requires Inv-loop μ-loop
 wide-requires c κs = tt
 
-due-of-requires : tie.Need-due-of-requires Inv-loop μ-loop
-due-of-requires c κs = expanding-stands (c .before .before .before .before .before .loop .inv) (c .before .before .before .before .loop-test .taken) (c .wide .ensures)
+mul-wide-2 : tie.Need-mul-wide-2 Inv-loop μ-loop
+mul-wide-2 c = omega (arith, expanding-stands (c .before .before .before .loop .inv) (c .before .before .loop-test .taken) (c .wide .ensures))
 
-sub-cost-of : tie.Need-sub-cost-of Inv-loop μ-loop
-sub-cost-of c = expanding-due (c .before .before .before .before .before .before .loop .inv) (c .before .before .before .before .before .loop-test .taken) (c .before .wide .ensures) (c .before .before .before .if1 .taken) (c .due-of .ensures .0) .0
+shared-slice-read-wide-2 : tie.Need-shared-slice-read-wide-2 Inv-loop μ-loop
+shared-slice-read-wide-2 c = expanding-stands (c .before .before .before .before .loop .inv) (c .before .before .before .loop-test .taken) (c .before .wide .ensures) .1
+
+wide-requires-2 : tie.Need-wide-requires-2 Inv-loop μ-loop
+wide-requires-2 c κs = tt
 
 cost-of-requires : tie.Need-cost-of-requires Inv-loop μ-loop
-cost-of-requires c κs = (expanding-stands (c .before .before .before .before .before .before .loop .inv) (c .before .before .before .before .before .loop-test .taken) (c .before .wide .ensures), omega (arith, expanding-due (c .before .before .before .before .before .before .loop .inv) (c .before .before .before .before .before .loop-test .taken) (c .before .wide .ensures) (c .before .before .before .if1 .taken) (c .due-of .ensures .0)))
+cost-of-requires c κs = (expanding-stands (c .before .before .before .before .before .loop .inv) (c .before .before .before .before .loop-test .taken) (c .before .before .wide .ensures) .0, expanding-hold (c .before .before .before .before .before .loop .inv) (c .before .before .before .before .loop-test .taken) (c .before .before .wide .ensures) (c .wide2 .ensures))
 
 of-period-requires : tie.Need-of-period-requires Inv-loop μ-loop
 of-period-requires c κs = tt
 
 add-base : tie.Need-add-base Inv-loop μ-loop
-add-base c = omega (arith, expanding-small (c .before .before .before .before .before .before .before .before .loop .inv) (c .before .before .before .before .before .before .before .loop-test .taken) (c .before .before .before .wide .ensures) (c .before .before .before .before .before .if1 .taken) (c .before .before .due-of .ensures .0) (c .before .cost-of .ensures) (c .of-period .ensures .0))
+add-base c = omega (arith, expanding-small (c .before .before .before .before .before .before .before .loop .inv) (c .before .before .before .before .before .before .loop-test .taken) (c .before .before .before .before .wide .ensures) (c .before .before .wide2 .ensures) (c .before .cost-of .ensures) (c .of-period .ensures .0))
 
 offer-requires : tie.Need-offer-requires Inv-loop μ-loop
-offer-requires c κs = expanding-can (c .before .before .before .before .before .before .before .before .before .before .loop .inv) (c .before .before .before .before .before .before .before .before .before .loop-test .taken) (c .before .before .before .before .before .wide .ensures) (c .before .before .before .before .before .before .before .if1 .taken) (c .before .before .before .before .due-of .ensures .0) (c .before .before .before .cost-of .ensures) (c .before .before .of-period .ensures .0)
+offer-requires c κs = expanding-can (c .before .before .before .before .before .before .before .before .before .loop .inv) (c .before .before .before .before .before .before .before .before .loop-test .taken) (c .before .before .before .before .before .before .wide .ensures) (c .before .before .before .before .wide2 .ensures) (c .before .before .before .cost-of .ensures) (c .before .before .of-period .ensures .0)
+
+mul-who-2 : tie.Need-mul-who-2 Inv-loop μ-loop
+mul-who-2 c = omega (arith, expanding-room (c .before .before .before .before .before .before .before .before .before .before .before .before .before .before .loop .inv) (c .before .before .before .before .before .before .before .before .before .before .before .before .before .loop-test .taken))
+
+shared-slice-read-who-2 : tie.Need-shared-slice-read-who-2 Inv-loop μ-loop
+shared-slice-read-who-2 c = expanding-room (c .before .before .before .before .before .before .before .before .before .before .before .before .before .before .before .loop .inv) (c .before .before .before .before .before .before .before .before .before .before .before .before .before .before .loop-test .taken) .1
 
 loop-less : tie.Need-loop-less Inv-loop μ-loop
-loop-less c = omega (arith, c .before .before .before .before .before .before .before .before .before .before .before .before .before .before .loop-test .taken)
+loop-less c = omega (arith, c .before .before .before .before .before .before .before .before .before .before .before .before .before .before .loop-test .taken, expanding-less (c .before .before .before .before .before .before .before .before .before .before .before .before .before .before .before .loop .inv) (c .before .before .before .before .before .before .before .before .before .before .before .before .before .before .loop-test .taken))
 
 loop-again : tie.Need-loop-again Inv-loop μ-loop
-loop-again c = expanding-offered (c .before .before .before .before .before .before .before .before .before .before .before .before .before .before .before .loop .inv) (c .before .before .before .before .before .before .before .before .before .before .before .before .before .before .loop-test .taken) (c .before .before .before .before .before .before .before .before .before .before .wide .ensures) (c .before .before .before .before .before .before .before .before .before .before .before .before .if1 .taken) (c .before .before .before .before .before .before .before .before .before .due-of .ensures .0) (c .before .before .before .before .before .before .before .before .cost-of .ensures) (c .before .before .before .before .before .before .before .of-period .ensures .0) (c .before .before .before .before .offer .kept .1 .1 .1 .0) (c .before .before .before .before .offer .kept .1 .1 .1 .1 .0) (c .before .before .before .before .offer .ensures)
-
-loop-less-2 : tie.Need-loop-less-2 Inv-loop μ-loop
-loop-less-2 c = omega (arith, c .before .before .loop-test .taken)
-
-loop-again-2 : tie.Need-loop-again-2 Inv-loop μ-loop
-loop-again-2 c = expanding-pass (c .before .before .before .loop .inv) (c .before .before .loop-test .taken) (c .if1 .left)
+loop-again c = expanding-offered (c .before .before .before .before .before .before .before .before .before .before .before .before .before .before .before .loop .inv) (c .before .before .before .before .before .before .before .before .before .before .before .before .before .before .loop-test .taken) (c .before .before .before .before .before .before .before .before .before .before .before .before .wide .ensures) (c .before .before .before .before .before .before .before .before .before .before .wide2 .ensures) (c .before .before .before .before .before .before .before .before .before .cost-of .ensures) (c .before .before .before .before .before .before .before .before .of-period .ensures .0) (c .before .before .before .before .before .offer .kept .1 .1 .1 .0) (c .before .before .before .before .before .offer .kept .1 .1 .1 .1 .0) (c .before .before .before .before .before .offer .ensures)
 
 same-length : tie.Need-same-length Inv-loop μ-loop
 same-length c = c .before .loop .inv .same-d
@@ -86,23 +86,23 @@ expand-spec =
     μ-loop
     mul-from
     slice-read-from
+    mul-who
+    shared-slice-read-who
     loop-holds
-    add-m
-    mul-if1
-    shared-slice-read-if1
     mul-wide
     shared-slice-read-wide
     wide-requires
-    due-of-requires
-    sub-cost-of
+    mul-wide-2
+    shared-slice-read-wide-2
+    wide-requires-2
     cost-of-requires
     of-period-requires
     add-base
     offer-requires
+    mul-who-2
+    shared-slice-read-who-2
     loop-less
     loop-again
-    loop-less-2
-    loop-again-2
     same-length
     same-length-2
     returns)

@@ -9,31 +9,31 @@ use Rattle.path.proofs.find_path.Statement.{statement}
 use Rattle.path.proofs.find_path.Tie as tie
 
 abbrev Inv-loop : tie.InvT-loop
-Inv-loop capacities flights order lands prices dist₀ rank₀ via₀ n target i first t₀ k₀ dist rank via t k = Finding (day capacities flights) order lands prices dist rank via n first target t k
+Inv-loop capacities flights order holds first-in next-in prices dist₀ rank₀ via₀ n target i first t₀ k₀ dist rank via t k = Finding (day capacities flights) order holds first-in next-in prices dist rank via n first target t k
 
 abbrev μ-loop : tie.MeasureT-loop
-μ-loop capacities flights order lands prices dist₀ rank₀ via₀ n target i first t₀ k₀ dist rank via t k = 98 - t
+μ-loop capacities flights order holds first-in next-in prices dist₀ rank₀ via₀ n target i first t₀ k₀ dist rank via t k = 98 - t
 
 mul-wide : tie.Need-mul-wide Inv-loop μ-loop
-mul-wide c = omega (arith, find-room (c .before .before .before .before .before .before .before .before .pre))
+mul-wide c = omega (arith, find-room (c .before .before .before .before .before .before .before .before .before .before .pre))
 
 shared-slice-read-wide : tie.Need-shared-slice-read-wide Inv-loop μ-loop
-shared-slice-read-wide c = find-room (c .before .before .before .before .before .before .before .before .before .pre) .0
+shared-slice-read-wide c = find-room (c .before .before .before .before .before .before .before .before .before .before .before .pre) .0
 
 wide-requires : tie.Need-wide-requires Inv-loop μ-loop
 wide-requires c κs = tt
 
 due-of-requires : tie.Need-due-of-requires Inv-loop μ-loop
-due-of-requires c κs = find-stands (c .before .before .before .before .before .before .before .before .before .before .pre) (c .wide .ensures)
+due-of-requires c κs = find-stands (c .before .before .before .before .before .before .before .before .before .before .before .before .pre) (c .wide .ensures)
 
 offer-requires : tie.Need-offer-requires Inv-loop μ-loop
-offer-requires c κs = find-offer (c .before .before .before .before .before .before .before .before .before .before .before .before .before .pre) (c .before .before .before .wide .ensures)
+offer-requires c κs = find-offer (c .before .before .before .before .before .before .before .before .before .before .before .before .before .before .before .pre) (c .before .before .before .wide .ensures)
 
 nearest-requires : tie.Need-nearest-requires Inv-loop μ-loop
-nearest-requires c κs = finding-near (c .before .before .before .before .before .before .before .before .before .before .before .before .before .before .before .before .before .before .before .before .pre) (c .before .before .before .before .before .before .before .before .before .before .wide .ensures) (c .before .before .before .before .before .before .offer .last .1 .1 .1 .0) (c .before .before .before .before .before .before .offer .last .1 .1 .1 .1 .0) (c .before .before .before .before .before .before .before .before .before .due-of .ensures .0) (c .before .before .before .before .before .before .offer .kept .1 .1 .1 .0) (c .before .before .before .before .before .before .offer .kept .1 .1 .1 .1 .0) (c .before .before .before .before .before .before .offer .ensures)
+nearest-requires c κs = finding-near (c .before .before .before .before .before .before .before .before .before .before .before .before .before .before .before .before .before .before .before .before .before .before .pre) (c .before .before .before .before .before .before .before .before .before .before .wide .ensures) (c .before .before .before .before .before .before .offer .last .1 .1 .1 .0) (c .before .before .before .before .before .before .offer .last .1 .1 .1 .1 .0) (c .before .before .before .before .before .before .before .before .before .due-of .ensures .0) (c .before .before .before .before .before .before .offer .kept .1 .1 .1 .0) (c .before .before .before .before .before .before .offer .kept .1 .1 .1 .1 .0) (c .before .before .before .before .before .before .offer .ensures)
 
 loop-holds : tie.Need-loop-holds Inv-loop μ-loop
-loop-holds c = finding-start (c .before .before .before .before .before .before .before .before .before .before .before .before .before .before .before .before .before .before .before .before .before .pre) (c .before .before .before .before .before .before .before .before .before .before .before .wide .ensures) (c .before .before .before .before .before .before .before .offer .last .1 .1 .1 .0) (c .before .before .before .before .before .before .before .offer .last .1 .1 .1 .1 .0) (c .before .before .before .before .before .before .before .before .before .before .due-of .ensures .0) (c .before .before .before .before .before .before .before .offer .kept .1 .1 .1 .0) (c .before .before .before .before .before .before .before .offer .kept .1 .1 .1 .1 .0) (c .before .before .before .before .before .before .before .offer .ensures) (c .nearest .ensures)
+loop-holds c = finding-start (c .before .before .before .before .before .before .before .before .before .before .before .before .before .before .before .before .before .before .before .before .before .before .before .pre) (c .before .before .before .before .before .before .before .before .before .before .before .wide .ensures) (c .before .before .before .before .before .before .before .offer .last .1 .1 .1 .0) (c .before .before .before .before .before .before .before .offer .last .1 .1 .1 .1 .0) (c .before .before .before .before .before .before .before .before .before .before .due-of .ensures .0) (c .before .before .before .before .before .before .before .offer .kept .1 .1 .1 .0) (c .before .before .before .before .before .before .before .offer .kept .1 .1 .1 .1 .0) (c .before .before .before .before .before .before .before .offer .ensures) (c .nearest .ensures)
 
 add-t : tie.Need-add-t Inv-loop μ-loop
 add-t c = omega (arith, finding-in (c .before .loop .inv) (c .loop-test .taken))
@@ -57,13 +57,13 @@ loop-again : tie.Need-loop-again Inv-loop μ-loop
 loop-again c = finding-next (c .before .before .before .before .before .before .before .before .before .before .before .loop .inv) (c .before .before .before .before .before .before .before .before .before .before .loop-test .taken) (c .before .before .before .before .before .before .before .expand .ensures) (c .nearest2 .ensures)
 
 same-length : tie.Need-same-length Inv-loop μ-loop
-same-length c = c .before .loop .inv .so-far .rows .dists ∙ sym (find-rows (c .before .before .before .before .before .before .before .before .before .before .before .before .before .before .before .before .before .before .before .before .before .before .before .pre) .dists)
+same-length c = c .before .loop .inv .so-far .rows .dists ∙ sym (find-rows (c .before .before .before .before .before .before .before .before .before .before .before .before .before .before .before .before .before .before .before .before .before .before .before .before .before .pre) .dists)
 
 same-length-2 : tie.Need-same-length-2 Inv-loop μ-loop
-same-length-2 c = c .before .loop .inv .so-far .rows .ranks ∙ sym (find-rows (c .before .before .before .before .before .before .before .before .before .before .before .before .before .before .before .before .before .before .before .before .before .before .before .pre) .ranks)
+same-length-2 c = c .before .loop .inv .so-far .rows .ranks ∙ sym (find-rows (c .before .before .before .before .before .before .before .before .before .before .before .before .before .before .before .before .before .before .before .before .before .before .before .before .before .pre) .ranks)
 
 same-length-3 : tie.Need-same-length-3 Inv-loop μ-loop
-same-length-3 c = c .before .loop .inv .so-far .rows .vias ∙ sym (find-rows (c .before .before .before .before .before .before .before .before .before .before .before .before .before .before .before .before .before .before .before .before .before .before .before .pre) .vias)
+same-length-3 c = c .before .loop .inv .so-far .rows .vias ∙ sym (find-rows (c .before .before .before .before .before .before .before .before .before .before .before .before .before .before .before .before .before .before .before .before .before .before .before .before .before .pre) .vias)
 
 returns : tie.Need-returns Inv-loop μ-loop
 returns c = finding-end (c .before .loop .inv) (c .loop-test .left)
