@@ -3,7 +3,7 @@
 -- Assumes nothing.
 use mathlib.Core.Path.{_≡_, sym, ap, _∙_}
 use mathlib.Core.Logic.{_⊎_, inl, inr, _≢_}
-use Prim.Native.Nat.{ℕ, _+_, _≤_, _<_}
+use Prim.Native.Nat.{ℕ, _+_, _≤_, _<_, min}
 use native.Mathlib.Omega.{arith}
 use Rattle.assignment.specs.Assignment.{Instance, In}
 use Rattle.assignment.proofs.Tests.{lt?, eq?}
@@ -17,8 +17,9 @@ pub record Step (d : Instance) (x p dist rank : ℕ → ℕ) (k i : ℕ) : Type 
   pub lower : 0 < rank k → rank (x i) < rank k
   pub far : dist k + (d .cost i (x i) + p (x i)) ≡ dist (x i) + (d .cost i k + p k)
 
--- t periods are reached, via d .n stands for no flight; from the last of them the flights before m have offered
-pub record Near (d : Instance) (x p root dist rank via : ℕ → ℕ) (t m : ℕ) : Type 0 where
+-- t periods are reached, via d .n stands for no flight; from the last of them the flights before m have offered. Whatever is no nearer than
+-- the target z need not be known
+pub record Near (d : Instance) (x p root dist rank via : ℕ → ℕ) (z t m : ℕ) : Type 0 where
   pub settled : Settled d x p
   pub low : (k : ℕ) → dist k ≤ root k
   pub how : (k : ℕ) → ((dist k ≡ root k) × (k < d .m → via k ≡ d .n)) ⊎ Step d x p dist rank k (via k)
@@ -26,10 +27,10 @@ pub record Near (d : Instance) (x p root dist rank via : ℕ → ℕ) (t m : ℕ
   pub order : (j k : ℕ) → 0 < rank j → rank k ≡ 0 → dist j ≤ dist k
   pub last : (j k : ℕ) → 0 < rank j → rank k ≡ t → dist j ≤ dist k
   pub near : (i k : ℕ) → i < d .n → In d i k → 0 < rank (x i) → (rank (x i) < t) ⊎ (i < m)
-      → dist k + (d .cost i (x i) + p (x i)) ≤ dist (x i) + (d .cost i k + p k)
+      → min (dist k) (dist z) + (d .cost i (x i) + p (x i)) ≤ dist (x i) + (d .cost i k + p k)
 
-pub near-start : {d : Instance} {x p root dist rank via : ℕ → ℕ} → Settled d x p → ((k : ℕ) → dist k ≡ root k) → ((k : ℕ) → k < d .m → via k ≡ d .n)
-    → ((k : ℕ) → rank k ≡ 0) → Near d x p root dist rank via 0 (d .n)
+pub near-start : {d : Instance} {x p root dist rank via : ℕ → ℕ} {z : ℕ} → Settled d x p → ((k : ℕ) → dist k ≡ root k) → ((k : ℕ) → k < d .m → via k ≡ d .n)
+    → ((k : ℕ) → rank k ≡ 0) → Near d x p root dist rank via z 0 (d .n)
 near-start {x = x} s same new none = record {
   settled = s;
   low = λ k. omega (arith, same k);
@@ -41,27 +42,29 @@ near-start {x = x} s same new none = record {
 }
 
 -- from a landing at distance `from`, where it pays `base`, flight i offers the periods lo .. hi, where it pays `pays`
-pub record Offered (lo hi : ℕ) (pays : ℕ → ℕ) (i from base : ℕ) (dist dist₂ via via₂ : ℕ → ℕ) : Type 0 where
-  pub nearer : (k : ℕ) → lo ≤ k → k ≤ hi → from + pays k < dist k + base → (dist₂ k + base ≡ from + pays k) × (via₂ k ≡ i)
-  pub no-nearer : (k : ℕ) → lo ≤ k → k ≤ hi → dist k + base ≤ from + pays k → (dist₂ k ≡ dist k) × (via₂ k ≡ via k)
-  pub before : (k : ℕ) → k < lo → (dist₂ k ≡ dist k) × (via₂ k ≡ via k)
-  pub behind : (k : ℕ) → hi < k → (dist₂ k ≡ dist k) × (via₂ k ≡ via k)
 
--- a period comes nearer, or nothing changes
-pub offered : {lo hi : ℕ} {pays : ℕ → ℕ} {i from base : ℕ} {dist dist₂ via via₂ : ℕ → ℕ} → Offered lo hi pays i from base dist dist₂ via via₂
-    → (k : ℕ) → ((lo ≤ k) × (k ≤ hi) × (from + pays k < dist k + base)) ⊎ ((dist₂ k ≡ dist k) × (via₂ k ≡ via k))
-offered {lo} {hi} {pays} {from = from} {base = base} {dist = dist} o k = elim (lt? k lo) [
-  | inl a ↦ inr (o .before k a)
-  | inr a ↦ elim (lt? hi k) [
-    | inl b ↦ inr (o .behind k b)
-    | inr b ↦ elim (lt? (from + pays k) (dist k + base)) [ inl c ↦ inl (a, b, c) | inr c ↦ inr (o .no-nearer k a b c) ]
-  ]
-]
+-- period k comes nearer, by way of flight i
+pub record Took (lo hi : ℕ) (pays : ℕ → ℕ) (i from base : ℕ) (dist dist₂ via₂ : ℕ → ℕ) (k : ℕ) : Type 0 where
+  pub from-lo : lo ≤ k
+  pub to-hi : k ≤ hi
+  pub less : from + pays k < dist k + base
+  pub far : dist₂ k + base ≡ from + pays k
+  pub by : via₂ k ≡ i
 
-module _ {d : Instance} {x p root dist rank via : ℕ → ℕ} {t m : ℕ} (s : Near d x p root dist rank via t m) where
+-- it stays as it was; an offer to it is no nearer than it is, or than the goal
+pub record Kept (lo hi : ℕ) (pays : ℕ → ℕ) (from base goal : ℕ) (dist dist₂ via via₂ : ℕ → ℕ) (k : ℕ) : Type 0 where
+  pub far : dist₂ k ≡ dist k
+  pub by : via₂ k ≡ via k
+  pub no-nearer : lo ≤ k → k ≤ hi → min (dist k) goal + base ≤ from + pays k
+
+abbrev pub Offered : (lo hi : ℕ) (pays : ℕ → ℕ) (i from base goal : ℕ) (dist dist₂ via via₂ : ℕ → ℕ) → Type 0
+Offered lo hi pays i from base goal dist dist₂ via via₂ =
+    (k : ℕ) → Took lo hi pays i from base dist dist₂ via₂ k ⊎ Kept lo hi pays from base goal dist dist₂ via via₂ k
+
+module _ {d : Instance} {x p root dist rank via : ℕ → ℕ} {z t m : ℕ} (s : Near d x p root dist rank via z t m) where
   -- the nearest period that is not reached is reached
   pub near-reach : {rank₂ : ℕ → ℕ} {at : ℕ} → d .n ≤ m → rank at ≡ 0 → ((k : ℕ) → rank k ≡ 0 → dist at ≤ dist k) → Moved rank rank₂ at (t + 1)
-      → Near d x p root dist rank₂ via (t + 1) 0
+      → Near d x p root dist rank₂ via z (t + 1) 0
   near-reach {rank₂} {at} all fresh least v = record {
     settled = s .settled;
     low = s .low;
@@ -100,7 +103,7 @@ module _ {d : Instance} {x p root dist rank via : ℕ → ℕ} {t m : ℕ} (s : 
       was k none = elim (eq? k at) [ inl e ↦ ap rank e ∙ fresh | inr e ↦ sym (v .others k e) ∙ none ]
 
   -- flight m does not land in the last period reached
-  pub near-pass : rank (x m) ≢ t → Near d x p root dist rank via t (m + 1)
+  pub near-pass : rank (x m) ≢ t → Near d x p root dist rank via z t (m + 1)
   near-pass away = record {
     settled = s .settled;
     low = s .low;
@@ -117,66 +120,67 @@ module _ {d : Instance} {x p root dist rank via : ℕ → ℕ} {t m : ℕ} (s : 
   -- it lands there, and offers the periods of its window
   module _ {dist₂ via₂ : ℕ → ℕ} {hi from base : ℕ} (l : m < d .n) (some : 0 < t) (here : rank (x m) ≡ t) (to : hi ≡ d .hi m)
       (from-is : from ≡ dist (x m)) (base-is : base ≡ d .cost m (x m) + p (x m))
-      (o : Offered (d .lo m) hi (λ k. d .cost m k + p k) m from base dist dist₂ via via₂) where
+      (o : Offered (d .lo m) hi (λ k. d .cost m k + p k) m from base (dist z) dist dist₂ via via₂) where
     -- a reached period is no farther than the last, and flight m pays least where it lands
-    own : (k : ℕ) → d .lo m ≤ k → k ≤ hi → base ≤ d .cost m k + p k
-    own k a b = omega (arith, s .settled .best m k l (record { from = a; to = omega arith }), base-is)
+    own : (k : ℕ) → Took (d .lo m) hi (λ k. d .cost m k + p k) m from base dist dist₂ via₂ k → base ≤ d .cost m k + p k
+    own k c = omega (arith, s .settled .best m k l (record { from = c .from-lo; to = omega (arith, c .to-hi) }), base-is)
 
     -- what comes nearer is not reached
-    fresh : (k : ℕ) → d .lo m ≤ k → k ≤ hi → from + (d .cost m k + p k) < dist k + base → rank k ≡ 0
-    fresh k a b less = elim (lt? 0 (rank k)) [
-      | inl q ↦ absurd (omega (arith, own k a b, s .last k (x m) q here, from-is))
+    fresh : (k : ℕ) → Took (d .lo m) hi (λ k. d .cost m k + p k) m from base dist dist₂ via₂ k → rank k ≡ 0
+    fresh k c = elim (lt? 0 (rank k)) [
+      | inl q ↦ absurd (omega (arith, c .less, own k c, s .last k (x m) q here, from-is))
       | inr q ↦ omega arith
     ]
 
     pub offer-kept : (j : ℕ) → 0 < rank j → dist₂ j ≡ dist j
-    offer-kept j q = elim (offered o j) [ inl c ↦ absurd (omega (arith, fresh j (c .0) (c .1) (c .2))) | inr e ↦ e .0 ]
+    offer-kept j q = elim (o j) [ inl c ↦ absurd (omega (arith, fresh j c)) | inr e ↦ e .far ]
 
     pub offer-falls : (k : ℕ) → dist₂ k ≤ dist k
-    offer-falls k = elim (offered o k) [ inl c ↦ omega (arith, c .2, o .nearer k (c .0) (c .1) (c .2) .0) | inr e ↦ omega (arith, e .0) ]
+    offer-falls k = elim (o k) [ inl c ↦ omega (arith, c .less, c .far) | inr e ↦ omega (arith, e .far) ]
 
-    reaches : (k : ℕ) → In d m k → dist₂ k + base ≤ from + (d .cost m k + p k)
-    reaches k w = elim (lt? (from + (d .cost m k + p k)) (dist k + base)) [
-      | inl c ↦ omega (arith, o .nearer k (w .from) (omega (arith, w .to)) c .0)
-      | inr c ↦ omega (arith, o .no-nearer k (w .from) (omega (arith, w .to)) c .0)
+    reaches : (k : ℕ) → In d m k → min (dist₂ k) (dist₂ z) + base ≤ from + (d .cost m k + p k)
+    reaches k w = elim (o k) [
+      | inl c ↦ omega (arith, c .far)
+      | inr e ↦ omega (arith, e .far, offer-falls z, e .no-nearer (w .from) (omega (arith, w .to)))
     ]
 
-    pub near-offer : Near d x p root dist₂ rank via₂ t (m + 1)
+    pub near-offer : Near d x p root dist₂ rank via₂ z t (m + 1)
     near-offer = record {
       settled = s .settled;
       low = λ k. omega (arith, offer-falls k, s .low k);
-      how = λ k. elim (offered o k) [
-        | inl c ↦ rw (o .nearer k (c .0) (c .1) (c .2) .1) (inr (record {
+      how = λ k. elim (o k) [
+        | inl c ↦ rw (c .by) (inr (record {
           who = l;
-          fits = record { from = c .0; to = omega (arith, c .1) };
+          fits = record { from = c .from-lo; to = omega (arith, c .to-hi) };
           from = omega (arith, here);
-          lower = λ q. absurd (omega (arith, fresh k (c .0) (c .1) (c .2)));
-          far = omega (arith, o .nearer k (c .0) (c .1) (c .2) .0, from-is, base-is, offer-kept (x m) (omega (arith, here)));
+          lower = λ q. absurd (omega (arith, fresh k c));
+          far = omega (arith, c .far, from-is, base-is, offer-kept (x m) (omega (arith, here)));
         }))
-        | inr e ↦ rw (e .1) (elim (s .how k) [
-          | inl f ↦ inl (e .0 ∙ f .0, f .1)
+        | inr e ↦ rw (e .by) (elim (s .how k) [
+          | inl f ↦ inl (e .far ∙ f .0, f .1)
           | inr a ↦ inr (record {
             who = a .who;
             fits = a .fits;
             from = a .from;
             lower = a .lower;
-            far = omega (arith, e .0, offer-kept (x (via k)) (a .from), a .far);
+            far = omega (arith, e .far, offer-kept (x (via k)) (a .from), a .far);
           })
         ])
       ];
       top = s .top;
-      order = λ j k q r. elim (offered o k) [
-        | inl c ↦ omega (arith, o .nearer k (c .0) (c .1) (c .2) .0, own k (c .0) (c .1), offer-kept j q, s .last j (x m) q here, from-is)
-        | inr e ↦ omega (arith, e .0, offer-kept j q, s .order j k q r)
+      order = λ j k q r. elim (o k) [
+        | inl c ↦ omega (arith, c .far, own k c, offer-kept j q, s .last j (x m) q here, from-is)
+        | inr e ↦ omega (arith, e .far, offer-kept j q, s .order j k q r)
       ];
       last = λ j k q r. omega (arith, offer-kept j q, offer-kept k (omega arith), s .last j k q r);
-      near = λ i k z w q f. elim (eq? i m) [
+      near = λ i k b w q f. elim (eq? i m) [
         | inl e ↦ rw e (omega (arith, reaches k (rw e at w), from-is, base-is, offer-kept (x m) (omega (arith, here))))
         | inr e ↦ omega (
           arith,
           offer-falls k,
+          offer-falls z,
           offer-kept (x i) q,
-          s .near i k z w q (elim f [ inl g ↦ inl g | inr g ↦ inr (omega arith) ]),
+          s .near i k b w q (elim f [ inl g ↦ inl g | inr g ↦ inr (omega arith) ]),
         )
       ];
     }

@@ -5,12 +5,13 @@ use mathlib.Core.Logic.{_≢_, inl, inr}
 use mathlib.Core.Bool.{Bool, true, false, cond}
 use mathlib.Core.List.{List, [], _∷_}
 use Prim.Native.Nat.{ℕ, zero, suc, _+_, _-_, _*_, _≤_, _<_}
-use native.Mathlib.Nat.{mul-le-mul}
+use native.Mathlib.Nat.{mul-le-mul, mul-le-mul-left}
 use native.Mathlib.Omega.{arith}
+use lib.Dec.{ltb}
 use lib.ListN.{length, getD, List·getD-eq-default}
 use borrow.Author.Tests.{lt-ltb, le-ltb, eq-eqb, ne-eqb}
 use Rattle.assignment.specs.Sum.{gate}
-use Rattle.assignment.proofs.Tests.{lt?, eq?}
+use Rattle.assignment.proofs.Tests.{lt?, eq?, gate-lt, gate-ge}
 use Rattle.day.specs.Day.{Day, P, due, rate, after, jump, limit, ofPeriod, cost, latest}
 
 -- ---- rows by period
@@ -32,6 +33,23 @@ module _ (d : Day) (i h : ℕ) where
   pub cost-under : h ≤ after d i → cost d i h ≡ rate d i * h
   unfolding cost
   cost-under l = rw (le-ltb (after d i) h l) (omega arith)
+
+-- a longer hold costs no less
+jump-rises : (a s t v : ℕ) → s ≤ t → gate (ltb a s) v ≤ gate (ltb a t) v
+jump-rises a s t v l = elim (lt? a s) [
+  | inl b ↦ omega (arith, gate-lt a s v b, gate-lt a t v (omega arith))
+  | inr b ↦ omega (arith, gate-ge a s v b)
+]
+
+module _ (d : Day) (i s t : ℕ) where
+  pub cost-rises : s ≤ t → cost d i s ≤ cost d i t
+  unfolding cost
+  cost-rises l = omega (arith, mul-le-mul-left (rate d i) l, jump-rises (after d i) s t (jump d i) l)
+
+  -- and costs more, where the rate is not 0
+  pub cost-grows : 1 ≤ rate d i → s < t → cost d i s < cost d i t
+  unfolding cost
+  cost-grows pos l = omega (arith, mul-le-mul-left (rate d i) l, jump-rises (after d i) s t (jump d i) (omega arith))
 
 -- a product of two numbers of 32 bits, and one more such number, fit 64 bits
 pub product-fits : (a b c : ℕ) → a < 4294967296 → b < 4294967296 → c < 4294967296 → a * b + c < 18446744073709551616

@@ -18,7 +18,7 @@ use Rattle.assignment.proofs.Insertion.{Sound, Found, price-le, going, ground, 
 use Rattle.assignment.proofs.Permuted.{permuted-short}
 use Rattle.assignment.proofs.Restricted.{Rising, until-near, until-le, restricted, restrict, widen, widen-short}
 use Rattle.day.specs.Day.{Day, width, P, N, ofPeriod, due, rate, after, jump, limit, cost}
-use Rattle.day.proofs.Costs.{latest-missing, latest-given}
+use Rattle.day.proofs.Costs.{latest-missing, latest-given, cost-grows}
 use Rattle.day.proofs.Instance.{instance, last, last-to, places, places-in, places-closing, cost-le, instance-short}
 use Rattle.path.specs.Path.{el, far, away, scope, landing, Table, Scene, CanSearch, Searched}
 use Rattle.path.proofs.Rows.{set-moved, as-read}
@@ -28,21 +28,7 @@ use Rattle.insertion.specs.Insertion.{begun, Placed, cost-of-placed, Can
 
 -- ---- the numbers of a day
 
--- a further period of hold costs something
 module _ (d : Day) (i : ℕ) where
-  product-less : (r s t : ℕ) → 1 ≤ r → s < t → r * s < r * t
-  product-less r s t pos less = omega (arith, mul-le-mul-left r less)
-
-  jump-le : (a s t v : ℕ) → s ≤ t → gate (ltb a s) v ≤ gate (ltb a t) v
-  jump-le a s t v l = elim (lt? a s) [
-    | inl b ↦ omega (arith, gate-lt a s v b, gate-lt a t v (omega arith))
-    | inr b ↦ omega (arith, gate-ge a s v b)
-  ]
-
-  cost-less : (s t : ℕ) → 1 ≤ rate d i → s < t → cost d i s < cost d i t
-  unfolding cost
-  cost-less s t pos less = omega (arith, product-less (rate d i) s t pos less, jump-le (after d i) s t (jump d i) (omega arith))
-
   due-latest : due d i ≤ P d → due d i ≤ last d i
   unfolding last
   due-latest l = elim (eq? (limit d i) 255) [
@@ -69,7 +55,7 @@ module _ {d : Day} {order : List ℕ} (t : Table d order) where
 
   pub rising : (n : ℕ) → n ≤ N d → Rising (begun d order n)
   rising n l = record {
-    dearer = λ s j k b v w less. cost-less d (el order s) _ _
+    dearer = λ s j k b v w less. cost-grows d (el order s) _ _
         (t .valid .flight (el order s) (in-table s (omega arith)) .rate-from) (omega (arith, v .from));
   }
 

@@ -1,7 +1,7 @@
 -- The loops of `expand` and `find_path`.
 -- Assumes nothing.
 use mathlib.Core.Path.{_≡_, refl, _∙_}
-use mathlib.Core.Logic.{_≢_}
+use mathlib.Core.Logic.{inl, inr, _≢_}
 use mathlib.Core.List.{List}
 use Prim.Native.Nat.{ℕ, zero, suc, _+_, _-_, _*_, _^_, _≤_, _<_, min}
 use native.Mathlib.Nat.{add-zero}
@@ -13,7 +13,7 @@ use Rattle.day.specs.Day.{Day, P, N, width, ofPeriod, due, latest, cost}
 use Rattle.day.proofs.Instance.{last}
 use Rattle.path.specs.Path.{el, far, away, dearest, scope, landing, Table, Next, Chained, Scene, Rows, Search, Around, CanNear, Nearest, CanOffer, Offers, CanExpand, Expanded, CanSearch, Searched}
 use Rattle.path.proofs.Rows.{as-read}
-use Rattle.path.proofs.Reaching.{search-start, around-pass, around-kept, around-offered, search-near, reach-in, reach-next, search-end}
+use Rattle.path.proofs.Reaching.{blank-far, search-start, around-pass, around-kept, around-offered, search-near, reach-in, reach-next, search-end}
 
 -- a flight of the day stands in its row
 pub stands : {d : Day} {order : List ℕ} (t : Table d order) (i : ℕ) → i < N d → (i + 1) * width ≤ length (d .flights)
@@ -60,6 +60,7 @@ module _ (d : Day) (order holds first-in next-in prices : List ℕ) (n target : 
     pub upto : who ≤ n
     pub there : who < n → landing d order holds who ≡ k
     pub from-is : from ≡ away dist₀ k
+    pub most : away dist target ≤ far
     pub keeps : (rank : List ℕ) (t : ℕ)
         → Around (scope d order n target) (landing d order holds) (ofPeriod prices) target dist₀ rank via₀ t k 0
         → Around (scope d order n target) (landing d order holds) (ofPeriod prices) target dist rank via t k who × (from ≡ away dist k)
@@ -79,6 +80,7 @@ module _ {d : Day} {order holds first-in next-in prices dist via : List ℕ} {n 
         upto = h .to;
         there = h .there;
         from-is = as-read dist k (expand-room .0);
+        most = c .most;
         keeps = λ rank t a. (pass-to h a, as-read dist k (expand-room .0));
       }
 
@@ -141,6 +143,7 @@ module _ {d : Day} {order holds first-in next-in prices dist₀ dist via₀ via 
             dists = s .same-d ∙ s .can .dists;
             vias = s .same-v ∙ s .can .vias;
             low = omega (arith, s .from-is, s .can .near);
+            most = s .most;
             pays = λ j a e.
                 let w : In (scope d order n target) who j = record { from = rw i-is at a; to = omega (arith, to, rw i-is at e) } in
                 let best = s .can .scene .sound .accepted .best who j l w in
@@ -158,6 +161,7 @@ module _ {d : Day} {order holds first-in next-in prices dist₀ dist via₀ via 
             upto = next .to;
             there = λ b. next .there b ∙ here;
             from-is = s .from-is;
+            most = elim (o target) [ inl c ↦ omega (arith, c .less, c .far, s .most) | inr c ↦ omega (arith, c .far, s .most) ];
             keeps = λ rank t a.
                 let g = s .keeps rank t a in (
                   pass-to (rw here at next) (around-offered (g .0) dist₂ via₂ (s .can .scene) l here to (g .1) base-is sd sv (rw i-is at o)),
@@ -209,6 +213,7 @@ module _ {d : Day} {order holds first-in next-in prices dist rank via : List ℕ
       dists = find-rows .dists;
       vias = find-rows .vias;
       low = omega arith;
+      most = rw (c .all-far) (omega (arith, blank-far 98 target));
       pays = λ k a b.
           let w : In (scope d order n target) n k = record { from = rw i-is at a; to = omega (arith, window-to, rw i-is at b) } in
           (omega arith, rw i-is (c .scene .pays n k (omega arith) w));
@@ -260,6 +265,7 @@ module _ {d : Day} {order holds first-in next-in prices dist rank via : List ℕ
           vias = s .so-far .rows .vias;
           to = a .0;
           near = a .4;
+          most = s .so-far .most target;
         }
 
     module _ {dist₂ via₂ : List ℕ}

@@ -13,7 +13,7 @@ use Rattle.assignment.specs.Assignment.{Instance, In}
 use Rattle.assignment.proofs.Tests.{eq?, lt?, gate-eq, gate-ne}
 use Rattle.assignment.proofs.Sums.{count-move, count-member, count-all}
 use Rattle.assignment.proofs.Moves.{Moved}
-use Rattle.assignment.proofs.Near.{Offered, offered, near-start, near-reach, near-pass, near-offer, offer-kept, offer-falls}
+use Rattle.assignment.proofs.Near.{Offered, near-start, near-reach, near-pass, near-offer, offer-kept, offer-falls}
 use Rattle.assignment.proofs.Stuck.{Stuck, stuck-is-short}
 use Rattle.path.specs.Path.{el, far, away, dearest, Scene, Search, Around, CanNear, Nearest, Searched}
 use Rattle.path.proofs.Rows.{set-moved}
@@ -34,7 +34,7 @@ blank-far m k = elim (lt? k m) [
 
 module _ {d : Instance} {x p : ℕ → ℕ} {target : ℕ} (dist via : List ℕ) {hi : ℕ} (scene : Scene d x p target) (to : hi ≡ d .hi (d .n))
     (dists : length dist ≡ 98) (vias : length via ≡ 98)
-    (o : Offered (d .lo (d .n)) hi (λ k. d .cost (d .n) k + p k) (d .n) 0 0 (away (replicate 98 far)) (away dist) (el (replicate 98 (d .n))) (el via)) where
+    (o : Offered (d .lo (d .n)) hi (λ k. d .cost (d .n) k + p k) (d .n) 0 0 (away (replicate 98 far) target) (away (replicate 98 far)) (away dist) (el (replicate 98 (d .n))) (el via)) where
   fits : (k : ℕ) → d .lo (d .n) ≤ k → k ≤ hi → In d (d .n) k
   fits k a b = record { from = a; to = omega arith }
 
@@ -43,20 +43,15 @@ module _ {d : Instance} {x p : ℕ → ℕ} {target : ℕ} (dist via : List ℕ)
 
   -- a period of the window is no longer far
   heard : (k : ℕ) → In d (d .n) k → (away dist k ≡ d .cost (d .n) k + p k) × (el via k ≡ d .n)
-  heard k w =
-      let h = o .nearer k (w .from) (omega (arith, w .to)) (omega (arith, small k w, blank-far 98 k)) in
-      (omega (arith, h .0), h .1)
-
-  other : (k : ℕ) → (In d (d .n) k → ⊥) → (away dist k ≡ far) × (el via k ≡ el (replicate 98 (d .n)) k)
-  other k out = elim (offered o k) [
-    | inl c ↦ absurd (out (fits k (c .0) (c .1)))
-    | inr e ↦ (e .0 ∙ blank-far 98 k, e .1)
+  heard k w = elim (o k) [
+    | inl c ↦ (omega (arith, c .far), c .by)
+    | inr e ↦ absurd (omega (arith, e .no-nearer (w .from) (omega (arith, w .to)), small k w, blank-far 98 k, blank-far 98 target))
   ]
 
   near-in : (k : ℕ) → away dist k < far → In d (d .n) k
-  near-in k near = elim (offered o k) [
-    | inl c ↦ fits k (c .0) (c .1)
-    | inr e ↦ absurd (omega (arith, e .0, blank-far 98 k))
+  near-in k near = elim (o k) [
+    | inl c ↦ fits k (c .from-lo) (c .to-hi)
+    | inr e ↦ absurd (omega (arith, e .far, blank-far 98 k))
   ]
 
   pub search-start : Search d x p target dist (replicate 98 0) via 0 (d .n)
@@ -66,13 +61,10 @@ module _ {d : Instance} {x p : ℕ → ℕ} {target : ℕ} (dist via : List ℕ)
     rooted = λ k near. let w = near-in k near in (w, heard k w .0);
     reach = λ k w. omega (arith, heard k w .0);
     near = near-start (record { window = scene .sound .accepted .legal .window; best = scene .sound .accepted .best }) (λ _. refl)
-        (λ k l. elim (offered o k) [
-          | inl c ↦ heard k (fits k (c .0) (c .1)) .1
-          | inr e ↦ e .1 ∙ getD-replicate {A = ℕ} 98 k (d .n) 0 (omega (arith, scene .periods))
-        ]) (blank 98);
-    most = λ k. elim (offered o k) [
-      | inl c ↦ let w = fits k (c .0) (c .1) in omega (arith, heard k w .0, small k w)
-      | inr e ↦ omega (arith, e .0, blank-far 98 k)
+        (λ k l. elim (o k) [ inl c ↦ c .by | inr e ↦ e .by ∙ getD-replicate {A = ℕ} 98 k (d .n) 0 (omega (arith, scene .periods)) ]) (blank 98);
+    most = λ k. elim (o k) [
+      | inl c ↦ omega (arith, c .less, c .far, blank-far 98 k)
+      | inr e ↦ omega (arith, e .far, blank-far 98 k)
     ];
     inside = λ k near.
         let w = near-in k near in
@@ -170,7 +162,7 @@ module _ {d : Instance} {x p : ℕ → ℕ} {target : ℕ} {dist rank via : List
         full = λ j t. let b = s .reached j (ltb→lt 0 (el rank j) t) in scene .full j (b .0) (b .1);
         closed = λ i j l t w.
             let some = ltb→lt 0 (el rank (x i)) t in
-            near-is-reached out j (omega (arith, s .near .near i j l w some (inr l), s .reached (x i) some, scene .pays i j (omega arith) w, s .zeros));
+            near-is-reached out j (omega (arith, out, s .near .near i j l w some (inr l), s .reached (x i) some, scene .pays i j (omega arith) w, s .zeros));
         new = λ j w. near-is-reached out j (omega (arith, s .near .low j, s .reach j w, scene .pays (d .n) j (omega arith) w));
         some = scene .some;
       }
@@ -211,7 +203,7 @@ module _ {d : Instance} {x p : ℕ → ℕ} {target : ℕ} {dist rank via : List
 
   module _ (dist₂ via₂ : List ℕ) {hi from base : ℕ} (scene : Scene d x p target) (l : m < d .n) (lands : x m ≡ k) (to : hi ≡ d .hi m)
       (from-is : from ≡ away dist k) (base-is : base ≡ d .cost m k + p k) (dists : length dist₂ ≡ length dist) (vias : length via₂ ≡ length via)
-      (o : Offered (d .lo m) hi (λ k. d .cost m k + p k) m from base (away dist) (away dist₂) (el via) (el via₂)) where
+      (o : Offered (d .lo m) hi (λ k. d .cost m k + p k) m from base (away dist target) (away dist) (away dist₂) (el via) (el via₂)) where
     here : el rank (x m) ≡ t
     here = rw lands (s .here)
 
@@ -239,17 +231,17 @@ module _ {d : Instance} {x p : ℕ → ℕ} {target : ℕ} {dist rank via : List
         reach = s .so-far .reach;
         near = near-offer (s .so-far .near) l (s .some) here to from-x base-x o;
         most = λ j. omega (arith, offer-falls (s .so-far .near) l (s .some) here to from-x base-x o j, s .so-far .most j);
-        inside = λ j near. elim (offered o j) [
-          | inr f ↦ omega (arith, f .0, s .so-far .inside j (omega (arith, f .0)))
+        inside = λ j near. elim (o j) [
+          | inr f ↦ omega (arith, f .far, s .so-far .inside j (omega (arith, f .far)))
           | inl c ↦ omega (
             arith,
-            c .0,
-            c .1,
+            c .from-lo,
+            c .to-hi,
             to,
             scene .floor m l,
             scene .ceiling m (omega arith) (omega (arith, at-home)),
-            o .nearer j (c .0) (c .1) (c .2) .0,
-            scene .pays m j (omega arith) (record { from = c .0; to = omega (arith, c .1) }),
+            c .far,
+            scene .pays m j (omega arith) (record { from = c .from-lo; to = omega (arith, c .to-hi) }),
             from-is,
             s .so-far .reached k (omega (arith, s .here, s .some)),
           )

@@ -88,7 +88,7 @@ pub record Search (d : Instance) (x p : ℕ → ℕ) (target : ℕ) (dist rank v
   pub root : ℕ → ℕ
   pub rooted : (k : ℕ) → root k < far → In d (d .n) k × (root k ≡ d .cost (d .n) k + p k)
   pub reach : (k : ℕ) → In d (d .n) k → root k ≤ d .cost (d .n) k + p k
-  pub near : Near d x p root (away dist) (el rank) (el via) t m
+  pub near : Near d x p root (away dist) (el rank) (el via) target t m
   pub most : (k : ℕ) → away dist k ≤ far
   pub inside : (k : ℕ) → away dist k < far → (d .lo (d .n) ≤ k) × (k ≤ target) × (away dist k ≤ (t + 1) * dearest)
   pub reached : (k : ℕ) → 0 < el rank k → (d .lo (d .n) ≤ k) × (k < target) × (away dist k ≤ t * dearest)
@@ -125,11 +125,12 @@ pub record CanOffer (d : Day) (prices dist via : List ℕ) (target i from base :
   pub dists : length dist ≡ 98
   pub vias : length via ≡ 98
   pub low : from ≤ 98 * dearest
+  pub most : away dist target ≤ far
   pub pays : (k : ℕ) → due d i ≤ k → k ≤ min (latest d i) target → (base ≤ from + payment d prices i k) × (payment d prices i k ≤ dearest)
 
 abbrev pub Offers : (d : Day) (prices : List ℕ) (target i who from base : ℕ) (dist dist₂ via via₂ : List ℕ) → Type 0
 Offers d prices target i who from base dist dist₂ via via₂ =
-    Offered (due d i) (min (latest d i) target) (payment d prices i) who from base (away dist) (away dist₂) (el via) (el via₂)
+    Offered (due d i) (min (latest d i) target) (payment d prices i) who from base (away dist target) (away dist) (away dist₂) (el via) (el via₂)
 
 pub record CanExpand (d : Day) (order holds first-in next-in prices dist via : List ℕ) (n target k : ℕ) : Type 0 where
   pub table : Table d order
@@ -141,6 +142,7 @@ pub record CanExpand (d : Day) (order holds first-in next-in prices dist via : L
   pub vias : length via ≡ 98
   pub to : k < target
   pub near : away dist k ≤ 98 * dearest
+  pub most : away dist target ≤ far
 
 -- the flights that land in k have offered
 pub record Expanded (d : Instance) (x p : ℕ → ℕ) (target : ℕ) (dist dist₂ via via₂ : List ℕ) (k m : ℕ) : Type 0 where

@@ -60,7 +60,8 @@ fn nearest(dist: &[usize], rank: &[usize], first: usize, target: usize) -> usize
 }
 
 // The flight at table place i, who is known to the search as `who`, offers the periods of its window up to the target: from distance `from`,
-// where it pays `base`, to what it pays there.
+// where it pays `base`, to what it pays there. Costs rise with the hold, so that behind the first offer that is no nearer than the target
+// none is.
 fn offer(
     capacities: &[u32],
     flights: &[u32],
@@ -81,11 +82,16 @@ fn offer(
     let after = after_of(flights, i);
     let jump = jump_of(flights, i);
     let last = smaller(latest_of(capacities, flights, i), target);
+    let goal = dist[target];
     let mut k = due;
     while k <= last {
         let at = k;
         k += 1;
-        let away = from + (hold_cost(rate, after, jump, at - due) + of_period(prices, at)) - base;
+        let reach = from + hold_cost(rate, after, jump, at - due);
+        if goal + base <= reach {
+            return;
+        }
+        let away = reach + of_period(prices, at) - base;
         if away < dist[at] {
             dist[at] = away;
             via[at] = who;
