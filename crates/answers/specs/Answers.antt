@@ -1,7 +1,6 @@
 -- What the calls answer, as document 01 numbers it: the table under "Turned down", and 0 for an accepted call.
 -- Assumes nothing.
 use Prim.Native.Nat.{ℕ}
-use mathlib.Core.Bool.{Bool, true, false}
 use Rattle.answers.specs.declared.Answer.{Answer}
 use Rattle.answers.specs.declared.Answer.the-variants.{
   Read,

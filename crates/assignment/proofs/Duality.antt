@@ -5,7 +5,7 @@ use Prim.Native.Nat.{ℕ, _+_, _*_, _≤_, _<_}
 use native.Mathlib.Nat.{mul-le-mul-left}
 use native.Mathlib.Omega.{arith}
 use lib.Dec.{ltb, eqb}
-use Rattle.assignment.specs.Sum.{gate, sum, count}
+use Rattle.assignment.specs.Sum.{gate, count}
 use Rattle.assignment.specs.Assignment.{Instance, In, Plan, Legal, total, Cheapest, Accepted}
 use Rattle.assignment.proofs.Tests.{lt?, gate-ge}
 use Rattle.assignment.proofs.Sums.{sum-le, sum-add, sum-pick, exchange-all, gate-one}

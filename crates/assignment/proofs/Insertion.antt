@@ -11,7 +11,7 @@ use Rattle.assignment.specs.Assignment.{Instance, In, total, Accepted}
 use Rattle.assignment.proofs.Tests.{gate-eq, gate-ne, gate-lt, gate-ge, lt?, eq?}
 use Rattle.assignment.proofs.Sums.{count-suc, count-ext, count-zero, sum-ext}
 use Rattle.assignment.proofs.Moves.{Settled, Moved, moved-count, moved-total, moved-settled, put, put-moved}
-use Rattle.assignment.proofs.Saving.{Link, Held, stays, Smallest, smallest}
+use Rattle.assignment.proofs.Saving.{Link, Held, Smallest, smallest}
 use Rattle.assignment.proofs.Near.{Near}
 
 -- the day with the flight after the last

@@ -6,7 +6,7 @@ use mathlib.Core.Bool.{Bool, true, false, not, cond}
 use Prim.Native.Nat.{ℕ, _+_, _≤_, _<_}
 use native.Mathlib.Omega.{arith}
 use lib.Dec.{T, eqb, eqb-refl, eqb→eq, not-T}
-use Rattle.assignment.specs.Sum.{gate, sum, count}
+use Rattle.assignment.specs.Sum.{gate, count}
 use Rattle.assignment.specs.Assignment.{Instance, In, Plan, total}
 use Rattle.assignment.proofs.Tests.{eq?}
 use Rattle.assignment.proofs.Sums.{count-move, sum-set}

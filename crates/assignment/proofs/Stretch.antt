@@ -1,11 +1,10 @@
 -- A short stretch leaves no legal plan: the flights that must land in it do so in every legal plan, and at most its capacities do.
 -- Assumes nothing.
-use mathlib.Core.Path.{_≡_}
 use mathlib.Core.Bool.{_&&_}
 use Prim.Native.Nat.{ℕ, _+_, _*_, _≤_, _<_}
 use native.Mathlib.Omega.{arith}
 use lib.Dec.{T, leb, ltb, leb→le, le→leb}
-use Rattle.assignment.specs.Sum.{gate, sum, count}
+use Rattle.assignment.specs.Sum.{gate, count}
 use Rattle.assignment.specs.Assignment.{Instance, Plan, Legal, mustLand, room, Short}
 use Rattle.assignment.proofs.Tests.{gate-on, gate-le, gate-lt, gate-mul-le, and-T}
 use Rattle.assignment.proofs.Sums.{sum-le, exchange}

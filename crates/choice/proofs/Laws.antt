@@ -1,14 +1,11 @@
 -- The choice by totals, where a row that is not legal counts as dearer than any legal one.
 -- Assumes nothing.
-use mathlib.Core.Path.{_≡_, refl, sym, ap, _∙_}
-use mathlib.Core.Logic.{_⊎_, inl, inr}
-use mathlib.Core.Bool.{cond}
+use mathlib.Core.Path.{_≡_, refl, ap, _∙_}
 use mathlib.Core.List.{List}
-use Prim.Native.Nat.{ℕ, _+_, _≤_, _<_}
+use Prim.Native.Nat.{ℕ, _≤_, _<_}
 use native.Mathlib.Omega.{arith}
-use lib.Dec.{leb}
 use borrow.Author.Tests.{le-leb, lt-leb}
-use Rattle.day.specs.Day.{Day, total}
+use Rattle.day.specs.Day.{Day}
 use Rattle.day.proofs.Instance.{total-le}
 use Rattle.day.proofs.Valid.{valid-means}
 use Rattle.legality.specs.Check.{planCheck}

@@ -1,9 +1,8 @@
 -- The laws of a flight's cost and window, and of rows by period.
 -- Assumes nothing.
-use mathlib.Core.Path.{_≡_, refl, sym, ap}
+use mathlib.Core.Path.{_≡_, refl, ap}
 use mathlib.Core.Logic.{_≢_, inl, inr}
-use mathlib.Core.Bool.{Bool, true, false, cond}
-use mathlib.Core.List.{List, [], _∷_}
+use mathlib.Core.List.{List, _∷_}
 use Prim.Native.Nat.{ℕ, zero, suc, _+_, _-_, _*_, _≤_, _<_}
 use native.Mathlib.Nat.{mul-le-mul, mul-le-mul-left}
 use native.Mathlib.Omega.{arith}
@@ -11,7 +10,7 @@ use lib.Dec.{ltb}
 use lib.ListN.{length, getD, List·getD-eq-default}
 use borrow.Author.Tests.{lt-ltb, le-ltb, eq-eqb, ne-eqb}
 use Rattle.assignment.specs.Sum.{gate}
-use Rattle.assignment.proofs.Tests.{lt?, eq?, gate-lt, gate-ge}
+use Rattle.assignment.proofs.Tests.{lt?, gate-lt, gate-ge}
 use Rattle.day.specs.Day.{Day, P, due, rate, after, jump, limit, ofPeriod, cost, latest}
 
 -- ---- rows by period

@@ -3,20 +3,20 @@
 -- Assumes nothing.
 use mathlib.Core.Path.{_≡_, refl, sym, ap, _∙_}
 use mathlib.Core.Logic.{_≢_, inl, inr}
-use mathlib.Core.Bool.{Bool, true, false, _&&_}
+use mathlib.Core.Bool.{_&&_}
 use mathlib.Core.List.{List}
-use Prim.Native.Nat.{ℕ, zero, suc, _+_, _-_, _*_, _≤_, _<_, min}
+use Prim.Native.Nat.{ℕ, zero, suc, _+_, _-_, _≤_, _<_, min}
 use native.Mathlib.Nat.{mul-le-mul}
 use native.Mathlib.Omega.{arith}
-use lib.ListN.{length, getD}
-use lib.Dec.{T, leb, ltb, eqb, leb→le, le→leb}
-use Rattle.assignment.specs.Sum.{gate, sum, count}
+use lib.ListN.{length}
+use lib.Dec.{leb, eqb}
+use Rattle.assignment.specs.Sum.{gate, count}
 use Rattle.assignment.specs.Assignment as A
-use Rattle.assignment.proofs.Tests.{lt?, eq?, test, gate-on, gate-off, gate-lt, gate-ge, gate-eq, gate-ne, and-T, T-and}
+use Rattle.assignment.proofs.Tests.{lt?, eq?, gate-eq, gate-ne}
 use Rattle.assignment.proofs.Sums.{sum-ext, sum-zero, sum-most, count-le}
 use Rattle.assignment.proofs.Duality as duality
 use Rattle.assignment.proofs.Stretch as stretch
-use Rattle.day.specs.Day.{Day, P, N, due, rate, after, jump, limit, ofPeriod, capacity, cost, latest, Window, hold, land, landings, total}
+use Rattle.day.specs.Day.{Day, P, N, due, rate, after, ofPeriod, capacity, cost, latest, Window, hold, land, total}
 use Rattle.day.specs.Plan.{Legal, Cheapest, Accepted, mustLand, room, Short}
 use borrow.Author.Tests.{le-leb, lt-leb}
 use Rattle.day.proofs.Costs.{period-out, cost-over, cost-under}
@@ -56,10 +56,6 @@ places-in d k l = omega (arith, gate-ne k (P d + 1) 256 (omega arith))
 pub places-closing : (d : Day) → places d (P d + 1) ≡ 256
 unfolding places
 places-closing d = omega (arith, gate-eq (P d + 1) (P d + 1) 256 refl, period-out (d .capacities) (P d + 1) (omega arith))
-
-places-out : (d : Day) (k : ℕ) → P d + 1 < k → places d k ≡ 0
-unfolding places
-places-out d k l = omega (arith, gate-ne k (P d + 1) 256 (omega arith), period-out (d .capacities) k (omega arith))
 
 -- ---- windows
 

@@ -2,11 +2,11 @@
 -- A plan is a row of N holds, in table order.
 -- Assumes nothing.
 use mathlib.Core.Path.{_≡_}
-use mathlib.Core.Bool.{Bool, true, false, cond, not, _&&_, _||_}
+use mathlib.Core.Bool.{Bool, cond, not, _&&_, _||_}
 use mathlib.Core.List.{List}
-use Prim.Native.Nat.{ℕ, zero, suc, _+_, _-_, _*_, _≤_, _<_}
-use lib.ListN.{length, getD}
-use lib.Dec.{leb, ltb, eqb}
+use Prim.Native.Nat.{ℕ, zero, suc, _+_, _-_, _≤_, _<_}
+use lib.ListN.{length}
+use lib.Dec.{leb, ltb}
 use Rattle.assignment.specs.Sum.{gate, sum, count}
 use Rattle.day.specs.Day.{Day, P, N, due, jump, limit, missing, ofPeriod, capacity, cost, latest, Window, hold, land, landings, total}
 

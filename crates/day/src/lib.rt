@@ -1,7 +1,7 @@
 // The day in two lent rows: its numbers, its check (refusal 6), and what a hold costs and where it lands.
 ghost use mathlib.Core.Path.{_≡_};
-ghost use mathlib.Core.Bool.{Bool, true, false, _&&_, _||_};
-ghost use Prim.Native.Nat.{ℕ, _+_, _*_, _/_, _^_, _<_, _≤_};
+ghost use mathlib.Core.Bool.{true, false, _&&_, _||_};
+ghost use Prim.Native.Nat.{_+_, _*_, _/_, _^_, _<_, _≤_};
 ghost use lib.ListN.{getD, length};
 ghost use lib.Dec.{leb};
 ghost use Rattle.day.specs.Day.{day, column, width, ofPeriod, land, cost, latest, all, inside, missing, numbersFit, inRange, isNew, valid};

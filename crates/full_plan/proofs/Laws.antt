@@ -3,19 +3,18 @@
 use mathlib.Core.Path.{_≡_, refl, sym, ap, _∙_}
 use mathlib.Core.Bool.{true, false}
 use mathlib.Core.List.{List}
-use Prim.Native.Nat.{ℕ, _≤_}
+use Prim.Native.Nat.{ℕ}
 use native.Mathlib.Omega.{arith}
 use lib.ListN.{length}
-use lib.Dec.{eqb}
 use borrow.Author.Tests.{eq-eqb, ne-eqb}
 use Rattle.answers.specs.declared.Answer.{Answer}
 use Rattle.answers.specs.declared.Answer.the-variants.{Planned, BadDay, BadLength, NoPlan}
-use Rattle.day.specs.Day.{Day, day, P, N, total, valid}
+use Rattle.day.specs.Day.{Day, day, P, N, valid}
 use Rattle.day.specs.Plan.{Short, Picked}
 use Rattle.day.proofs.Instance.{accepted-is-cheapest, total-le}
 use Rattle.day.proofs.Valid.{valid-means}
 use Rattle.insertion.specs.Insertion as insertion
-use Rattle.full_plan.specs.FullPlan.{BestPlan, NoLegalPlan, Solved, plan, none, Refused, FullPlan}
+use Rattle.full_plan.specs.FullPlan.{Solved, plan, none, Refused, FullPlan}
 
 refused : {a : Answer} {h p : List ℕ} → Refused a a h p h p
 refused = record { refusal-is = refl; same-holds = refl; same-prices = refl }

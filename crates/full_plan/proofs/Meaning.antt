@@ -1,6 +1,6 @@
 -- What the full plan's contract comes to: answer 9 exactly when there is no legal plan, and the quick plan's total where that applies.
 -- Assumes nothing.
-use mathlib.Core.Path.{_≡_, sym, ap, _∙_}
+use mathlib.Core.Path.{_≡_, sym, _∙_}
 use mathlib.Core.Logic.{_↔_}
 use mathlib.Core.Bool.{true}
 use mathlib.Core.List.{List}

@@ -1,7 +1,12 @@
 // The program: a day sheet on standard input, its full plan's text or a refusal on standard output.
 ghost use mathlib.Core.Path.{_≡_};
+ghost use mathlib.Core.Bool.{true};
 ghost use Prim.Native.Nat.{_≤_};
-ghost use lib.ListN.{length};
+ghost use lib.ListN.{length, take};
+ghost use Rattle.day.specs.Day.{day, P, N, valid};
+ghost use Rattle.day.specs.Plan.{Legal};
+ghost use Rattle.plan_text.specs.PlanText.{planText};
+ghost use Rattle.hold_desk.specs.Program.{Front, refusalOf, PrintsDay, Prints};
 use answers::Answer;
 use answers::code_of;
 
@@ -24,56 +29,53 @@ fn hold_row() -> [u32; 128]
     [0; 128]
 }
 
-// The first n entries of a row, or all of it where it has fewer.
-fn front<'a>(row: &'a [u32], n: usize) -> &'a [u32] {
-    if n <= row.len() {
-        return &row[0..n];
-    }
-    row
-}
-
-fn front_mut<'a>(row: &'a mut [u32], n: usize) -> &'a mut [u32] {
-    if n <= row.len() {
-        return &mut row[0..n];
-    }
-    row
-}
-
-// Writes what a call answered: the length of the text, where a text was written, or of the refusal's two lines.
-fn report(answer: Answer, text: &mut [u8]) -> usize {
+// The two lines of a refusal, at the front of the text; how many bytes.
+fn put_refusal(answer: Answer, text: &mut [u8]) -> usize
+    requires { ⌜ 4096 ≤ length (now text) ⌝ }
+    ensures { λ r. ⌜ Front (now (text .exit)) r (refusalOf answer) ⌝ }
+{
     let code = code_of(answer);
     let number = code.number as usize;
     let first = code.first as usize;
-    if number == 0 {
-        return first;
-    }
     let second = code.second as usize;
     let written = code_of(text::write_refusal(number, first, second, text));
     written.first as usize
 }
 
-// The full plan of a day, as text.
+// The text of a legal plan, at the front of the text; how many bytes.
+fn put_plan(capacities: &[u32], flights: &[u32], holds: &[u32], text: &mut [u8]) -> usize
+    requires { ⌜ (valid (day (now capacities) (now flights)) ≡ true) × Legal (day (now capacities) (now flights)) (now holds) × (4096 ≤ length (now text)) ⌝ }
+    ensures { λ r. ⌜ Front (now (text .exit)) r (planText (day (now (capacities .entry)) (now (flights .entry))) (now (holds .entry))) ⌝ }
+{
+    let written = code_of(plan_text::write_plan(capacities, flights, holds, text, 0));
+    written.first as usize
+}
+
+// The full plan of a valid day, or the stretch that leaves none, at the front of the text; how many bytes.
 fn plan_day(
     capacities: &[u32],
     flights: &[u32],
     holds: &mut [u32],
     prices: &mut [u32],
     text: &mut [u8],
-) -> usize {
+) -> usize
+    requires { ⌜ (valid (day (now capacities) (now flights)) ≡ true) × (length (now holds) ≡ N (day (now capacities) (now flights))) × (length (now prices) ≡ P (day (now capacities) (now flights))) × (4096 ≤ length (now text)) ⌝ }
+    ensures { λ r. ⌜ (r ≤ length (now (text .exit))) × PrintsDay (day (now (capacities .entry)) (now (flights .entry))) (take r (now (text .exit))) ⌝ }
+{
     let planned = full_plan::full_plan(capacities, flights, holds, prices);
     let code = code_of(planned);
     let number = code.number;
-    if number != 0 {
-        return report(planned, text);
+    if number == 0 {
+        return put_plan(capacities, flights, holds, text);
     }
-    report(
-        plan_text::write_plan(capacities, flights, holds, text, 0),
-        text,
-    )
+    put_refusal(planned, text)
 }
 
-// The answer to a sheet, as text.
-fn plan_sheet(sheet: &[u8], text: &mut [u8]) -> usize {
+// The answer to a sheet, at the front of the text; how many bytes.
+fn answer_sheet(sheet: &[u8], text: &mut [u8]) -> usize
+    requires { ⌜ 4096 ≤ length (now text) ⌝ }
+    ensures { λ r. ⌜ (r ≤ length (now (text .exit))) × Prints (now (sheet .entry)) (take r (now (text .exit))) ⌝ }
+{
     let mut capacities = capacity_row();
     let mut flights = flight_row();
     let mut holds = hold_row();
@@ -82,19 +84,15 @@ fn plan_sheet(sheet: &[u8], text: &mut [u8]) -> usize {
     let code = code_of(read);
     let number = code.number;
     if number != 0 {
-        return report(read, text);
+        return put_refusal(read, text);
     }
     let periods = code.first as usize;
     let count = code.second as usize;
-    // The reader gives at most 128 flights; the test is what the product below needs.
-    if 128 < count {
-        return report(read, text);
-    }
     plan_day(
-        front(&capacities, periods),
-        front(&flights, count * day::WIDTH),
-        front_mut(&mut holds, count),
-        front_mut(&mut prices, periods),
+        &capacities[0..periods],
+        &flights[0..count * day::WIDTH],
+        &mut holds[0..count],
+        &mut prices[0..periods],
         text,
     )
 }
@@ -102,10 +100,8 @@ fn plan_sheet(sheet: &[u8], text: &mut [u8]) -> usize {
 fn main() {
     let mut sheet = io::large_buffer();
     let read = io::read_full(0, &mut sheet);
+    // 4,096 bytes: room for every answer.
     let mut text = io::buffer();
-    let length = plan_sheet(&sheet[0..read], &mut text);
-    // No plan's text is as long as this buffer.
-    if length <= 4096 {
-        io::write_all(1, &text[0..length]);
-    }
+    let length = answer_sheet(&sheet[0..read], &mut text);
+    io::write_all(1, &text[0..length]);
 }

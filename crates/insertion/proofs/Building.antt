@@ -9,7 +9,7 @@ use Rattle.assignment.specs.Sum.{sum}
 use Rattle.assignment.specs.Assignment as A
 use Rattle.assignment.proofs.Insertion.{Sound, sound-start, price-le}
 use Rattle.assignment.proofs.Permuted.{permuted-accepted, permuted-total}
-use Rattle.day.specs.Day.{Day, P, N, ofPeriod, land, total}
+use Rattle.day.specs.Day.{Day, N, ofPeriod, land, total}
 use Rattle.day.proofs.Instance.{instance, instance-accepted, total-instance}
 use Rattle.due_order.specs.DueOrder.{DueOrder, CanOrder}
 use Rattle.path.specs.Path.{landing}

@@ -4,20 +4,18 @@ use mathlib.Core.Path.{_≡_, refl, ap, _∙_}
 use mathlib.Core.Logic.{_⊎_, inl, inr, _≢_}
 use mathlib.Core.List.{List}
 use Prim.Native.Nat.{ℕ, suc, _+_, _-_, _*_, _≤_, _<_}
-use native.Mathlib.Nat.{mul-le-mul-left}
 use native.Mathlib.Omega.{arith}
-use lib.Dec.{ltb}
 use lib.ListN.{getD, length, set, replicate, length-replicate, getD-replicate}
-use Rattle.assignment.specs.Sum.{gate, count}
+use Rattle.assignment.specs.Sum.{count}
 use Rattle.assignment.specs.Assignment as A
-use Rattle.assignment.proofs.Tests.{eq?, lt?, gate-lt, gate-ge}
+use Rattle.assignment.proofs.Tests.{eq?, lt?}
 use Rattle.assignment.proofs.Sums.{sum-most, count-le}
 use Rattle.assignment.proofs.Moves.{Moved}
 use Rattle.assignment.proofs.Near.{Step}
 use Rattle.assignment.proofs.Insertion.{Sound, Found, price-le, going, ground, order as reach-order, z-free, going-end, going-total, sound-ext, total-ext}
 use Rattle.assignment.proofs.Permuted.{permuted-short}
 use Rattle.assignment.proofs.Restricted.{Rising, until-near, until-le, restricted, restrict, widen, widen-short}
-use Rattle.day.specs.Day.{Day, width, P, N, ofPeriod, due, rate, after, jump, limit, cost}
+use Rattle.day.specs.Day.{Day, width, P, N, ofPeriod, due, limit, cost}
 use Rattle.day.proofs.Costs.{latest-missing, latest-given, cost-grows}
 use Rattle.day.proofs.Instance.{instance, last, last-to, places, places-in, places-closing, cost-le, instance-short}
 use Rattle.path.specs.Path.{el, far, away, scope, landing, Table, Scene, CanSearch, Searched}

@@ -14,7 +14,7 @@ use Rattle.assignment.proofs.Sums.{count-suc, count-zero, count-le}
 use Rattle.assignment.proofs.Moves.{Moved, put, put-moved}
 use Rattle.assignment.proofs.Insertion.{Going, going-step}
 use Rattle.assignment.proofs.Permuted.{permuted-apart}
-use Rattle.day.specs.Day.{Day, P, N, width, ofPeriod, due, land}
+use Rattle.day.specs.Day.{Day, N, width, ofPeriod, due, land}
 use Rattle.day.proofs.Costs.{period-out}
 use Rattle.path.specs.Path.{el, away, landing, Table, Next}
 use Rattle.path.proofs.Rows.{set-moved, as-read}

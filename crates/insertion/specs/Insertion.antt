@@ -10,7 +10,7 @@ use Rattle.assignment.specs.Assignment as A
 use Rattle.assignment.proofs.Moves.{Moved}
 use Rattle.assignment.proofs.Insertion.{Sound, Going}
 use Rattle.assignment.proofs.Permuted.{ordered}
-use Rattle.day.specs.Day.{Day, day, P, N, ofPeriod, due, total}
+use Rattle.day.specs.Day.{Day, P, N, ofPeriod, due, total}
 use Rattle.day.specs.Plan.{Accepted, Short}
 use Rattle.day.proofs.Valid.{Valid}
 use Rattle.day.proofs.Instance.{instance}

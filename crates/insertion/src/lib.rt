@@ -2,7 +2,7 @@
 // The lent rows are the plan: the hold row has the holds of the flights that are placed, the price row the prices. Only the order of the
 // flights and what one search needs stand in rows of their own.
 ghost use mathlib.Core.Path.{_≡_};
-ghost use Prim.Native.Nat.{ℕ, _+_, _-_, _*_, _<_, _≤_};
+ghost use Prim.Native.Nat.{_+_, _-_, _*_, _<_, _≤_};
 ghost use lib.ListN.{length, set};
 ghost use Rattle.day.specs.Day.{day, width, column, N};
 ghost use Rattle.insertion.specs.Insertion.{CanChain, Chains, CanFind, FirstRoom, CanWalk, Walked, CanRaise, Raised, Placed, Inserted, Cleared, CanInsert, Planned};

@@ -1,7 +1,6 @@
 -- What each finding of the check says of the day and its hold row.
 -- Assumes nothing.
-use mathlib.Core.Path.{_≡_, refl, sym, ap, _∙_}
-use mathlib.Core.Logic.{_≢_, inl, inr}
+use mathlib.Core.Path.{_≡_, refl, sym, _∙_}
 use mathlib.Core.Bool.{Bool, true, false, cond}
 use mathlib.Core.List.{List}
 use Prim.Native.Nat.{ℕ}
@@ -11,7 +10,7 @@ use lib.Dec.{eqb}
 use borrow.Author.Tests.{eq-eqb, eqb-true, eqb-false}
 use Rattle.day.specs.Day.{Day, N, total, valid}
 use Rattle.day.specs.Plan.{Legal, firstBreak}
-use Rattle.day.proofs.Valid.{Valid, valid-means}
+use Rattle.day.proofs.Valid.{valid-means}
 use Rattle.legality.specs.Check.{planCheck, walked}
 use Rattle.legality.specs.declared.PlanCheck.{PlanCheck}
 use Rattle.legality.specs.declared.PlanCheck.the-variants as found

@@ -1,18 +1,18 @@
 -- The walk finds no flight that breaks the row exactly when the row is legal.
 -- Assumes nothing.
-use mathlib.Core.Path.{_≡_, refl, sym, ap, _∙_}
-use mathlib.Core.Logic.{_≢_, inl, inr, _↔_}
-use mathlib.Core.Bool.{Bool, true, false, _&&_, _||_}
+use mathlib.Core.Path.{_≡_, ap}
+use mathlib.Core.Logic.{inl, inr, _↔_}
+use mathlib.Core.Bool.{false}
 use mathlib.Core.List.{List}
 use Prim.Native.Nat.{ℕ, zero, suc, _+_, _-_, _≤_, _<_}
 use native.Mathlib.Omega.{arith}
 use lib.ListN.{length}
-use lib.Dec.{leb, ltb, eqb}
+use lib.Dec.{eqb}
 use borrow.Author.Tests.{le-ltb, le-leb, lt-leb, ltb-false}
 use Rattle.assignment.specs.Sum.{gate, sum, count}
-use Rattle.assignment.proofs.Tests.{lt?, eq?, gate-eq, gate-ne}
+use Rattle.assignment.proofs.Tests.{lt?, eq?, gate-ne}
 use Rattle.assignment.proofs.Sums.{count-suc, count-zero, sum-grow}
-use Rattle.day.specs.Day.{Day, P, N, due, capacity, latest, land, landings}
+use Rattle.day.specs.Day.{Day, P, N, capacity, latest, land}
 use Rattle.day.specs.Plan.{Legal, tooLong, overCapacity, breaks, firstBreak}
 use Rattle.day.proofs.Tests.{first-none, none-passes}
 use Rattle.day.proofs.Valid.{Valid}

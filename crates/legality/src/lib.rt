@@ -1,12 +1,12 @@
 // A hold row checked against its day: refusals 6, 7 and 10, or the plan's total.
 ghost use mathlib.Core.Path.{_≡_};
 ghost use mathlib.Core.Bool.{true, false};
-ghost use Prim.Native.Nat.{ℕ, _+_, _*_, _^_, _<_, _≤_};
+ghost use Prim.Native.Nat.{_+_, _*_, _<_, _≤_};
 ghost use lib.ListN.{length};
-ghost use Rattle.day.specs.Day.{day, N, land, total, valid};
+ghost use Rattle.day.specs.Day.{day, N, total, valid};
 ghost use Rattle.day.specs.Plan.{tooLong, overCapacity, firstBreak};
 ghost use Rattle.legality.specs.Check.{planCheck};
-ghost use Rattle.legality.specs.Loop.{Walked, Summed};
+ghost use Rattle.legality.specs.Loop.{Walked};
 
 pub enum PlanCheck {
     BadDay,

@@ -85,10 +85,6 @@ module _ {d : Instance} {x p : ℕ → ℕ} {target : ℕ} {dist rank via : List
     within = omega (arith, scene .within, scene .periods);
   }
 
-  -- the target is not reached
-  target-fresh : el rank target ≡ 0
-  target-fresh = elim (lt? 0 (el rank target)) [ inl some ↦ absurd (omega (arith, s .reached target some)) | inr none ↦ omega arith ]
-
   module _ {first k : ℕ} (first-is : first ≡ d .lo (d .n)) (a : Nearest dist rank first target k) where
     -- nothing that is not reached is nearer
     nearest-least : (j : ℕ) → el rank j ≡ 0 → away dist k ≤ away dist j

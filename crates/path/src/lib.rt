@@ -1,6 +1,6 @@
 // The search for the cheapest chain of moves that makes room for a new flight: periods are reached in the order of their distances.
 ghost use mathlib.Core.Path.{_≡_};
-ghost use Prim.Native.Nat.{ℕ, _+_, _*_, _^_, _<_, _≤_, min};
+ghost use Prim.Native.Nat.{_+_, _*_, _^_, _<_, min};
 ghost use lib.Dec.{ltb};
 ghost use Rattle.assignment.specs.Sum.{gate};
 ghost use Rattle.day.specs.Day.{day, ofPeriod};

@@ -1,12 +1,11 @@
 // The text of a plan, put into a lent byte buffer from a given place on.
 ghost use mathlib.Core.Path.{_≡_};
-ghost use mathlib.Core.Bool.{true};
-ghost use mathlib.Core.List.{List, [], _∷_, _++_};
-ghost use Prim.Native.Nat.{ℕ, _+_, _*_, _≤_, _<_};
+ghost use mathlib.Core.List.{[], _∷_};
+ghost use Prim.Native.Nat.{_+_, _*_, _≤_, _<_};
 ghost use lib.ListN.{length};
 ghost use Rattle.text.specs.Digits.{ended};
 ghost use Rattle.text.specs.Writing.{Put, textAnswer, textAfter};
-ghost use Rattle.day.specs.Day.{day, N, number, due, cost, hold, land, total, valid};
+ghost use Rattle.day.specs.Day.{day, N, number, due, cost, hold, land, total};
 ghost use Rattle.plan_text.specs.PlanText.{planNames, totalName, planLine, planLines, planText, planTextAnswer, planTextAfter};
 use answers::Answer;
 use legality::PlanCheck;

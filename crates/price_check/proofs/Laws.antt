@@ -1,18 +1,17 @@
 -- The laws of the price check's loops, and how its parts make up the whole.
 -- Assumes nothing.
-use mathlib.Core.Path.{_≡_, refl, sym, ap, _∙_}
-use mathlib.Core.Logic.{_≢_, inl, inr}
+use mathlib.Core.Path.{_≡_, sym, ap, _∙_}
+use mathlib.Core.Logic.{inl, inr}
 use mathlib.Core.Bool.{Bool, true, false, cond}
 use mathlib.Core.List.{List}
-use Prim.Native.Nat.{ℕ, zero, suc, _+_, _-_, _*_, _≤_, _<_}
+use Prim.Native.Nat.{ℕ, _+_, _-_, _*_, _≤_, _<_}
 use native.Mathlib.Numerals.{add-one}
 use native.Mathlib.Omega.{arith}
 use lib.ListN.{length}
-use lib.Dec.{eqb}
-use Rattle.assignment.specs.Sum.{gate, count}
+use Rattle.assignment.specs.Sum.{count}
 use Rattle.assignment.proofs.Tests.{eq?, gate-eq, gate-ne}
 use Rattle.assignment.proofs.Sums.{count-suc, count-zero}
-use Rattle.day.specs.Day.{Day, P, N, due, ofPeriod, capacity, cost, latest, Window, hold, land, landings, valid}
+use Rattle.day.specs.Day.{Day, P, N, due, ofPeriod, capacity, cost, latest, hold, land, landings, valid}
 use Rattle.day.specs.Plan.{Legal, Cheapest, Accepted}
 use Rattle.day.proofs.Instance.{hold-le, cost-le, accepted-is-cheapest}
 use Rattle.day.proofs.Valid.{Valid, valid-means}
@@ -100,9 +99,6 @@ pub record Bests (d : Day) (h p : List ℕ) (i k : ℕ) : Type 0 where
   pub place : i < length h
   pub from : due d i ≤ k
   pub passed : (j : ℕ) → due d i ≤ j → j < k → Least d h p i j
-
-pub best-start : {d : Day} {h p : List ℕ} {i : ℕ} → valid d ≡ true → Legal d h → i < length h → Bests d h p i (due d i)
-best-start good legal place = record { good = good; legal = legal; place = place; from = omega arith; passed = λ j a b. absurd (omega arith) }
 
 -- the landing itself: within the day, at a cost that is small
 module _ {d : Day} {h : List ℕ} {i : ℕ} (good : valid d ≡ true) (legal : Legal d h) (place : i < length h) where

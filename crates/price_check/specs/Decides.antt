@@ -4,7 +4,7 @@ use mathlib.Core.Path.{_≡_}
 use mathlib.Core.Bool.{Bool, true, false}
 use mathlib.Core.List.{List}
 use Prim.Native.Nat.{ℕ, _+_, _-_, _≤_, _<_}
-use Rattle.day.specs.Day.{Day, P, N, due, ofPeriod, capacity, cost, Window, hold, land, landings}
+use Rattle.day.specs.Day.{Day, due, ofPeriod, capacity, cost, Window, hold, land, landings}
 
 -- the answer r is yes exactly if A holds
 pub record Decides (r : Bool) (A : Type 0) : Type 0 where

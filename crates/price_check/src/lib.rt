@@ -1,10 +1,9 @@
 // The price check: whether prices show that a plan is cheapest.
 ghost use mathlib.Core.Path.{_≡_};
 ghost use mathlib.Core.Bool.{true, false};
-ghost use mathlib.Core.Logic.{_↔_};
-ghost use Prim.Native.Nat.{ℕ, _+_, _*_, _<_, _≤_};
+ghost use Prim.Native.Nat.{ℕ, _+_, _<_, _≤_};
 ghost use lib.ListN.{length};
-ghost use Rattle.day.specs.Day.{day, P, N, valid, landings};
+ghost use Rattle.day.specs.Day.{day, N, valid, landings};
 ghost use Rattle.day.specs.Plan.{Legal, Cheapest, Accepted};
 ghost use Rattle.price_check.specs.Decides.{Decides, Unsold, Best};
 

@@ -119,9 +119,6 @@ pub record Landing (d : Day) (j m : ℕ) (h₀ : List ℕ) (left : ℕ) (h : Lis
   pub same-length : length h ≡ length h₀
   pub same-row : landAll d j m h₀ ≡ landAll d j left h
 
-pub landing-start : {d : Day} {j m : ℕ} {h : List ℕ} → j ≤ P d → length h ≡ N d → Landing d j m h m h
-landing-start p e = record { open-period = p; rows = e; same-length = refl; same-row = refl }
-
 module _ {d : Day} {j m left : ℕ} {h₀ h : List ℕ} (s : Landing d j m h₀ left h) where
   module _ {b : ℕ} (eb : b ≡ top d j h) where
     pub landing-stop : b ≡ length h₀ → h ≡ landAll d j m h₀
@@ -233,9 +230,6 @@ pub plain-start : {d : Day} {n : ℕ} → n ≡ N d → Plain d n 0
 plain-start e = record { size = e; within = omega arith; none = λ k l. absurd (omega arith) }
 
 module _ {d : Day} {n i : ℕ} (s : Plain d n i) where
-  pub plain-there : i < n → (i + 1) * width ≤ length (d .flights)
-  plain-there l = there d i (omega (arith, s .size))
-
   stops : i < n → jumpOrLimit d i ≡ true → i ≡ firstJumpOrLimit d
   unfolding firstJumpOrLimit
   stops l e = sym (first-at (N d) (jumpOrLimit d) i (omega (arith, s .size)) (s .none) e)

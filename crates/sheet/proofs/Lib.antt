@@ -3,3 +3,4 @@ pub mod Grammar
 pub mod Rows
 pub mod Good
 pub mod RoundTrip
+pub mod Refusals

@@ -1,8 +1,8 @@
 // The writer of day sheets: it puts a day's sheet into a lent byte buffer, from a given place on.
 ghost use mathlib.Core.Path.{_≡_};
-ghost use mathlib.Core.List.{List, [], _∷_, _++_};
-ghost use Prim.Native.Nat.{ℕ, _+_, _*_, _≤_, _<_};
-ghost use lib.ListN.{length, getD};
+ghost use mathlib.Core.List.{[], _∷_};
+ghost use Prim.Native.Nat.{_+_, _*_, _≤_, _<_};
+ghost use lib.ListN.{length};
 ghost use Rattle.text.specs.Writing.{Put};
 ghost use Rattle.day.specs.Day.{day, column};
 ghost use Rattle.sheet.specs.Flights.{flightAt, firstFlights};

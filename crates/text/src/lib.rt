@@ -1,8 +1,7 @@
 // Numbers and fixed lines as bytes: read from a slice, and written to the front of a lent part.
 ghost use mathlib.Core.Path.{_≡_};
-ghost use mathlib.Core.List.{List, [], _∷_, _++_};
-ghost use Prim.Native.Nat.{ℕ, _+_, _-_, _*_, _%_, _^_, _≤_, _<_};
-ghost use lib.ListN.{length, take, drop};
+ghost use Prim.Native.Nat.{_+_, _-_, _*_, _%_, _≤_, _<_};
+ghost use lib.ListN.{length, drop};
 ghost use Rattle.text.specs.Digits.{digits, ended, separated, line};
 ghost use Rattle.text.specs.Reading.{isDigit, run, value, number, field};
 ghost use Rattle.text.specs.Fixed.{startsWith, refusalNames, refusalText};

@@ -4,7 +4,6 @@ use mathlib.Core.Path.{_∙_, sym}
 use Prim.Native.Nat.{_-_}
 use Rattle.day.specs.Day.{day}
 use Rattle.path.proofs.Expanding.{Finding, find-rows, find-room, find-stands, find-offer, finding-near, finding-start, finding-end, finding-in, finding-expand, finding-again, finding-next}
-use borrow.Author.Needs.{needs}
 use Rattle.path.proofs.find_path.Statement.{statement}
 use Rattle.path.proofs.find_path.Tie as tie
 

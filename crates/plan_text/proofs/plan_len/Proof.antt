@@ -3,7 +3,6 @@ use Rattle.plan_text.proofs.Placing.{length-plan}
 use Rattle.day.specs.Day.{day}
 use Prim.Native.Nat.{_-_}
 use native.Mathlib.Omega.{arith}
-use lib.ListN.{length}
 use borrow.Author.Needs.{needs}
 use Rattle.plan_text.proofs.plan_len.Statement.{statement}
 use Rattle.plan_text.proofs.plan_len.Tie as tie

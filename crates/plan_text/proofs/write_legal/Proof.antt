@@ -5,7 +5,6 @@ use Rattle.plan_text.specs.PlanText.{planText}
 use Prim.Native.Nat.{_≤_, _+_, _-_}
 use native.Mathlib.Omega.{arith}
 use mathlib.Core.Path.{_≡_}
-use mathlib.Core.Bool.{not}
 use lib.ListN.{length}
 use borrow.Author.Needs.{needs}
 use Rattle.plan_text.proofs.write_legal.Statement.{statement}

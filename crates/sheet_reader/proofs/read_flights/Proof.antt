@@ -6,7 +6,7 @@ use Rattle.sheet.specs.Lines.{flightLine, flightFits, used}
 use Rattle.sheet.specs.declared.FlightLine.the-variants.{Row}
 use mathlib.Core.Bool.{true, false}
 use Rattle.sheet.specs.Flights.{firstFlights}
-use Rattle.sheet.specs.Sheet.{read, readFlights, reading}
+use Rattle.sheet.specs.Sheet.{readFlights}
 use lib.ListN.{length, take}
 use mathlib.Core.List.{List, []}
 use Prim.Native.Nat.{ℕ, _≤_, _<_, _-_}

@@ -7,7 +7,7 @@ use Rattle.sheet.specs.Text.{flightNames}
 use Rattle.text.specs.Fixed.{startsWith}
 use lib.ListN.{drop, length-set}
 use mathlib.Core.Bool.{true, false}
-use Rattle.sheet.specs.Sheet.{read, readPeriods, reading}
+use Rattle.sheet.specs.Sheet.{readPeriods}
 use lib.ListN.{length, take}
 use mathlib.Core.List.{[]}
 use Prim.Native.Nat.{_≤_, _<_, _-_}

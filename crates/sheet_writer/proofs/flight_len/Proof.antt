@@ -1,12 +1,10 @@
 -- The line's length is that of its two parts.
 use Rattle.sheet_writer.proofs.Placing.{values, values-are, limit-is}
 use Rattle.sheet_writer.proofs.Placing.{length-flight}
-use Rattle.text.specs.Digits.{line}
 use Rattle.sheet.specs.Flights.{flightAt}
 use Prim.Native.Nat.{_-_}
 use native.Mathlib.Omega.{arith}
 use mathlib.Core.Path.{_≡_, _∙_}
-use lib.ListN.{length}
 use borrow.Author.Needs.{needs}
 use Rattle.sheet_writer.proofs.flight_len.Statement.{statement}
 use Rattle.sheet_writer.proofs.flight_len.Tie as tie

@@ -1,9 +1,7 @@
 -- The line's length, by its definition.
 use Rattle.sheet_writer.proofs.Placing.{length-period}
-use Rattle.text.specs.Digits.{line}
 use Prim.Native.Nat.{_-_}
 use mathlib.Core.Path.{sym, _∙_}
-use lib.ListN.{length}
 use borrow.Author.Needs.{needs}
 use Rattle.sheet_writer.proofs.period_len.Statement.{statement}
 use Rattle.sheet_writer.proofs.period_len.Tie as tie

@@ -1,9 +1,7 @@
 -- The line's length is that of its two parts.
 use Rattle.text.proofs.Writing.{length-line}
-use Rattle.text.specs.Digits.{line}
 use Prim.Native.Nat.{_-_}
 use native.Mathlib.Omega.{arith}
-use lib.ListN.{length}
 use borrow.Author.Needs.{needs}
 use Rattle.text.proofs.line_len.Statement.{statement}
 use Rattle.text.proofs.line_len.Tie as tie

@@ -1,0 +1,109 @@
+-- A sheet that was read left its day at the front of the two rows; one that was not is refused by a number above 0.
+-- Assumes nothing.
+use Prim.Native.Nat.{ℕ, _≤_, _-_, _*_}
+use native.Mathlib.Omega.{arith}
+use native.Mathlib.Nat.{sub-zero}
+use mathlib.Core.Path.{_≡_, refl, ap, sym, _∙_}
+use mathlib.Core.Bool.{true}
+use mathlib.Core.List.{List}
+use lib.ListN.{length, take, drop, length-append}
+use lib.Seq.{take-at, length-take-le}
+use borrow.Author.Tests.{eq-eqb}
+use Rattle.answers.specs.declared.Answer.{Answer}
+use Rattle.answers.specs.declared.Code.{Code}
+use Rattle.answers.specs.Answers.{codeOf}
+use Rattle.day.specs.Day.{day, P, N, valid}
+use Rattle.day.proofs.Valid.{valid-means}
+use Rattle.sheet.specs.declared.Flight.{Flight}
+use Rattle.sheet.specs.Flights.{rowOf}
+use Rattle.sheet.specs.Sheet.{Reading, read, refused, readSheet, reading, answerOf, capacitiesAfter, flightsAfter}
+use Rattle.sheet.proofs.Good.{row-whole, count-row}
+use Rattle.sheet.proofs.RoundTrip.{read-is-valid}
+use Rattle.sheet.proofs.Refusals.{Numbered, sheet-numbered}
+use Rattle.hold_desk.specs.Program.{Front, refusalOf, PrintsDay, Prints}
+use Rattle.hold_desk.proofs.Planning.{number-of}
+
+-- the sheet's day, of p periods and n flights, stands at the front of the rows
+pub record Held (sheet : List ℕ) (p n : ℕ) (capacity-row flight-row : List ℕ) : Type 0 where
+  pub capacities : List ℕ
+  pub flights : List Flight
+  pub is-read : readSheet sheet ≡ read capacities flights
+  pub good : valid (day capacities (rowOf flights)) ≡ true
+  pub periods : length capacities ≡ p
+  pub count : length flights ≡ n
+  pub row : length (rowOf flights) ≡ n * 6
+  pub few-periods : p ≤ 96
+  pub few-flights : n ≤ 128
+  pub capacities-there : take p capacity-row ≡ capacities
+  pub flights-there : take (n * 6) flight-row ≡ rowOf flights
+  pub capacities-within : p ≤ length capacity-row
+  pub flights-within : n * 6 ≤ length flight-row
+
+-- rows of 96 and 768 numbers are never refused
+opened : (sheet c f : List ℕ) → 96 ≡ length c → 768 ≡ length f → reading sheet c f ≡ readSheet sheet
+unfolding reading
+opened sheet c f p q = rw (eq-eqb (length c) 96 (sym p), eq-eqb (length f) 768 (sym q))
+
+module _ (sheet c f : List ℕ) {answer : Answer} {code : Code} (p : 96 ≡ length c) (q : 768 ≡ length f)
+    (is : answer ≡ answerOf (reading sheet c f)) (coded : code ≡ codeOf answer) where
+  pub held : {c′ f′ : List ℕ} → c′ ≡ capacitiesAfter (reading sheet c f) c → f′ ≡ flightsAfter (reading sheet c f) f → code .number ≡ 0
+      → Held sheet (code .first) (code .second) c′ f′
+  held {c′} {f′} caps rows zero =
+      let o = opened sheet c f p q in
+      go (readSheet sheet) refl (sheet-numbered sheet) (rw o at is) (rw o at caps) (rw o at rows)
+    where
+      go : (x : Reading) → readSheet sheet ≡ x → Numbered x → answer ≡ answerOf x → c′ ≡ capacitiesAfter x c → f′ ≡ flightsAfter x f
+          → Held sheet (code .first) (code .second) c′ f′
+      go (refused a) e n is caps rows = absurd (omega (arith, number-of coded is))
+      go (read C F) e n is caps rows =
+          let good = read-is-valid sheet C F e in
+          let v = valid-means good in
+          let periods : length C ≡ code .first = sym (ap (λ (k : Code). k .first) (coded ∙ ap codeOf is)) in
+          let count : length F ≡ code .second = sym (ap (λ (k : Code). k .second) (coded ∙ ap codeOf is)) in
+          let row : length (rowOf F) ≡ code .second * 6 = omega (arith, row-whole (day C (rowOf F)) good, count-row C F) in
+          record {
+            capacities = C;
+            flights = F;
+            is-read = e;
+            good = good;
+            periods = periods;
+            count = count;
+            row = row;
+            few-periods = omega (arith, v .periods-to);
+            few-flights = omega (arith, v .flights-to, count-row C F);
+            capacities-there = rw caps (take-at C (drop (length C) c) (code .first) periods);
+            flights-there = rw rows (take-at (rowOf F) (drop (length (rowOf F)) f) (code .second * 6) row);
+            capacities-within = rw (caps, length-append) (omega arith);
+            flights-within = rw (rows, length-append) (omega arith);
+          }
+
+  pub prints-refusal : (buffer : List ℕ) {r : ℕ} → (code .number ≡ 0 → ⊥) → Front buffer r (refusalOf answer)
+      → (r ≤ length buffer) × Prints sheet (take r buffer)
+  unfolding Prints
+  prints-refusal buffer {r} above front = (front .within, go (readSheet sheet) refl (rw (opened sheet c f p q) at is))
+    where
+      go : (x : Reading) → readSheet sheet ≡ x → answer ≡ answerOf x → Prints sheet (take r buffer)
+      go (read C F) e is = absurd (above (number-of coded is))
+      go (refused a) e is = rw e (front .bytes ∙ ap refusalOf is)
+
+-- the parts of the rows that are lent on are the day
+day-is : {sheet c f : List ℕ} {p n : ℕ} (h : Held sheet p n c f) → day (take (p - 0) c) (take (n * 6 - 0) f) ≡ day (h .capacities) (rowOf (h .flights))
+day-is {p = p} {n = n} h = rw (sub-zero p, sub-zero (n * 6), h .capacities-there, h .flights-there)
+
+pub can-plan : (holds prices buffer : List ℕ) {sheet c f : List ℕ} {p n : ℕ} → Held sheet p n c f → 128 ≡ length holds → 96 ≡ length prices
+    → 4096 ≤ length buffer
+    → (valid (day (take (p - 0) c) (take (n * 6 - 0) f)) ≡ true)
+    × (length (take (n - 0) holds) ≡ N (day (take (p - 0) c) (take (n * 6 - 0) f)))
+    × (length (take (p - 0) prices) ≡ P (day (take (p - 0) c) (take (n * 6 - 0) f)))
+    × (4096 ≤ length buffer)
+can-plan holds prices buffer {p = p} {n = n} h x y room =
+    let a = length-take-le (n - 0) holds (omega (arith, h .few-flights)) in
+    let b = length-take-le (p - 0) prices (omega (arith, h .few-periods)) in
+    let e = ap P (day-is h) in
+    rw (day-is h) (h .good, omega (arith, a, count-row (h .capacities) (h .flights), h .count), omega (arith, b, e, h .periods), room)
+
+pub prints-day : (buffer : List ℕ) {sheet c f : List ℕ} {p n r : ℕ} → Held sheet p n c f
+    → (r ≤ length buffer) × PrintsDay (day (take (p - 0) c) (take (n * 6 - 0) f)) (take r buffer)
+    → (r ≤ length buffer) × Prints sheet (take r buffer)
+unfolding Prints
+prints-day buffer h done = (done .0, rw (h .is-read) (rw (day-is h) at (done .1)))

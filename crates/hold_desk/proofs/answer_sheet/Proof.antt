@@ -1,0 +1,123 @@
+-- Number 0: the sheet was read, and its day stands at the front of the rows. Any other number: the sheet was refused by that answer.
+-- Assumes nothing.
+use native.Mathlib.Omega.{arith}
+use Rattle.hold_desk.proofs.Reading.{Held, held, prints-refusal, can-plan, prints-day}
+use borrow.Author.Needs.{needs}
+use Rattle.hold_desk.proofs.answer_sheet.Statement.{statement}
+use Rattle.hold_desk.proofs.answer_sheet.Tie as tie
+
+in-day : (c : tie.Else1) → Held (c .before .before .before .before .before .before .before .before .before .before .before .before .before .args .sheet .now) (c .before .code-of .result .first) (c .before .code-of .result .second) (c .before .before .before .before .read-sheet .last .1 .0) (c .before .before .before .before .read-sheet .last .1 .1 .0)
+in-day c = held _ (c .before .before .before .before .before .before .before .before .before .before .capacity-row .result) (c .before .before .before .before .before .before .before .before .before .flight-row .result) (c .before .before .before .before .before .before .before .before .before .before .capacity-row .ensures) (c .before .before .before .before .before .before .before .before .before .flight-row .ensures) (c .before .before .before .before .read-sheet .ensures .0) (c .before .code-of .ensures) (c .before .before .before .before .read-sheet .ensures .1 .0) (c .before .before .before .before .read-sheet .ensures .1 .1) (c .if1 .left)
+
+capacity-row-requires : tie.Need-capacity-row-requires
+capacity-row-requires c κs = search needs
+
+flight-row-requires : tie.Need-flight-row-requires
+flight-row-requires c κs = search needs
+
+hold-row-requires : tie.Need-hold-row-requires
+hold-row-requires c κs = search needs
+
+capacity-row-requires-2 : tie.Need-capacity-row-requires-2
+capacity-row-requires-2 c κs = search needs
+
+slice-aggregate-read-sheet : tie.Need-slice-aggregate-read-sheet
+slice-aggregate-read-sheet c = search needs
+
+slice-aggregate-read-sheet-2 : tie.Need-slice-aggregate-read-sheet-2
+slice-aggregate-read-sheet-2 c = search needs
+
+read-sheet-requires : tie.Need-read-sheet-requires
+read-sheet-requires c κs = search needs
+
+code-of-requires : tie.Need-code-of-requires
+code-of-requires c κs = search needs
+
+put-refusal-requires : tie.Need-put-refusal-requires
+put-refusal-requires c κs = search needs
+
+same-length : tie.Need-same-length
+same-length c = search needs
+
+returns : tie.Need-returns
+returns c = prints-refusal (c .before .before .before .before .before .before .before .before .before .before .before .before .before .before .before .before .before .args .sheet .now) (c .before .before .before .before .before .before .before .before .before .before .before .before .before .before .capacity-row .result) (c .before .before .before .before .before .before .before .before .before .before .before .before .before .flight-row .result) (c .before .before .before .before .before .before .before .before .before .before .before .before .before .before .capacity-row .ensures) (c .before .before .before .before .before .before .before .before .before .before .before .before .before .flight-row .ensures) (c .before .before .before .before .before .before .before .before .read-sheet .ensures .0) (c .before .before .before .before .before .code-of .ensures) (c .before .before .put-refusal .last .1 .0) (c .before .before .before .before .if1 .taken) (c .before .before .put-refusal .ensures)
+
+sub-plan-day : tie.Need-sub-plan-day
+sub-plan-day c = search needs
+
+part-plan-day-start : tie.Need-part-plan-day-start
+part-plan-day-start c = search needs
+
+part-plan-day-end : tie.Need-part-plan-day-end
+part-plan-day-end c = in-day (c .before) .capacities-within
+
+mul-plan-day : tie.Need-mul-plan-day
+mul-plan-day c = omega (arith, in-day (c .before .before) .few-flights)
+
+sub-plan-day-2 : tie.Need-sub-plan-day-2
+sub-plan-day-2 c = search needs
+
+part-plan-day-start-2 : tie.Need-part-plan-day-start-2
+part-plan-day-start-2 c = search needs
+
+part-plan-day-end-2 : tie.Need-part-plan-day-end-2
+part-plan-day-end-2 c = in-day (c .before .before .before) .flights-within
+
+sub-plan-day-3 : tie.Need-sub-plan-day-3
+sub-plan-day-3 c = search needs
+
+part-holds-start : tie.Need-part-holds-start
+part-holds-start c = search needs
+
+part-holds-end : tie.Need-part-holds-end
+part-holds-end c = omega (arith, in-day (c .before .before .before .before) .few-flights, c .before .before .before .before .before .before .before .before .before .before .before .before .hold-row .ensures)
+
+sub-plan-day-4 : tie.Need-sub-plan-day-4
+sub-plan-day-4 c = search needs
+
+part-prices-start : tie.Need-part-prices-start
+part-prices-start c = search needs
+
+part-prices-end : tie.Need-part-prices-end
+part-prices-end c = omega (arith, in-day (c .before .before .before .before .before) .few-periods, c .before .before .before .before .before .before .before .before .before .before .before .before .capacity-row2 .ensures)
+
+plan-day-requires : tie.Need-plan-day-requires
+plan-day-requires c κs = can-plan (c .before .before .before .before .before .before .before .before .before .before .before .before .before .before .before .hold-row .result) (c .before .before .before .before .before .before .before .before .before .before .before .before .before .before .capacity-row2 .result) (c .before .before .before .before .before .before .before .before .before .before .before .before .before .before .before .before .before .before .before .before .args .text .now) (in-day (c .before .before .before .before .before .before .before)) (c .before .before .before .before .before .before .before .before .before .before .before .before .before .before .before .hold-row .ensures) (c .before .before .before .before .before .before .before .before .before .before .before .before .before .before .capacity-row2 .ensures) (c .before .before .before .before .before .before .before .before .before .before .before .before .before .before .before .before .before .before .before .before .pre)
+
+same-length-2 : tie.Need-same-length-2
+same-length-2 c = search needs
+
+returns-2 : tie.Need-returns-2
+returns-2 c = prints-day (c .before .before .before .before .plan-day .last .1 .1 .1 .1 .0) (in-day (c .before .before .before .before .before .before .before .before .before .before .before .before)) (c .before .before .before .before .plan-day .ensures)
+
+pub answer-sheet-spec : {M : Type 1} → statement M
+answer-sheet-spec =
+    tie.close
+    (tie.spec
+    capacity-row-requires
+    flight-row-requires
+    hold-row-requires
+    capacity-row-requires-2
+    slice-aggregate-read-sheet
+    slice-aggregate-read-sheet-2
+    read-sheet-requires
+    code-of-requires
+    put-refusal-requires
+    same-length
+    returns
+    sub-plan-day
+    part-plan-day-start
+    part-plan-day-end
+    mul-plan-day
+    sub-plan-day-2
+    part-plan-day-start-2
+    part-plan-day-end-2
+    sub-plan-day-3
+    part-holds-start
+    part-holds-end
+    sub-plan-day-4
+    part-prices-start
+    part-prices-end
+    plan-day-requires
+    same-length-2
+    returns-2)

@@ -1,0 +1,27 @@
+-- The code's three numbers fit 64 bits, so their two lines fit the buffer.
+-- Assumes nothing.
+use native.Mathlib.Omega.{arith}
+use Rattle.hold_desk.proofs.Writing.{refusal-front}
+use borrow.Author.Needs.{needs}
+use Rattle.hold_desk.proofs.put_refusal.Statement.{statement}
+use Rattle.hold_desk.proofs.put_refusal.Tie as tie
+
+code-of-requires : tie.Need-code-of-requires
+code-of-requires c κs = search needs
+
+write-refusal-requires : tie.Need-write-refusal-requires
+write-refusal-requires c κs = search needs
+
+code-of-requires-2 : tie.Need-code-of-requires-2
+code-of-requires-2 c κs = search needs
+
+same-length : tie.Need-same-length
+same-length c = search needs
+
+returns : tie.Need-returns
+returns c = refusal-front (c .before .before .before .before .before .before .before .args .text .now) (c .before .before .before .before .before .before .before .args .answer) (c .before .before .before .before .before .before .before .pre) (c .before .before .before .before .before .code-of .ensures) (omega arith) (omega arith) (omega arith) (c .before .before .before .write-refusal .ensures .0) (c .before .before .before .write-refusal .ensures .1) (c .code-of2 .ensures)
+
+pub put-refusal-spec : {M : Type 1} → statement M
+put-refusal-spec =
+    tie.close
+    (tie.spec code-of-requires write-refusal-requires code-of-requires-2 same-length returns)
