@@ -7,7 +7,7 @@ use Prim.Native.Nat.{ℕ, _+_, _*_, _≤_, _<_}
 use lib.ListN.{length, getD}
 use lib.Dec.{leb, eqb}
 use borrow.Author.Tests.{le-leb, lt-leb, eq-eqb, ne-eqb, leb-true, eqb-true, eqb-false, not-true}
-use Rattle.day.specs.Day.{Day, P, N, number, due, rate, after, jump, limit, missing, all, inside, numbersFit, inRange, isNew, valid}
+use Rattle.day.specs.Day.{Day, P, N, number, due, rate, after, jump, limit, missing, all, inside, numbersFit, inRange, isNew, valid, width}
 use Rattle.day.proofs.Tests.{all-next, all-not, all-at, and-true, and-assoc}
 
 -- ---- a number that stands at no lower place
@@ -35,21 +35,21 @@ module _ (d : Day) where
   valid-not-periods e = rw e
 
   module _ (periods : inside 1 96 (P d) ≡ true) where
-    pub valid-not-whole : (length (d .flights) ≡ N d * 6 → ⊥) → false ≡ valid d
+    pub valid-not-whole : (length (d .flights) ≡ N d * width → ⊥) → false ≡ valid d
     unfolding valid
-    valid-not-whole e = rw (periods, ne-eqb (length (d .flights)) (N d * 6) e)
+    valid-not-whole e = rw (periods, ne-eqb (length (d .flights)) (N d * width) e)
 
-    module _ (whole : length (d .flights) ≡ N d * 6) where
+    module _ (whole : length (d .flights) ≡ N d * width) where
       pub valid-not-few : 128 < N d → false ≡ valid d
       unfolding valid
-      valid-not-few e = rw (periods, eq-eqb (length (d .flights)) (N d * 6) whole, lt-leb (N d) 128 e)
+      valid-not-few e = rw (periods, eq-eqb (length (d .flights)) (N d * width) whole, lt-leb (N d) 128 e)
 
   -- the rest of the check, with what its parts found
-  pub valid-made : inside 1 96 (P d) ≡ true → {n : ℕ} → n ≡ N d → length (d .flights) ≡ n * 6 → n ≤ 128 → {x y r : Bool}
+  pub valid-made : inside 1 96 (P d) ≡ true → {n : ℕ} → n ≡ N d → length (d .flights) ≡ n * width → n ≤ 128 → {x y r : Bool}
       → x ≡ all (P d) (λ k. leb (getD (d .capacities) k 0) 255) → y ≡ (all n (inRange d) && all n (isNew d)) → r ≡ (x && y) → r ≡ valid d
   unfolding valid
   valid-made periods e whole few caps fits both =
-      rw (both, caps, fits, e, periods, eq-eqb (length (d .flights)) (N d * 6) (rw e at whole), le-leb (N d) 128 (rw e at few))
+      rw (both, caps, fits, e, periods, eq-eqb (length (d .flights)) (N d * width) (rw e at whole), le-leb (N d) 128 (rw e at few))
       (and-assoc (all (P d) (λ k. leb (getD (d .capacities) k 0) 255)) (all (N d) (inRange d)) (all (N d) (isNew d)))
 
 -- ---- what a day that passes is
@@ -69,7 +69,7 @@ pub record InRange (d : Day) (i : ℕ) : Type 0 where
 pub record Valid (d : Day) : Type 0 where
   pub periods-from : 1 ≤ P d
   pub periods-to : P d ≤ 96
-  pub whole : length (d .flights) ≡ N d * 6
+  pub whole : length (d .flights) ≡ N d * width
   pub flights-to : N d ≤ 128
   pub capacity-to : (k : ℕ) → k < P d → getD (d .capacities) k 0 ≤ 255
   pub flight : (i : ℕ) → i < N d → InRange d i
@@ -120,7 +120,7 @@ valid-means {d} e =
     record {
       periods-from = periods .0;
       periods-to = periods .1;
-      whole = eqb-true (length (d .flights)) (N d * 6) (wholes .1);
+      whole = eqb-true (length (d .flights)) (N d * width) (wholes .1);
       flights-to = leb-true (N d) 128 (few .1);
       capacity-to = λ k l. leb-true _ 255 (all-at (P d) _ (caps .1) k l);
       flight = λ i l. range-means d i (all-at (N d) _ (ranges .1) i l);

@@ -12,7 +12,7 @@ use borrow.Author.Tests.{eq-eqb}
 use Rattle.answers.specs.declared.Answer.{Answer}
 use Rattle.answers.specs.declared.Code.{Code}
 use Rattle.answers.specs.Answers.{codeOf}
-use Rattle.day.specs.Day.{day, P, N, valid}
+use Rattle.day.specs.Day.{day, P, N, valid, width}
 use Rattle.day.proofs.Valid.{valid-means}
 use Rattle.sheet.specs.declared.Flight.{Flight}
 use Rattle.sheet.specs.Flights.{rowOf}
@@ -31,13 +31,13 @@ pub record Held (sheet : List ℕ) (p n : ℕ) (capacity-row flight-row : List �
   pub good : valid (day capacities (rowOf flights)) ≡ true
   pub periods : length capacities ≡ p
   pub count : length flights ≡ n
-  pub row : length (rowOf flights) ≡ n * 6
+  pub row : length (rowOf flights) ≡ n * width
   pub few-periods : p ≤ 96
   pub few-flights : n ≤ 128
   pub capacities-there : take p capacity-row ≡ capacities
-  pub flights-there : take (n * 6) flight-row ≡ rowOf flights
+  pub flights-there : take (n * width) flight-row ≡ rowOf flights
   pub capacities-within : p ≤ length capacity-row
-  pub flights-within : n * 6 ≤ length flight-row
+  pub flights-within : n * width ≤ length flight-row
 
 -- rows of 96 and 768 numbers are never refused
 opened : (sheet c f : List ℕ) → 96 ≡ length c → 768 ≡ length f → reading sheet c f ≡ readSheet sheet
@@ -60,7 +60,7 @@ module _ (sheet c f : List ℕ) {answer : Answer} {code : Code} (p : 96 ≡ leng
           let v = valid-means good in
           let periods : length C ≡ code .first = sym (ap (λ (k : Code). k .first) (coded ∙ ap codeOf is)) in
           let count : length F ≡ code .second = sym (ap (λ (k : Code). k .second) (coded ∙ ap codeOf is)) in
-          let row : length (rowOf F) ≡ code .second * 6 = omega (arith, row-whole (day C (rowOf F)) good, count-row C F) in
+          let row : length (rowOf F) ≡ code .second * width = omega (arith, row-whole (day C (rowOf F)) good, count-row C F) in
           record {
             capacities = C;
             flights = F;
@@ -72,7 +72,7 @@ module _ (sheet c f : List ℕ) {answer : Answer} {code : Code} (p : 96 ≡ leng
             few-periods = omega (arith, v .periods-to);
             few-flights = omega (arith, v .flights-to, count-row C F);
             capacities-there = rw caps (take-at C (drop (length C) c) (code .first) periods);
-            flights-there = rw rows (take-at (rowOf F) (drop (length (rowOf F)) f) (code .second * 6) row);
+            flights-there = rw rows (take-at (rowOf F) (drop (length (rowOf F)) f) (code .second * width) row);
             capacities-within = rw (caps, length-append) (omega arith);
             flights-within = rw (rows, length-append) (omega arith);
           }
@@ -87,14 +87,14 @@ module _ (sheet c f : List ℕ) {answer : Answer} {code : Code} (p : 96 ≡ leng
       go (refused a) e is = rw e (front .bytes ∙ ap refusalOf is)
 
 -- the parts of the rows that are lent on are the day
-day-is : {sheet c f : List ℕ} {p n : ℕ} (h : Held sheet p n c f) → day (take (p - 0) c) (take (n * 6 - 0) f) ≡ day (h .capacities) (rowOf (h .flights))
-day-is {p = p} {n = n} h = rw (sub-zero p, sub-zero (n * 6), h .capacities-there, h .flights-there)
+day-is : {sheet c f : List ℕ} {p n : ℕ} (h : Held sheet p n c f) → day (take (p - 0) c) (take (n * width - 0) f) ≡ day (h .capacities) (rowOf (h .flights))
+day-is {p = p} {n = n} h = rw (sub-zero p, sub-zero (n * width), h .capacities-there, h .flights-there)
 
 pub can-plan : (holds prices buffer : List ℕ) {sheet c f : List ℕ} {p n : ℕ} → Held sheet p n c f → 128 ≡ length holds → 96 ≡ length prices
     → 4096 ≤ length buffer
-    → (valid (day (take (p - 0) c) (take (n * 6 - 0) f)) ≡ true)
-    × (length (take (n - 0) holds) ≡ N (day (take (p - 0) c) (take (n * 6 - 0) f)))
-    × (length (take (p - 0) prices) ≡ P (day (take (p - 0) c) (take (n * 6 - 0) f)))
+    → (valid (day (take (p - 0) c) (take (n * width - 0) f)) ≡ true)
+    × (length (take (n - 0) holds) ≡ N (day (take (p - 0) c) (take (n * width - 0) f)))
+    × (length (take (p - 0) prices) ≡ P (day (take (p - 0) c) (take (n * width - 0) f)))
     × (4096 ≤ length buffer)
 can-plan holds prices buffer {p = p} {n = n} h x y room =
     let a = length-take-le (n - 0) holds (omega (arith, h .few-flights)) in
@@ -103,7 +103,7 @@ can-plan holds prices buffer {p = p} {n = n} h x y room =
     rw (day-is h) (h .good, omega (arith, a, count-row (h .capacities) (h .flights), h .count), omega (arith, b, e, h .periods), room)
 
 pub prints-day : (buffer : List ℕ) {sheet c f : List ℕ} {p n r : ℕ} → Held sheet p n c f
-    → (r ≤ length buffer) × PrintsDay (day (take (p - 0) c) (take (n * 6 - 0) f)) (take r buffer)
+    → (r ≤ length buffer) × PrintsDay (day (take (p - 0) c) (take (n * width - 0) f)) (take r buffer)
     → (r ≤ length buffer) × Prints sheet (take r buffer)
 unfolding Prints
 prints-day buffer h done = (done .0, rw (h .is-read) (rw (day-is h) at (done .1)))

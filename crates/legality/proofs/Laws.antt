@@ -15,7 +15,7 @@ use borrow.Author.Tests.{ltb-false, eq-eqb, ne-eqb}
 use Rattle.assignment.specs.Sum.{gate, sum, count}
 use Rattle.assignment.proofs.Tests.{lt?, eq?, gate-eq, gate-ne}
 use Rattle.assignment.proofs.Sums.{count-suc, count-zero, count-le}
-use Rattle.day.specs.Day.{Day, P, N, rate, after, latest, land, hold, cost, total, valid}
+use Rattle.day.specs.Day.{Day, P, N, rate, after, latest, land, hold, cost, total, valid, width}
 use Rattle.day.specs.Plan.{tooLong, overCapacity, breaks, firstBreak}
 use Rattle.day.proofs.Costs.{cost-over, cost-under}
 use Rattle.day.proofs.Tests.{first-at, first-none}
@@ -42,7 +42,7 @@ module _ {d : Day} {h loads : List ℕ} {i : ℕ} (s : Walked d h loads i) where
   v : Valid d
   v = valid-means (s .good)
 
-  pub walk-place : i < length h → (i + 1) * 6 ≤ length (d .flights)
+  pub walk-place : i < length h → (i + 1) * width ≤ length (d .flights)
   walk-place l = omega (arith, v .whole, s .each)
 
   module _ {k : ℕ} (l : i < length h) (at-k : k ≡ land d h i) where
@@ -111,7 +111,7 @@ module _ {d : Day} {h : List ℕ} {s i : ℕ} (m : Summed d h s i) where
   w : Valid d
   w = valid-means (m .good)
 
-  pub sum-place : i < length h → (i + 1) * 6 ≤ length (d .flights)
+  pub sum-place : i < length h → (i + 1) * width ≤ length (d .flights)
   sum-place l = omega (arith, w .whole, m .each)
 
   pub sum-fits : s ≤ 5497558266880000

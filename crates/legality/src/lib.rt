@@ -3,7 +3,7 @@ ghost use mathlib.Core.Path.{_≡_};
 ghost use mathlib.Core.Bool.{true, false};
 ghost use Prim.Native.Nat.{_+_, _*_, _<_, _≤_};
 ghost use lib.ListN.{length};
-ghost use Rattle.day.specs.Day.{day, N, total, valid};
+ghost use Rattle.day.specs.Day.{day, width, N, total, valid};
 ghost use Rattle.day.specs.Plan.{tooLong, overCapacity, firstBreak};
 ghost use Rattle.legality.specs.Check.{planCheck};
 ghost use Rattle.legality.specs.Loop.{Walked};
@@ -17,7 +17,7 @@ pub enum PlanCheck {
 
 // A landing of the flight at table place i in period k is after the closing period or over its limit.
 fn is_too_long(capacities: &[u32], flights: &[u32], i: usize, k: usize) -> bool
-    requires { ⌜ ((i + 1) * 6 ≤ length (now flights)) × (length (now capacities) ≤ 96) ⌝ }
+    requires { ⌜ ((i + 1) * width ≤ length (now flights)) × (length (now capacities) ≤ 96) ⌝ }
     ensures { λ r. ⌜ r ≡ tooLong (day (now (capacities .entry)) (now (flights .entry))) i k ⌝ }
 {
     if capacities.len() + 1 < k {

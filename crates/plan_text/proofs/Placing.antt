@@ -10,7 +10,7 @@ use Rattle.answers.specs.declared.Answer.the-variants.{BadDay, BadLength, NotLe
 use Rattle.text.specs.Digits.{ended, line}
 use Rattle.text.specs.Writing.{Put, textAnswer, textAfter}
 use Rattle.text.proofs.Writing.{then}
-use Rattle.day.specs.Day.{Day, N, number, due, cost, hold, land, total}
+use Rattle.day.specs.Day.{Day, N, number, due, cost, hold, land, total, width}
 use Rattle.day.proofs.Valid.{valid-means}
 use Rattle.legality.specs.Check.{planCheck}
 use Rattle.legality.specs.declared.PlanCheck.the-variants as found
@@ -95,7 +95,7 @@ module _ (d : Day) (holds : List ℕ) where
     on-legal e = rw e (refl, refl)
 
   pub legal-rows : {t : ℕ} → planCheck d holds ≡ found.Legal t
-      → (length holds ≡ N d) × (t ≡ total d holds) × (length holds * 6 ≤ length (d .flights)) × (length holds ≤ 128)
+      → (length holds ≡ N d) × (t ≡ total d holds) × (length holds * width ≤ length (d .flights)) × (length holds ≤ 128)
   legal-rows e =
       let f = found-legal d holds e in
       let v = valid-means (f .good) in

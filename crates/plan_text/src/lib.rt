@@ -5,7 +5,7 @@ ghost use Prim.Native.Nat.{_+_, _*_, _≤_, _<_};
 ghost use lib.ListN.{length};
 ghost use Rattle.text.specs.Digits.{ended};
 ghost use Rattle.text.specs.Writing.{Put, textAnswer, textAfter};
-ghost use Rattle.day.specs.Day.{day, N, number, due, cost, hold, land, total};
+ghost use Rattle.day.specs.Day.{day, width, N, number, due, cost, hold, land, total};
 ghost use Rattle.plan_text.specs.PlanText.{planNames, totalName, planLine, planLines, planText, planTextAnswer, planTextAfter};
 use answers::Answer;
 use legality::PlanCheck;
@@ -21,7 +21,7 @@ const NAMES_LEN: usize = 33;
 
 // The numbers of a flight's line but for its cost.
 fn values_of(capacities: &[u32], flights: &[u32], holds: &[u32], i: usize) -> [usize; 4]
-    requires { ⌜ (i < length (now holds)) × ((i + 1) * 6 ≤ length (now flights)) ⌝ }
+    requires { ⌜ (i < length (now holds)) × ((i + 1) * width ≤ length (now flights)) ⌝ }
     ensures { λ r. ⌜ r ≡ number (day (now (capacities .entry)) (now (flights .entry))) i ∷ due (day (now (capacities .entry)) (now (flights .entry))) i ∷ land (day (now (capacities .entry)) (now (flights .entry))) (now (holds .entry)) i ∷ hold (now (holds .entry)) i ∷ [] ⌝ }
 {
     [
@@ -33,7 +33,7 @@ fn values_of(capacities: &[u32], flights: &[u32], holds: &[u32], i: usize) -> [u
 }
 
 fn cost_at(capacities: &[u32], flights: &[u32], holds: &[u32], i: usize) -> usize
-    requires { ⌜ (i < length (now holds)) × ((i + 1) * 6 ≤ length (now flights)) ⌝ }
+    requires { ⌜ (i < length (now holds)) × ((i + 1) * width ≤ length (now flights)) ⌝ }
     ensures { λ r. ⌜ r ≡ cost (day (now (capacities .entry)) (now (flights .entry))) i (hold (now (holds .entry)) i) ⌝ }
 {
     day::cost_of(capacities, flights, i, day::wide(holds[i]))
@@ -48,7 +48,7 @@ fn put_plan_line(
     holds: &[u32],
     i: usize,
 ) -> usize
-    requires { ⌜ (i < length (now holds)) × ((i + 1) * 6 ≤ length (now flights)) × (at + length (planLine (day (now capacities) (now flights)) (now holds) i) ≤ length (now out)) ⌝ }
+    requires { ⌜ (i < length (now holds)) × ((i + 1) * width ≤ length (now flights)) × (at + length (planLine (day (now capacities) (now flights)) (now holds) i) ≤ length (now out)) ⌝ }
     ensures { λ r. ⌜ Put (now (out .entry)) at (planLine (day (now (capacities .entry)) (now (flights .entry))) (now (holds .entry)) i) r (now (out .exit)) ⌝ }
 {
     let values = values_of(capacities, flights, holds, i);
@@ -58,7 +58,7 @@ fn put_plan_line(
 }
 
 fn plan_line_len(capacities: &[u32], flights: &[u32], holds: &[u32], i: usize) -> usize
-    requires { ⌜ (i < length (now holds)) × ((i + 1) * 6 ≤ length (now flights)) ⌝ }
+    requires { ⌜ (i < length (now holds)) × ((i + 1) * width ≤ length (now flights)) ⌝ }
     ensures { λ r. ⌜ (r ≡ length (planLine (day (now (capacities .entry)) (now (flights .entry))) (now (holds .entry)) i)) × (r ≤ 105) ⌝ }
 {
     let values = values_of(capacities, flights, holds, i);
@@ -72,7 +72,7 @@ fn put_plan_lines(
     flights: &[u32],
     holds: &[u32],
 ) -> usize
-    requires { ⌜ (length (now holds) * 6 ≤ length (now flights)) × (start + length (planLines (day (now capacities) (now flights)) (now holds) (length (now holds)) 0) ≤ length (now out)) ⌝ }
+    requires { ⌜ (length (now holds) * width ≤ length (now flights)) × (start + length (planLines (day (now capacities) (now flights)) (now holds) (length (now holds)) 0) ≤ length (now out)) ⌝ }
     ensures { λ r. ⌜ Put (now (out .entry)) start (planLines (day (now (capacities .entry)) (now (flights .entry))) (now (holds .entry)) (length (now (holds .entry))) 0) r (now (out .exit)) ⌝ }
 {
     let mut at = start;
@@ -85,7 +85,7 @@ fn put_plan_lines(
 }
 
 fn plan_lines_len(capacities: &[u32], flights: &[u32], holds: &[u32]) -> usize
-    requires { ⌜ (length (now holds) * 6 ≤ length (now flights)) × (length (now holds) ≤ 128) ⌝ }
+    requires { ⌜ (length (now holds) * width ≤ length (now flights)) × (length (now holds) ≤ 128) ⌝ }
     ensures { λ r. ⌜ (r ≡ length (planLines (day (now (capacities .entry)) (now (flights .entry))) (now (holds .entry)) (length (now (holds .entry))) 0)) × (r ≤ 13440) ⌝ }
 {
     let mut sum: usize = 0;
@@ -128,7 +128,7 @@ fn fill_plan(
     holds: &[u32],
     sum: usize,
 ) -> usize
-    requires { ⌜ (length (now holds) ≡ N (day (now capacities) (now flights))) × (sum ≡ total (day (now capacities) (now flights)) (now holds)) × (length (now holds) * 6 ≤ length (now flights)) × (length (planText (day (now capacities) (now flights)) (now holds)) ≤ length (now out)) ⌝ }
+    requires { ⌜ (length (now holds) ≡ N (day (now capacities) (now flights))) × (sum ≡ total (day (now capacities) (now flights)) (now holds)) × (length (now holds) * width ≤ length (now flights)) × (length (planText (day (now capacities) (now flights)) (now holds)) ≤ length (now out)) ⌝ }
     ensures { λ r. ⌜ Put (now (out .entry)) 0 (planText (day (now (capacities .entry)) (now (flights .entry))) (now (holds .entry))) r (now (out .exit)) ⌝ }
 {
     let a = put_plan_names(out);
@@ -139,7 +139,7 @@ fn fill_plan(
 
 // How many bytes the text takes.
 fn plan_len(capacities: &[u32], flights: &[u32], holds: &[u32], sum: usize) -> usize
-    requires { ⌜ (length (now holds) ≡ N (day (now capacities) (now flights))) × (sum ≡ total (day (now capacities) (now flights)) (now holds)) × (length (now holds) * 6 ≤ length (now flights)) × (length (now holds) ≤ 128) ⌝ }
+    requires { ⌜ (length (now holds) ≡ N (day (now capacities) (now flights))) × (sum ≡ total (day (now capacities) (now flights)) (now holds)) × (length (now holds) * width ≤ length (now flights)) × (length (now holds) ≤ 128) ⌝ }
     ensures { λ r. ⌜ r ≡ length (planText (day (now (capacities .entry)) (now (flights .entry))) (now (holds .entry))) ⌝ }
 {
     plan_lines_len(capacities, flights, holds) + text::number_len(sum) + NAMES_LEN
@@ -154,7 +154,7 @@ fn write_legal(
     buffer: &mut [u8],
     place: usize,
 ) -> Answer
-    requires { ⌜ (length (now holds) ≡ N (day (now capacities) (now flights))) × (sum ≡ total (day (now capacities) (now flights)) (now holds)) × (length (now holds) * 6 ≤ length (now flights)) × (length (now holds) ≤ 128) ⌝ }
+    requires { ⌜ (length (now holds) ≡ N (day (now capacities) (now flights))) × (sum ≡ total (day (now capacities) (now flights)) (now holds)) × (length (now holds) * width ≤ length (now flights)) × (length (now holds) ≤ 128) ⌝ }
     ensures { λ r. ⌜ r ≡ textAnswer (now (buffer .entry)) place (planText (day (now (capacities .entry)) (now (flights .entry))) (now (holds .entry))) ⌝ }
     ensures { λ _. ⌜ now (buffer .exit) ≡ textAfter (now (buffer .entry)) place (planText (day (now (capacities .entry)) (now (flights .entry))) (now (holds .entry))) ⌝ }
 {

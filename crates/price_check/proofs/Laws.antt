@@ -11,7 +11,7 @@ use lib.ListN.{length}
 use Rattle.assignment.specs.Sum.{count}
 use Rattle.assignment.proofs.Tests.{eq?, gate-eq, gate-ne}
 use Rattle.assignment.proofs.Sums.{count-suc, count-zero}
-use Rattle.day.specs.Day.{Day, P, N, due, ofPeriod, capacity, cost, latest, hold, land, landings, valid}
+use Rattle.day.specs.Day.{Day, P, N, due, ofPeriod, capacity, cost, latest, hold, land, landings, valid, width}
 use Rattle.day.specs.Plan.{Legal, Cheapest, Accepted}
 use Rattle.day.proofs.Instance.{hold-le, cost-le, accepted-is-cheapest}
 use Rattle.day.proofs.Valid.{Valid, valid-means}
@@ -43,7 +43,7 @@ pub counted-start : {d : Day} {h : List ℕ} {k : ℕ} → valid d ≡ true → 
 counted-start {d} {h} {k} good each = record { good = good; each = each; upto = omega arith; few = omega arith; counts = sym (count-zero (land d h) k) }
 
 module _ {d : Day} {h : List ℕ} {k n i : ℕ} (s : Counted d h k n i) where
-  pub counted-place : i < length h → (i + 1) * 6 ≤ length (d .flights)
+  pub counted-place : i < length h → (i + 1) * width ≤ length (d .flights)
   counted-place l = omega (arith, valid-means (s .good) .whole, s .each)
 
   module _ (l : i < length h) {x : ℕ} (at : x ≡ land d h i) where
@@ -90,7 +90,7 @@ module _ {d : Day} {h p : List ℕ} {k : ℕ} where
 -- ---- least cost and price
 
 -- the flight's numbers stand in its row
-pub best-place : {d : Day} {h : List ℕ} {i : ℕ} → valid d ≡ true → Legal d h → i < length h → (i + 1) * 6 ≤ length (d .flights)
+pub best-place : {d : Day} {h : List ℕ} {i : ℕ} → valid d ≡ true → Legal d h → i < length h → (i + 1) * width ≤ length (d .flights)
 best-place good legal l = omega (arith, valid-means good .whole, legal .each)
 
 pub record Bests (d : Day) (h p : List ℕ) (i k : ℕ) : Type 0 where

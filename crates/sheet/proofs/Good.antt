@@ -9,7 +9,7 @@ use lib.ListN.{length, getD, length-append}
 use lib.Dec.{leb, eqb}
 use borrow.Author.Tests.{le-leb, leb-true, eq-eqb, eqb-true, not-true}
 use Rattle.text.proofs.Reading.{and-true}
-use Rattle.day.specs.Day.{Day, day, P, N, number, all, inside, inRange, isNew, valid}
+use Rattle.day.specs.Day.{Day, day, P, N, number, all, inside, inRange, isNew, valid, width}
 use Rattle.day.proofs.Tests.{all-at, all-from}
 use Rattle.day.proofs.Valid.{inside-means}
 use Rattle.sheet.specs.declared.Flight.{Flight}
@@ -21,7 +21,7 @@ use Rattle.sheet.proofs.Rows.{used-step, length-flights, rows-back}
 -- the parts of the day check, as it tests them
 record Parts (d : Day) : Type 0 where
   periods : inside 1 96 (P d) ≡ true
-  whole : length (d .flights) ≡ N d * 6
+  whole : length (d .flights) ≡ N d * width
   few : N d ≤ 128
   caps : all (P d) (λ k. leb (getD (d .capacities) k 0) 255) ≡ true
   ranges : all (N d) (inRange d) ≡ true
@@ -31,7 +31,7 @@ parts : (d : Day) → valid d ≡ true → Parts d
 unfolding valid
 parts d e =
     let t = inside 1 96 (P d) in
-    let w = eqb (length (d .flights)) (N d * 6) in
+    let w = eqb (length (d .flights)) (N d * width) in
     let f = leb (N d) 128 in
     let c = all (P d) (λ k. leb (getD (d .capacities) k 0) 255) in
     let r = all (N d) (inRange d) in
@@ -133,10 +133,10 @@ valid-good d e =
       apart = first-new d (N d) (all-at (N d) _ (p .numbers));
     }
 
-pub row-whole : (d : Day) → valid d ≡ true → length (d .flights) ≡ N d * 6
+pub row-whole : (d : Day) → valid d ≡ true → length (d .flights) ≡ N d * width
 row-whole d e = parts d e .whole
 
-length-row : (fs : List Flight) → length (rowOf fs) ≡ length fs * 6
+length-row : (fs : List Flight) → length (rowOf fs) ≡ length fs * width
 unfolding rowOf
 length-row [] = refl
 length-row (f ∷ fs) = simp length-append (omega (arith, length-row fs))
@@ -158,7 +158,7 @@ good-valid caps fs g =
       n,
       le-leb 1 (length caps) (g .some-period),
       le-leb (length caps) 96 (g .periods),
-      eq-eqb (length (rowOf fs)) (length fs * 6) (length-row fs),
+      eq-eqb (length (rowOf fs)) (length fs * width) (length-row fs),
       le-leb (length fs) 128 (g .flights),
       all-from (length caps) (λ k. leb (getD caps k 0) 255) (caps-to caps (g .caps-fit)),
       all-fit d (length fs) (rw (flights-row fs) (g .flights-fit)),

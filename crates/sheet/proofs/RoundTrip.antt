@@ -7,7 +7,7 @@ use mathlib.Core.List.{List}
 use mathlib.Core.Bool.{true}
 use lib.ListN.{length}
 use lib.Seq.{take-all}
-use Rattle.day.specs.Day.{Day, day, N, valid}
+use Rattle.day.specs.Day.{Day, day, N, valid, width}
 use Rattle.sheet.specs.declared.Flight.{Flight}
 use Rattle.sheet.specs.Flights.{flightsOf, rowOf}
 use Rattle.sheet.specs.Text.{sheetOf}
@@ -37,7 +37,7 @@ pub same-row : (d : Day) → valid d ≡ true → rowOf (flightsOf d) ≡ d .fli
 unfolding flightsOf
 same-row d e =
     let w = row-whole d e in
-    row-front (N d) (d .flights) (omega arith) ∙ take-all (N d * 6) (d .flights) (omega arith)
+    row-front (N d) (d .flights) (omega arith) ∙ take-all (N d * width) (d .flights) (omega arith)
 
 -- every written sheet of a valid day is short enough to be read
 pub sheet-is-short : (d : Day) → valid d ≡ true → length (sheetOf d) ≤ 8192

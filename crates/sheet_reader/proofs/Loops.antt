@@ -10,6 +10,7 @@ use lib.ListN.{length, getD, take, drop, set, length-take}
 use lib.Seq.{set-at, take-suc-set, length-take-le, take-suc, drop-cons}
 use lib.Dec.{eqb}
 use borrow.Author.Tests.{le-leb, lt-leb, eq-eqb, ne-eqb, lt-ltb, le-ltb}
+use Rattle.day.specs.Day.{width}
 use Rattle.text.specs.Fixed.{startsWith}
 use Rattle.sheet.specs.declared.Flight.{Flight}
 use Rattle.sheet.specs.declared.PeriodLine.the-variants.{Period, NoPeriod}
@@ -177,11 +178,11 @@ pub refused-so : (R : Reading) (a : Answer) (caps flights : List ℕ) → R ≡ 
     → (a ≡ answerOf R) × ((caps ≡ capacitiesAfter R caps) × (flights ≡ flightsAfter R flights))
 refused-so R a caps flights e = rw e (refl, (refl, refl))
 
-pub read-so : (R : Reading) (C row caps flights : List ℕ) (p n : ℕ) → R ≡ read C (firstFlights n row) → length C ≡ p → n * 6 ≤ length row
-    → (caps′ flights′ : List ℕ) → caps′ ≡ C ++ drop p caps → flights′ ≡ take (n * 6) row ++ drop (n * 6) flights
+pub read-so : (R : Reading) (C row caps flights : List ℕ) (p n : ℕ) → R ≡ read C (firstFlights n row) → length C ≡ p → n * width ≤ length row
+    → (caps′ flights′ : List ℕ) → caps′ ≡ C ++ drop p caps → flights′ ≡ take (n * width) row ++ drop (n * width) flights
     → (Read p n ≡ answerOf R) × ((caps′ ≡ capacitiesAfter R caps) × (flights′ ≡ flightsAfter R flights))
 read-so R C row caps flights p n e l h caps′ flights′ a b =
-    let t : length (take (n * 6) row) ≡ n * 6 = length-take-le (n * 6) row h in
+    let t : length (take (n * width) row) ≡ n * width = length-take-le (n * width) row h in
     rw (e, a, b, l, length-flights n row, row-front n row h, t) (refl, (refl, refl))
 
 pub few-listed : (x : Listing) (n : ℕ) → x ≡ Listed n → Few x → n ≤ 128

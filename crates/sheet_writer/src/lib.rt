@@ -4,7 +4,7 @@ ghost use mathlib.Core.List.{[], _∷_};
 ghost use Prim.Native.Nat.{_+_, _*_, _≤_, _<_};
 ghost use lib.ListN.{length};
 ghost use Rattle.text.specs.Writing.{Put};
-ghost use Rattle.day.specs.Day.{day, column};
+ghost use Rattle.day.specs.Day.{day, width, column};
 ghost use Rattle.sheet.specs.Flights.{flightAt, firstFlights};
 ghost use Rattle.sheet.specs.Text.{periodNames, flightNames, limitText, periodText, flightText, periodsText, flightsText, sheetText};
 ghost use Rattle.sheet_writer.specs.Write.{writeAnswer, writeAfter};
@@ -41,7 +41,7 @@ fn limit_len(limit: usize) -> usize
 
 // The numbers of a flight line but for its limit.
 fn values_of(flights: &[u32], i: usize) -> [usize; 5]
-    requires { ⌜ (i + 1) * 6 ≤ length (now flights) ⌝ }
+    requires { ⌜ (i + 1) * width ≤ length (now flights) ⌝ }
     ensures { λ r. ⌜ r ≡ column 0 (now (flights .entry)) i ∷ column 1 (now (flights .entry)) i ∷ column 2 (now (flights .entry)) i ∷ column 3 (now (flights .entry)) i ∷ column 4 (now (flights .entry)) i ∷ [] ⌝ }
 {
     [
@@ -64,7 +64,7 @@ fn put_last(out: &mut [u8], at: usize, limit: usize) -> usize
 
 // A flight line, at the front of out.
 fn put_flight(out: &mut [u8], flights: &[u32], i: usize) -> usize
-    requires { ⌜ ((i + 1) * 6 ≤ length (now flights)) × (length (flightText (flightAt (now flights) i)) ≤ length (now out)) ⌝ }
+    requires { ⌜ ((i + 1) * width ≤ length (now flights)) × (length (flightText (flightAt (now flights) i)) ≤ length (now out)) ⌝ }
     ensures { λ r. ⌜ Put (now (out .entry)) 0 (flightText (flightAt (now (flights .entry)) i)) r (now (out .exit)) ⌝ }
 {
     let values = values_of(flights, i);
@@ -73,7 +73,7 @@ fn put_flight(out: &mut [u8], flights: &[u32], i: usize) -> usize
 }
 
 fn flight_len(flights: &[u32], i: usize) -> usize
-    requires { ⌜ (i + 1) * 6 ≤ length (now flights) ⌝ }
+    requires { ⌜ (i + 1) * width ≤ length (now flights) ⌝ }
     ensures { λ r. ⌜ (r ≡ length (flightText (flightAt (now (flights .entry)) i))) × (r ≤ 126) ⌝ }
 {
     let values = values_of(flights, i);
@@ -82,7 +82,7 @@ fn flight_len(flights: &[u32], i: usize) -> usize
 
 // The flight line of table place i from `at` on.
 fn put_flight_at(out: &mut [u8], at: usize, flights: &[u32], i: usize) -> usize
-    requires { ⌜ ((i + 1) * 6 ≤ length (now flights)) × (at + length (flightText (flightAt (now flights) i)) ≤ length (now out)) ⌝ }
+    requires { ⌜ ((i + 1) * width ≤ length (now flights)) × (at + length (flightText (flightAt (now flights) i)) ≤ length (now out)) ⌝ }
     ensures { λ r. ⌜ Put (now (out .entry)) at (flightText (flightAt (now (flights .entry)) i)) r (now (out .exit)) ⌝ }
 {
     let k = put_flight(&mut out[at..], flights, i);
@@ -133,7 +133,7 @@ fn periods_len(capacities: &[u32]) -> usize
 }
 
 fn put_flights(out: &mut [u8], start: usize, flights: &[u32], n: usize) -> usize
-    requires { ⌜ (start + length (flightsText (firstFlights n (now flights))) ≤ length (now out)) × (n ≤ 128) × (n * 6 ≤ length (now flights)) ⌝ }
+    requires { ⌜ (start + length (flightsText (firstFlights n (now flights))) ≤ length (now out)) × (n ≤ 128) × (n * width ≤ length (now flights)) ⌝ }
     ensures { λ r. ⌜ Put (now (out .entry)) start (flightsText (firstFlights n (now (flights .entry)))) r (now (out .exit)) ⌝ }
 {
     let mut at = start;
@@ -146,7 +146,7 @@ fn put_flights(out: &mut [u8], start: usize, flights: &[u32], n: usize) -> usize
 }
 
 fn flights_len(flights: &[u32], n: usize) -> usize
-    requires { ⌜ (n ≤ 128) × (n * 6 ≤ length (now flights)) ⌝ }
+    requires { ⌜ (n ≤ 128) × (n * width ≤ length (now flights)) ⌝ }
     ensures { λ r. ⌜ (r ≡ length (flightsText (firstFlights n (now (flights .entry))))) × (r ≤ 16128) ⌝ }
 {
     let mut sum: usize = 0;
@@ -175,7 +175,7 @@ fn put_flight_names(out: &mut [u8], at: usize) -> usize
 
 // The whole sheet, at the front of out.
 fn fill_sheet(out: &mut [u8], capacities: &[u32], flights: &[u32], n: usize) -> usize
-    requires { ⌜ (length (sheetText (now capacities) (firstFlights n (now flights))) ≤ length (now out)) × (length (now capacities) ≤ 96) × (n ≤ 128) × (n * 6 ≤ length (now flights)) ⌝ }
+    requires { ⌜ (length (sheetText (now capacities) (firstFlights n (now flights))) ≤ length (now out)) × (length (now capacities) ≤ 96) × (n ≤ 128) × (n * width ≤ length (now flights)) ⌝ }
     ensures { λ r. ⌜ Put (now (out .entry)) 0 (sheetText (now (capacities .entry)) (firstFlights n (now (flights .entry)))) r (now (out .exit)) ⌝ }
 {
     let a = put_period_names(out);

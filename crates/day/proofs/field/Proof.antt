@@ -3,6 +3,7 @@
 use Prim.Native.Nat.{_+_, _*_}
 use native.Mathlib.Omega.{arith}
 use borrow.Author.Needs.{needs}
+use Rattle.day.specs.Day.{width}
 use Rattle.day.proofs.field.Statement.{statement}
 use Rattle.day.proofs.field.Tie as tie
 
@@ -22,7 +23,7 @@ wide-requires : tie.Need-wide-requires
 wide-requires c κs = search needs
 
 returns : tie.Need-returns
-returns c = (c .wide .ensures, omega (arith, c .wide .ensures, c .before .shared-slice-known2 .given (let a = c .before .before .before .args in a .i * 6 + a .j)))
+returns c = (c .wide .ensures, omega (arith, c .wide .ensures, c .before .shared-slice-known2 .given (let a = c .before .before .before .args in a .i * width + a .j)))
 
 pub field-spec : {M : Type 1} → statement M
 field-spec =
