@@ -3,7 +3,7 @@
 use mathlib.Core.Path.{refl}
 use native.Mathlib.Omega.{arith}
 use Rattle.assignment.specs.Sum.{sum, count}
-use Rattle.day.specs.Day.{N, cost, latest, total, all, numbersFit, isNew, valid}
+use Rattle.day.specs.Day.{N, holdCost, latest, total, all, numbersFit, isNew, valid}
 use Rattle.day.specs.Plan.{mustLand, room, tooLong, overCapacity, breaks, firstOf, firstBreak}
 use Rattle.quick_plan.specs.Quick.{ahead, row}
 use Rattle.quick_plan.specs.Loop.{pick, bestTo, waiting, top, landAll, rowTo}
@@ -16,7 +16,7 @@ _and_ : {A B : Type 0} → A → B → A × B
 a and b = (a, b)
 
 pub cases : Correct table
-unfolding dayA dayB dayD dayE dayF dayG dayH dayI dayJ dayK sum count N cost latest total all numbersFit isNew valid mustLand room tooLong overCapacity breaks firstOf firstBreak ahead row pick bestTo waiting top landAll rowTo accepts cheaperAt picks landIn oneOf
+unfolding dayA dayB dayD dayE dayF dayG dayH dayI dayJ dayK sum count N holdCost latest total all numbersFit isNew valid mustLand room tooLong overCapacity breaks firstOf firstBreak ahead row pick bestTo waiting top landAll rowTo accepts cheaperAt picks landIn oneOf
 cases =
     -- A
     (refl, least-total _ _ _ refl refl refl)

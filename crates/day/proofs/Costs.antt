@@ -11,7 +11,7 @@ use lib.ListN.{length, getD, List·getD-eq-default}
 use borrow.Author.Tests.{lt-ltb, le-ltb, eq-eqb, ne-eqb}
 use Rattle.assignment.specs.Sum.{gate}
 use Rattle.assignment.proofs.Tests.{lt?, gate-lt, gate-ge}
-use Rattle.day.specs.Day.{Day, P, due, rate, after, jump, limit, ofPeriod, cost, latest}
+use Rattle.day.specs.Day.{Day, P, due, rate, after, jump, limit, ofPeriod, holdCost, cost, latest}
 
 -- ---- rows by period
 
@@ -26,11 +26,11 @@ period-out row k h = List·getD-eq-default (0 ∷ row) 0 h
 
 module _ (d : Day) (i h : ℕ) where
   pub cost-over : after d i < h → cost d i h ≡ rate d i * h + jump d i
-  unfolding cost
+  unfolding holdCost
   cost-over l = rw (lt-ltb (after d i) h l)
 
   pub cost-under : h ≤ after d i → cost d i h ≡ rate d i * h
-  unfolding cost
+  unfolding holdCost
   cost-under l = rw (le-ltb (after d i) h l) (omega arith)
 
 -- a longer hold costs no less
@@ -42,12 +42,12 @@ jump-rises a s t v l = elim (lt? a s) [
 
 module _ (d : Day) (i s t : ℕ) where
   pub cost-rises : s ≤ t → cost d i s ≤ cost d i t
-  unfolding cost
+  unfolding holdCost
   cost-rises l = omega (arith, mul-le-mul-left (rate d i) l, jump-rises (after d i) s t (jump d i) l)
 
   -- and costs more, where the rate is not 0
   pub cost-grows : 1 ≤ rate d i → s < t → cost d i s < cost d i t
-  unfolding cost
+  unfolding holdCost
   cost-grows pos l = omega (arith, mul-le-mul-left (rate d i) l, jump-rises (after d i) s t (jump d i) (omega arith))
 
 -- a product of two numbers of 32 bits, and one more such number, fit 64 bits

@@ -62,8 +62,12 @@ abbrev pub capacity : Day → ℕ → ℕ
 capacity d k = ofPeriod (d .capacities) k
 
 -- "Its cost is rate × h, plus jump if h is greater than after."
-unfoldable pub cost : Day → ℕ → ℕ → ℕ
-cost d i h = rate d i * h + gate (ltb (after d i) h) (jump d i)
+unfoldable pub holdCost : ℕ → ℕ → ℕ → ℕ → ℕ
+holdCost rate after jump h = rate * h + gate (ltb after h) jump
+
+-- what a hold of h costs the flight at table place i
+abbrev pub cost : Day → ℕ → ℕ → ℕ
+cost d i h = holdCost (rate d i) (after d i) (jump d i) h
 
 -- due + limit, "a missing limit reaching past P"
 unfoldable pub latest : Day → ℕ → ℕ

@@ -4,7 +4,7 @@ ghost use mathlib.Core.Bool.{true, false, _&&_, _||_};
 ghost use Prim.Native.Nat.{_+_, _*_, _/_, _^_, _<_, _≤_};
 ghost use lib.ListN.{getD, length};
 ghost use lib.Dec.{leb};
-ghost use Rattle.day.specs.Day.{day, column, width, ofPeriod, land, cost, latest, all, inside, missing, numbersFit, inRange, isNew, valid};
+ghost use Rattle.day.specs.Day.{day, column, width, ofPeriod, land, holdCost, cost, latest, all, inside, missing, numbersFit, inRange, isNew, valid};
 
 pub fn wide(x: u32) -> usize
     ensures { λ r. ⌜ r ≡ x ⌝ }
@@ -95,16 +95,27 @@ pub fn land_of(capacities: &[u32], flights: &[u32], holds: &[u32], i: usize) -> 
     due_of(flights, i) + wide(holds[i])
 }
 
-// What a hold of the flight at table place i costs. Columns and holds are of 32 bits, so the sum fits.
+// What a hold costs a flight of these numbers.
+pub fn hold_cost(rate: usize, after: usize, jump: usize, hold: usize) -> usize
+    requires { ⌜ rate * hold + jump < 2 ^ 64 ⌝ }
+    ensures { λ r. ⌜ r ≡ holdCost rate after jump hold ⌝ }
+{
+    let run = rate * hold;
+    if after < hold {
+        return run + jump;
+    }
+    run
+}
+
+// What a hold costs the flight at table place i. Columns and holds are of 32 bits, so that the sum fits.
 pub fn cost_of(capacities: &[u32], flights: &[u32], i: usize, hold: usize) -> usize
     requires { ⌜ ((i + 1) * width ≤ length (now flights)) × (hold < 2 ^ 32) ⌝ }
     ensures { λ r. ⌜ r ≡ cost (day (now (capacities .entry)) (now (flights .entry))) i hold ⌝ }
 {
-    let run = rate_of(flights, i) * hold;
-    if after_of(flights, i) < hold {
-        return run + jump_of(flights, i);
-    }
-    run
+    let rate = rate_of(flights, i);
+    let after = after_of(flights, i);
+    let jump = jump_of(flights, i);
+    hold_cost(rate, after, jump, hold)
 }
 
 // The last period that the limit of the flight at table place i allows.

@@ -65,7 +65,8 @@ fn hold_until(flights: &[u32], holds: &mut [u32], i: usize, k: usize)
     holds[i] = hold as u32;
 }
 
-// From the target back along `via`: each flight moves on by one place, and the new flight takes the last one.
+// From the target back along `via`: each flight moves on by one place, and the new flight takes the last one. Ranks fall on the way, so
+// that it ends.
 fn walk(
     capacities: &[u32],
     flights: &[u32],

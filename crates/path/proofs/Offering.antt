@@ -6,13 +6,11 @@ use mathlib.Core.List.{List}
 use Prim.Native.Nat.{ℕ, _+_, _-_, _*_, _^_, _≤_, _<_, min}
 use native.Mathlib.Nat.{mul-le-mul}
 use native.Mathlib.Omega.{arith}
-use lib.Dec.{ltb}
 use lib.ListN.{getD, length, set, length-set}
-use Rattle.assignment.specs.Sum.{gate}
 use Rattle.assignment.proofs.Tests.{lt?, eq?}
 use Rattle.assignment.proofs.Moves.{Moved}
 use Rattle.assignment.proofs.Near.{Took, Kept}
-use Rattle.day.specs.Day.{Day, due, rate, after, jump, latest, ofPeriod, cost}
+use Rattle.day.specs.Day.{Day, due, rate, after, jump, latest, ofPeriod, holdCost, cost}
 use Rattle.day.proofs.Costs.{cost-rises}
 use Rattle.path.specs.Path.{el, far, away, dearest, payment, CanOffer, Offers}
 use Rattle.path.proofs.Rows.{set-moved, away-moved, as-read}
@@ -26,8 +24,7 @@ pub record Numbers (d : Day) (target i due₁ rate₁ after₁ jump₁ last : �
   pub last-is : last ≡ min (latest d i) target
 
 pub cost-is : {d : Day} {target i due₁ rate₁ after₁ jump₁ last r : ℕ} (k : ℕ) → Numbers d target i due₁ rate₁ after₁ jump₁ last
-    → r ≡ rate₁ * (k - due₁) + gate (ltb after₁ (k - due₁)) jump₁ → r ≡ cost d i (k - due d i)
-unfolding cost
+    → r ≡ holdCost rate₁ after₁ jump₁ (k - due₁) → r ≡ cost d i (k - due d i)
 cost-is k n e = rw (n .due-is, n .rate-is, n .after-is, n .jump-is) at e
 
 -- the periods before k have been offered

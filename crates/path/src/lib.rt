@@ -1,13 +1,12 @@
 // The search for the cheapest chain of moves that makes room for a new flight: periods are reached in the order of their distances.
 ghost use mathlib.Core.Path.{_≡_};
-ghost use Prim.Native.Nat.{_+_, _*_, _^_, _<_, min};
-ghost use lib.Dec.{ltb};
-ghost use Rattle.assignment.specs.Sum.{gate};
+ghost use Prim.Native.Nat.{_+_, _<_, min};
 ghost use Rattle.day.specs.Day.{day, ofPeriod};
 ghost use Rattle.path.specs.Path.{landing, scope, CanNear, Nearest, CanOffer, Offers, CanExpand, Expanded, CanSearch, Searched};
 use day::after_of;
 use day::cost_of;
 use day::due_of;
+use day::hold_cost;
 use day::jump_of;
 use day::latest_of;
 use day::of_period;
@@ -24,18 +23,6 @@ fn smaller(a: usize, b: usize) -> usize
         return a;
     }
     b
-}
-
-// What a hold costs a flight of these numbers.
-fn hold_cost(rate: usize, after: usize, jump: usize, hold: usize) -> usize
-    requires { ⌜ rate * hold + jump < 2 ^ 64 ⌝ }
-    ensures { λ r. ⌜ r ≡ rate * hold + gate (ltb after hold) jump ⌝ }
-{
-    let run = rate * hold;
-    if after < hold {
-        return run + jump;
-    }
-    run
 }
 
 // The nearest period from first to target that has no rank yet.

@@ -14,7 +14,7 @@ use borrow.Author.Tests.{lt-ltb, le-ltb, le-leb, lt-leb, eq-eqb, ne-eqb}
 use Rattle.assignment.specs.Sum.{gate, sum, count}
 use Rattle.assignment.proofs.Tests.{and-T, lt?, eq?}
 use Rattle.assignment.proofs.Sums.{sum-ext, sum-le, sum-add, sum-zero, sum-member}
-use Rattle.day.specs.Day.{Day, P, N, due, rate, after, jump, capacity, cost, land, total, valid}
+use Rattle.day.specs.Day.{Day, P, N, due, rate, after, jump, capacity, holdCost, land, total, valid}
 use Rattle.day.specs.Plan.{Legal, Cheapest, firstJumpOrLimit}
 use Rattle.day.proofs.Valid.{valid-means}
 use Rattle.quick_plan.specs.Quick.{eligible, operates, quick}
@@ -204,7 +204,7 @@ module _ (d : Day) (v : valid d ≡ true) (applies : firstJumpOrLimit d ≡ N d)
       )
 
   plain-total : (h : List ℕ) → total d h ≡ sum (N d) (λ i. rate d i * (land d h i - due d i))
-  unfolding total cost
+  unfolding total holdCost
   plain-total h = sum-ext (N d) (λ i. rate d i * getD h i 0 + gate (ltb (after d i) (getD h i 0)) (jump d i)) (λ i. rate d i * (land d h i - due d i)) (λ i l.
       rw (no-jump d applies i l) (go (rate d i) (ltb (after d i) (getD h i 0)) (getD h i 0) (land d h i - due d i) (omega arith)))
     where
