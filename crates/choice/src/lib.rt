@@ -4,6 +4,8 @@ ghost use mathlib.Core.List.{[]};
 ghost use Rattle.day.specs.Day.{day};
 ghost use Rattle.legality.specs.Check.{planCheck};
 ghost use Rattle.choice.specs.Choice.{onLegal, choice, Chosen};
+use legality::PlanCheck;
+use legality::check_plan;
 
 pub enum Which {
     First,
@@ -18,12 +20,12 @@ const NO_TOTAL: usize = 250880001;
 fn legal_total(capacities: &[u32], flights: &[u32], holds: &[u32]) -> usize
     ensures { λ r. ⌜ r ≡ onLegal (planCheck (day (now (capacities .entry)) (now (flights .entry))) (now (holds .entry))) (λ t. t) 250880001 ⌝ }
 {
-    let found = legality::check_plan(capacities, flights, holds);
+    let found = check_plan(capacities, flights, holds);
     match found {
-        legality::PlanCheck::BadDay => NO_TOTAL,
-        legality::PlanCheck::BadLength { needed } => NO_TOTAL,
-        legality::PlanCheck::NotLegal { place } => NO_TOTAL,
-        legality::PlanCheck::Legal { total } => total,
+        PlanCheck::BadDay => NO_TOTAL,
+        PlanCheck::BadLength { needed } => NO_TOTAL,
+        PlanCheck::NotLegal { place } => NO_TOTAL,
+        PlanCheck::Legal { total } => total,
     }
 }
 

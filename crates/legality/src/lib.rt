@@ -7,6 +7,13 @@ ghost use Rattle.day.specs.Day.{day, width, N, total, valid};
 ghost use Rattle.day.specs.Plan.{tooLong, overCapacity, firstBreak};
 ghost use Rattle.legality.specs.Check.{planCheck};
 ghost use Rattle.legality.specs.Loop.{Walked};
+use day::cost_of;
+use day::flight_count;
+use day::is_valid;
+use day::land_of;
+use day::latest_of;
+use day::of_period;
+use day::wide;
 
 pub enum PlanCheck {
     BadDay,
@@ -23,7 +30,7 @@ fn is_too_long(capacities: &[u32], flights: &[u32], i: usize, k: usize) -> bool
     if capacities.len() + 1 < k {
         return true;
     }
-    day::latest_of(capacities, flights, i) < k
+    latest_of(capacities, flights, i) < k
 }
 
 // The m-th landing in period k is over its capacity.
@@ -33,7 +40,7 @@ fn is_over(capacities: &[u32], flights: &[u32], k: usize, m: usize) -> bool
     if capacities.len() < k {
         return false;
     }
-    day::of_period(capacities, k) < m
+    of_period(capacities, k) < m
 }
 
 // The walk of refusal 10, with a row in which landings are counted by period on the way.
@@ -43,7 +50,7 @@ fn walk(capacities: &[u32], flights: &[u32], holds: &[u32], loads: &mut [usize])
 {
     let mut place = 0;
     while place < holds.len() {
-        let k = day::land_of(capacities, flights, holds, place);
+        let k = land_of(capacities, flights, holds, place);
         if is_too_long(capacities, flights, place, k) {
             return place;
         }
@@ -76,7 +83,7 @@ pub fn total_of(capacities: &[u32], flights: &[u32], holds: &[u32]) -> usize
     let mut sum = 0;
     let mut i = 0;
     while i < holds.len() {
-        sum += day::cost_of(capacities, flights, i, day::wide(holds[i]));
+        sum += cost_of(capacities, flights, i, wide(holds[i]));
         i += 1;
     }
     sum
@@ -86,10 +93,10 @@ pub fn total_of(capacities: &[u32], flights: &[u32], holds: &[u32]) -> usize
 pub fn check_plan(capacities: &[u32], flights: &[u32], holds: &[u32]) -> PlanCheck
     ensures { λ r. ⌜ r ≡ planCheck (day (now (capacities .entry)) (now (flights .entry))) (now (holds .entry)) ⌝ }
 {
-    if !day::is_valid(capacities, flights) {
+    if !is_valid(capacities, flights) {
         return PlanCheck::BadDay;
     }
-    let n = day::flight_count(flights);
+    let n = flight_count(flights);
     if holds.len() != n {
         return PlanCheck::BadLength { needed: n };
     }

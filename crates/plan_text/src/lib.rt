@@ -8,7 +8,18 @@ ghost use Rattle.text.specs.Writing.{Put, textAnswer, textAfter};
 ghost use Rattle.day.specs.Day.{day, width, N, number, due, cost, hold, land, total};
 ghost use Rattle.plan_text.specs.PlanText.{planNames, totalName, planLine, planLines, planText, planTextAnswer, planTextAfter};
 use answers::Answer;
+use day::cost_of;
+use day::due_of;
+use day::land_of;
+use day::number_of;
+use day::wide;
 use legality::PlanCheck;
+use legality::check_plan;
+use text::line_len;
+use text::number_len;
+use text::put_fixed;
+use text::put_line;
+use text::put_number;
 
 const LINE_END: u8 = 10;
 
@@ -25,10 +36,10 @@ fn values_of(capacities: &[u32], flights: &[u32], holds: &[u32], i: usize) -> [u
     ensures { λ r. ⌜ r ≡ number (day (now (capacities .entry)) (now (flights .entry))) i ∷ due (day (now (capacities .entry)) (now (flights .entry))) i ∷ land (day (now (capacities .entry)) (now (flights .entry))) (now (holds .entry)) i ∷ hold (now (holds .entry)) i ∷ [] ⌝ }
 {
     [
-        day::number_of(flights, i),
-        day::due_of(flights, i),
-        day::land_of(capacities, flights, holds, i),
-        day::wide(holds[i]),
+        number_of(flights, i),
+        due_of(flights, i),
+        land_of(capacities, flights, holds, i),
+        wide(holds[i]),
     ]
 }
 
@@ -36,7 +47,7 @@ fn cost_at(capacities: &[u32], flights: &[u32], holds: &[u32], i: usize) -> usiz
     requires { ⌜ (i < length (now holds)) × ((i + 1) * width ≤ length (now flights)) ⌝ }
     ensures { λ r. ⌜ r ≡ cost (day (now (capacities .entry)) (now (flights .entry))) i (hold (now (holds .entry)) i) ⌝ }
 {
-    day::cost_of(capacities, flights, i, day::wide(holds[i]))
+    cost_of(capacities, flights, i, wide(holds[i]))
 }
 
 // The line of the flight at table place i from `at` on: the part that starts there is lent on.
@@ -53,7 +64,7 @@ fn put_plan_line(
 {
     let values = values_of(capacities, flights, holds, i);
     let cost = cost_at(capacities, flights, holds, i);
-    let k = text::put_line(&mut out[at..], &values, cost);
+    let k = put_line(&mut out[at..], &values, cost);
     at + k
 }
 
@@ -62,7 +73,7 @@ fn plan_line_len(capacities: &[u32], flights: &[u32], holds: &[u32], i: usize) -
     ensures { λ r. ⌜ (r ≡ length (planLine (day (now (capacities .entry)) (now (flights .entry))) (now (holds .entry)) i)) × (r ≤ 105) ⌝ }
 {
     let values = values_of(capacities, flights, holds, i);
-    text::line_len(&values, cost_at(capacities, flights, holds, i))
+    line_len(&values, cost_at(capacities, flights, holds, i))
 }
 
 fn put_plan_lines(
@@ -101,14 +112,14 @@ fn put_plan_names(out: &mut [u8]) -> usize
     requires { ⌜ length planNames ≤ length (now out) ⌝ }
     ensures { λ r. ⌜ Put (now (out .entry)) 0 planNames r (now (out .exit)) ⌝ }
 {
-    text::put_fixed(out, &PLAN_NAMES)
+    put_fixed(out, &PLAN_NAMES)
 }
 
 fn put_total_name(out: &mut [u8], at: usize) -> usize
     requires { ⌜ at + length totalName ≤ length (now out) ⌝ }
     ensures { λ r. ⌜ Put (now (out .entry)) at totalName r (now (out .exit)) ⌝ }
 {
-    let k = text::put_fixed(&mut out[at..], &TOTAL_NAME);
+    let k = put_fixed(&mut out[at..], &TOTAL_NAME);
     at + k
 }
 
@@ -116,7 +127,7 @@ fn put_total(out: &mut [u8], at: usize, sum: usize) -> usize
     requires { ⌜ at + length (ended 10 sum) ≤ length (now out) ⌝ }
     ensures { λ r. ⌜ Put (now (out .entry)) at (ended 10 sum) r (now (out .exit)) ⌝ }
 {
-    let k = text::put_number(&mut out[at..], sum, LINE_END);
+    let k = put_number(&mut out[at..], sum, LINE_END);
     at + k
 }
 
@@ -142,7 +153,7 @@ fn plan_len(capacities: &[u32], flights: &[u32], holds: &[u32], sum: usize) -> u
     requires { ⌜ (length (now holds) ≡ N (day (now capacities) (now flights))) × (sum ≡ total (day (now capacities) (now flights)) (now holds)) × (length (now holds) * width ≤ length (now flights)) × (length (now holds) ≤ 128) ⌝ }
     ensures { λ r. ⌜ r ≡ length (planText (day (now (capacities .entry)) (now (flights .entry))) (now (holds .entry))) ⌝ }
 {
-    plan_lines_len(capacities, flights, holds) + text::number_len(sum) + NAMES_LEN
+    plan_lines_len(capacities, flights, holds) + number_len(sum) + NAMES_LEN
 }
 
 // The text of a legal plan, with its total, from the place on. The line writers get the part of the buffer that starts there.
@@ -180,7 +191,7 @@ pub fn write_plan(
     ensures { λ r. ⌜ r ≡ planTextAnswer (day (now (capacities .entry)) (now (flights .entry))) (now (holds .entry)) (now (text .entry)) place ⌝ }
     ensures { λ _. ⌜ now (text .exit) ≡ planTextAfter (day (now (capacities .entry)) (now (flights .entry))) (now (holds .entry)) (now (text .entry)) place ⌝ }
 {
-    let found = legality::check_plan(capacities, flights, holds);
+    let found = check_plan(capacities, flights, holds);
     match found {
         PlanCheck::BadDay => Answer::BadDay,
         PlanCheck::BadLength { needed } => Answer::BadLength { needed },

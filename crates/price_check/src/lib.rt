@@ -6,6 +6,14 @@ ghost use lib.ListN.{length};
 ghost use Rattle.day.specs.Day.{day, N, valid, landings};
 ghost use Rattle.day.specs.Plan.{Legal, Cheapest, Accepted};
 ghost use Rattle.price_check.specs.Decides.{Decides, Unsold, Best};
+use day::cost_of;
+use day::due_of;
+use day::land_of;
+use day::latest_of;
+use day::of_period;
+use day::wide;
+use legality::PlanCheck;
+use legality::check_plan;
 
 // How many flights land in period k.
 fn landings_of(capacities: &[u32], flights: &[u32], holds: &[u32], k: usize) -> usize
@@ -18,7 +26,7 @@ fn landings_of(capacities: &[u32], flights: &[u32], holds: &[u32], k: usize) -> 
     while i < holds.len() {
         let place = i;
         i += 1;
-        if day::land_of(capacities, flights, holds, place) == k {
+        if land_of(capacities, flights, holds, place) == k {
             count += 1;
         }
     }
@@ -35,10 +43,8 @@ fn are_unsold(capacities: &[u32], flights: &[u32], holds: &[u32], prices: &[u32]
     while k <= capacities.len() {
         let period = k;
         k += 1;
-        if day::of_period(prices, period) != 0 {
-            if landings_of(capacities, flights, holds, period)
-                < day::of_period(capacities, period)
-            {
+        if of_period(prices, period) != 0 {
+            if landings_of(capacities, flights, holds, period) < of_period(capacities, period) {
                 return false;
             }
         }
@@ -52,16 +58,16 @@ fn is_best(capacities: &[u32], flights: &[u32], holds: &[u32], prices: &[u32], i
     requires { ⌜ i < length (now holds) ⌝ }
     ensures { λ r. ⌜ Decides r (Best (day (now (capacities .entry)) (now (flights .entry))) (now (holds .entry)) (now (prices .entry)) i) ⌝ }
 {
-    let due = day::due_of(flights, i);
-    let hold = day::wide(holds[i]);
-    let here = day::cost_of(capacities, flights, i, hold) + day::of_period(prices, due + hold);
-    let latest = day::latest_of(capacities, flights, i);
+    let due = due_of(flights, i);
+    let hold = wide(holds[i]);
+    let here = cost_of(capacities, flights, i, hold) + of_period(prices, due + hold);
+    let latest = latest_of(capacities, flights, i);
     let mut k = due;
     while k <= capacities.len() + 1 {
         if latest < k {
             return true;
         }
-        if day::cost_of(capacities, flights, i, k - due) + day::of_period(prices, k) < here {
+        if cost_of(capacities, flights, i, k - due) + of_period(prices, k) < here {
             return false;
         }
         k += 1;
@@ -87,12 +93,12 @@ fn are_best(capacities: &[u32], flights: &[u32], holds: &[u32], prices: &[u32]) 
 fn is_legal(capacities: &[u32], flights: &[u32], holds: &[u32]) -> bool
     ensures { λ r. ⌜ Decides r ((valid (day (now (capacities .entry)) (now (flights .entry))) ≡ true) × Legal (day (now (capacities .entry)) (now (flights .entry))) (now (holds .entry))) ⌝ }
 {
-    let found = legality::check_plan(capacities, flights, holds);
+    let found = check_plan(capacities, flights, holds);
     match found {
-        legality::PlanCheck::BadDay => false,
-        legality::PlanCheck::BadLength { needed } => false,
-        legality::PlanCheck::NotLegal { place } => false,
-        legality::PlanCheck::Legal { total } => true,
+        PlanCheck::BadDay => false,
+        PlanCheck::BadLength { needed } => false,
+        PlanCheck::NotLegal { place } => false,
+        PlanCheck::Legal { total } => true,
     }
 }
 

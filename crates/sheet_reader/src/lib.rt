@@ -11,12 +11,17 @@ ghost use Rattle.sheet.specs.Sheet.{readPeriods, readFlights, reading, answerOf
 ghost use Rattle.sheet_reader.specs.Loop.{goOn, Ready, filled, Few};
 use answers::Answer;
 use day::WIDTH;
+use day::number_of;
+use day::numbers_fit;
+use day::wide;
 use sheet::FLIGHT_NAMES;
 use sheet::Flight;
 use sheet::FlightLine;
 use sheet::PERIOD_NAMES;
 use sheet::PeriodLine;
 use text::Number;
+use text::field_at;
+use text::fixed_at;
 
 // The last field of a flight line: a byte 45 for a missing limit, or a number.
 fn limit_at(s: &[u8], at: usize) -> Number
@@ -37,7 +42,7 @@ fn limit_at(s: &[u8], at: usize) -> Number
             return Number::Bad;
         }
     }
-    let p = text::field_at(s, at, 10);
+    let p = field_at(s, at, 10);
     let Number::Value { n, next } = p else {
         return Number::Bad;
     };
@@ -51,7 +56,7 @@ fn period_line(s: &[u8], at: usize) -> PeriodLine
     requires { ⌜ at ≤ length (now s) ⌝ }
     ensures { λ r. ⌜ r ≡ periodLine (now (s .entry)) at ⌝ }
 {
-    let a = text::field_at(s, at, 44);
+    let a = field_at(s, at, 44);
     let Number::Value {
         n: number,
         next: second,
@@ -59,7 +64,7 @@ fn period_line(s: &[u8], at: usize) -> PeriodLine
     else {
         return PeriodLine::NoPeriod;
     };
-    let b = text::field_at(s, second, 10);
+    let b = field_at(s, second, 10);
     let Number::Value { n: capacity, next } = b else {
         return PeriodLine::NoPeriod;
     };
@@ -74,7 +79,7 @@ fn flight_line(s: &[u8], at: usize) -> FlightLine
     requires { ⌜ at ≤ length (now s) ⌝ }
     ensures { λ r. ⌜ r ≡ flightLine (now (s .entry)) at ⌝ }
 {
-    let a = text::field_at(s, at, 44);
+    let a = field_at(s, at, 44);
     let Number::Value {
         n: number,
         next: at2,
@@ -82,15 +87,15 @@ fn flight_line(s: &[u8], at: usize) -> FlightLine
     else {
         return FlightLine::NoRow;
     };
-    let b = text::field_at(s, at2, 44);
+    let b = field_at(s, at2, 44);
     let Number::Value { n: due, next: at3 } = b else {
         return FlightLine::NoRow;
     };
-    let c = text::field_at(s, at3, 44);
+    let c = field_at(s, at3, 44);
     let Number::Value { n: rate, next: at4 } = c else {
         return FlightLine::NoRow;
     };
-    let d = text::field_at(s, at4, 44);
+    let d = field_at(s, at4, 44);
     let Number::Value {
         n: after,
         next: at5,
@@ -98,7 +103,7 @@ fn flight_line(s: &[u8], at: usize) -> FlightLine
     else {
         return FlightLine::NoRow;
     };
-    let e = text::field_at(s, at5, 44);
+    let e = field_at(s, at5, 44);
     let Number::Value { n: jump, next: at6 } = e else {
         return FlightLine::NoRow;
     };
@@ -123,14 +128,14 @@ fn flight_line(s: &[u8], at: usize) -> FlightLine
 fn flight_fits(p: usize, f: Flight) -> bool
     ensures { λ r. ⌜ ((capacities : List ℕ) → length capacities ≡ p → r ≡ flightFits capacities f) ⌝ }
 {
-    day::numbers_fit(
+    numbers_fit(
         p,
-        day::wide(f.number),
-        day::wide(f.due),
-        day::wide(f.rate),
-        day::wide(f.after),
-        day::wide(f.jump),
-        day::wide(f.limit),
+        wide(f.number),
+        wide(f.due),
+        wide(f.rate),
+        wide(f.after),
+        wide(f.jump),
+        wide(f.limit),
     )
 }
 
@@ -151,14 +156,14 @@ fn names_here(s: &[u8], at: usize) -> bool
     requires { ⌜ at ≤ length (now s) ⌝ }
     ensures { λ r. ⌜ r ≡ startsWith (drop at (now (s .entry))) flightNames ⌝ }
 {
-    text::fixed_at(s, at, &FLIGHT_NAMES)
+    fixed_at(s, at, &FLIGHT_NAMES)
 }
 
 // The first names line.
 fn top_here(s: &[u8]) -> bool
     ensures { λ r. ⌜ r ≡ startsWith (now (s .entry)) periodNames ⌝ }
 {
-    text::fixed_at(s, 0, &PERIOD_NAMES)
+    fixed_at(s, 0, &PERIOD_NAMES)
 }
 
 // Whether one of the first n flights of the row has this number.
@@ -169,7 +174,7 @@ fn number_used(row: &[u32; 768], n: usize, number: u32) -> bool
     let mut j = n;
     while 0 < j {
         j -= 1;
-        if day::number_of(row, j) == day::wide(number) {
+        if number_of(row, j) == wide(number) {
             return true;
         }
     }
@@ -217,7 +222,7 @@ fn read_periods(s: &[u8], caps: &mut [u32; 96]) -> Periods
         else {
             return Periods::Stopped(Answer::BadForm { line: at });
         };
-        if day::wide(number) != n + 1 {
+        if wide(number) != n + 1 {
             return Periods::Stopped(Answer::OutOfRange { line: at });
         }
         if 255 < capacity {

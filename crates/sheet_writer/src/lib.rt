@@ -9,8 +9,24 @@ ghost use Rattle.sheet.specs.Flights.{flightAt, firstFlights};
 ghost use Rattle.sheet.specs.Text.{periodNames, flightNames, limitText, periodText, flightText, periodsText, flightsText, sheetText};
 ghost use Rattle.sheet_writer.specs.Write.{writeAnswer, writeAfter};
 use answers::Answer;
+use day::after_of;
+use day::due_of;
+use day::flight_count;
+use day::is_valid;
+use day::jump_of;
+use day::limit_of;
+use day::number_of;
+use day::rate_of;
+use day::wide;
 use sheet::FLIGHT_NAMES;
 use sheet::PERIOD_NAMES;
+use text::line_len;
+use text::number_len;
+use text::put_fixed;
+use text::put_line;
+use text::put_number;
+use text::put_separated;
+use text::separated_len;
 
 const LINE_END: u8 = 10;
 
@@ -27,7 +43,7 @@ fn put_limit(out: &mut [u8], limit: usize) -> usize
         out[1] = LINE_END;
         return 2;
     }
-    text::put_number(out, limit, LINE_END)
+    put_number(out, limit, LINE_END)
 }
 
 fn limit_len(limit: usize) -> usize
@@ -36,7 +52,7 @@ fn limit_len(limit: usize) -> usize
     if limit == 255 {
         return 2;
     }
-    text::number_len(limit)
+    number_len(limit)
 }
 
 // The numbers of a flight line but for its limit.
@@ -45,11 +61,11 @@ fn values_of(flights: &[u32], i: usize) -> [usize; 5]
     ensures { λ r. ⌜ r ≡ column 0 (now (flights .entry)) i ∷ column 1 (now (flights .entry)) i ∷ column 2 (now (flights .entry)) i ∷ column 3 (now (flights .entry)) i ∷ column 4 (now (flights .entry)) i ∷ [] ⌝ }
 {
     [
-        day::number_of(flights, i),
-        day::due_of(flights, i),
-        day::rate_of(flights, i),
-        day::after_of(flights, i),
-        day::jump_of(flights, i),
+        number_of(flights, i),
+        due_of(flights, i),
+        rate_of(flights, i),
+        after_of(flights, i),
+        jump_of(flights, i),
     ]
 }
 
@@ -68,8 +84,8 @@ fn put_flight(out: &mut [u8], flights: &[u32], i: usize) -> usize
     ensures { λ r. ⌜ Put (now (out .entry)) 0 (flightText (flightAt (now (flights .entry)) i)) r (now (out .exit)) ⌝ }
 {
     let values = values_of(flights, i);
-    let at = text::put_separated(out, &values);
-    put_last(out, at, day::limit_of(flights, i))
+    let at = put_separated(out, &values);
+    put_last(out, at, limit_of(flights, i))
 }
 
 fn flight_len(flights: &[u32], i: usize) -> usize
@@ -77,7 +93,7 @@ fn flight_len(flights: &[u32], i: usize) -> usize
     ensures { λ r. ⌜ (r ≡ length (flightText (flightAt (now (flights .entry)) i))) × (r ≤ 126) ⌝ }
 {
     let values = values_of(flights, i);
-    text::separated_len(&values) + limit_len(day::limit_of(flights, i))
+    separated_len(&values) + limit_len(limit_of(flights, i))
 }
 
 // The flight line of table place i from `at` on.
@@ -95,7 +111,7 @@ fn put_period_at(out: &mut [u8], at: usize, j: usize, capacity: usize) -> usize
     ensures { λ r. ⌜ Put (now (out .entry)) at (periodText j capacity) r (now (out .exit)) ⌝ }
 {
     let values = [j];
-    let k = text::put_line(&mut out[at..], &values, capacity);
+    let k = put_line(&mut out[at..], &values, capacity);
     at + k
 }
 
@@ -103,7 +119,7 @@ fn period_len(j: usize, capacity: usize) -> usize
     ensures { λ r. ⌜ (r ≡ length (periodText j capacity)) × (r ≤ 42) ⌝ }
 {
     let values = [j];
-    text::line_len(&values, capacity)
+    line_len(&values, capacity)
 }
 
 fn put_periods(out: &mut [u8], start: usize, capacities: &[u32]) -> usize
@@ -113,7 +129,7 @@ fn put_periods(out: &mut [u8], start: usize, capacities: &[u32]) -> usize
     let mut at = start;
     let mut i: usize = 0;
     while i < capacities.len() {
-        at = put_period_at(out, at, i + 1, day::wide(capacities[i]));
+        at = put_period_at(out, at, i + 1, wide(capacities[i]));
         i += 1;
     }
     at
@@ -126,7 +142,7 @@ fn periods_len(capacities: &[u32]) -> usize
     let mut sum: usize = 0;
     let mut i: usize = 0;
     while i < capacities.len() {
-        sum += period_len(i + 1, day::wide(capacities[i]));
+        sum += period_len(i + 1, wide(capacities[i]));
         i += 1;
     }
     sum
@@ -162,14 +178,14 @@ fn put_period_names(out: &mut [u8]) -> usize
     requires { ⌜ length periodNames ≤ length (now out) ⌝ }
     ensures { λ r. ⌜ Put (now (out .entry)) 0 periodNames r (now (out .exit)) ⌝ }
 {
-    text::put_fixed(out, &PERIOD_NAMES)
+    put_fixed(out, &PERIOD_NAMES)
 }
 
 fn put_flight_names(out: &mut [u8], at: usize) -> usize
     requires { ⌜ at + length flightNames ≤ length (now out) ⌝ }
     ensures { λ r. ⌜ Put (now (out .entry)) at flightNames r (now (out .exit)) ⌝ }
 {
-    let k = text::put_fixed(&mut out[at..], &FLIGHT_NAMES);
+    let k = put_fixed(&mut out[at..], &FLIGHT_NAMES);
     at + k
 }
 
@@ -189,10 +205,10 @@ pub fn write_sheet(capacities: &[u32], flights: &[u32], text: &mut [u8], place: 
     ensures { λ r. ⌜ r ≡ writeAnswer (day (now (capacities .entry)) (now (flights .entry))) (now (text .entry)) place ⌝ }
     ensures { λ _. ⌜ now (text .exit) ≡ writeAfter (day (now (capacities .entry)) (now (flights .entry))) (now (text .entry)) place ⌝ }
 {
-    if !day::is_valid(capacities, flights) {
+    if !is_valid(capacities, flights) {
         return Answer::BadDay;
     }
-    let n = day::flight_count(flights);
+    let n = flight_count(flights);
     let needed = periods_len(capacities) + flights_len(flights, n) + NAMES_LEN;
     if text.len() < place {
         return Answer::BadLength { needed };
