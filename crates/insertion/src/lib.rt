@@ -10,7 +10,7 @@ use day::due_of;
 use day::land_of;
 use day::of_period;
 use day::wide;
-use due_order::order_by_due;
+use due_order::order_flights;
 use path::FAR;
 use path::find_path;
 
@@ -182,7 +182,7 @@ pub fn insert_all(
     ensures { λ r. ⌜ Planned (day (now (capacities .entry)) (now (flights .entry))) (now (holds .exit)) (now (prices .exit)) r ⌝ }
 {
     let mut order = [0; 128];
-    order_by_due(capacities, flights, &mut order);
+    order_flights(capacities, flights, &mut order);
     clear(prices);
     let mut total = 0;
     let mut n = 0;

@@ -11,9 +11,10 @@ use Rattle.assignment.specs.Assignment.{Instance, In}
 use Rattle.assignment.proofs.Restricted.{until, until-near}
 use Rattle.day.specs.Day.{Day, P, N, width, ofPeriod, due, latest, cost}
 use Rattle.day.proofs.Instance.{last}
-use Rattle.path.specs.Path.{el, far, away, dearest, scope, landing, Table, Next, Chained, Scene, Rows, Search, Around, CanNear, Nearest, CanOffer, Offers, CanExpand, Expanded, CanSearch, Searched}
-use Rattle.path.proofs.Rows.{as-read}
-use Rattle.path.proofs.Reaching.{blank-far, search-start, around-pass, around-kept, around-offered, search-near, reach-in, reach-next, search-end}
+use Rattle.path.specs.Path.{el, far, away, dearest, scope, landing, Table, Next, Chained, Scene, Rows, Search, Around, Copied, Gap, Listed, Filled, Removed, CanNear, NearestIn, Nearest, CanOffer, Offers, CanExpand, Expanded, CanSearch, Searched}
+use Rattle.path.proofs.Rows.{as-read, set-moved}
+use Rattle.path.proofs.Listing.{listed-start, listed-nearest, listed-last, listed-other, listed-out}
+use Rattle.path.proofs.Reaching.{blank, blank-far, search-start, around-pass, around-kept, around-offered, search-near, reach-in, reach-next, search-end}
 
 -- a flight of the day stands in its row
 pub stands : {d : Day} {order : List ℕ} (t : Table d order) (i : ℕ) → i < N d → (i + 1) * width ≤ length (d .flights)
@@ -51,26 +52,27 @@ pass-to : {d : Instance} {x p : ℕ → ℕ} {target : ℕ} {dist rank via : Lis
     → Around d x p target dist rank via t k m → Around d x p target dist rank via t k r
 pass-to {m = m} {r = r} h a = rw (gap (h .after)) at (passes (r - m) a (λ s b c. h .none s b (rw (gap (h .after)) at c)))
 
-module _ (d : Day) (order holds first-in next-in prices : List ℕ) (n target : ℕ) where
+module _ (d : Day) (order holds first-in next-in prices level list : List ℕ) (n left target : ℕ) where
   -- the flights before `who` that land in k have offered, and `who` is the next of them; `from` is the distance of k
   pub record Expanding (dist₀ dist via₀ via : List ℕ) (k from who : ℕ) : Type 0 where
-    pub can : CanExpand d order holds first-in next-in prices dist₀ via₀ n target k
+    pub can : CanExpand d order holds first-in next-in prices level list dist₀ via₀ n left target k
     pub same-d : length dist ≡ length dist₀
     pub same-v : length via ≡ length via₀
     pub upto : who ≤ n
     pub there : who < n → landing d order holds who ≡ k
     pub from-is : from ≡ away dist₀ k
     pub most : away dist target ≤ far
+    pub passed : (j : ℕ) → Gap list left j → due d (el order n) ≤ j → away dist j ≤ from
     pub keeps : (rank : List ℕ) (t : ℕ)
         → Around (scope d order n target) (landing d order holds) (ofPeriod prices) target dist₀ rank via₀ t k 0
         → Around (scope d order n target) (landing d order holds) (ofPeriod prices) target dist rank via t k who × (from ≡ away dist k)
 
-module _ {d : Day} {order holds first-in next-in prices dist via : List ℕ} {n target k : ℕ}
-    (c : CanExpand d order holds first-in next-in prices dist via n target k) where
+module _ {d : Day} {order holds first-in next-in prices level list dist via : List ℕ} {n left target k : ℕ}
+    (c : CanExpand d order holds first-in next-in prices level list dist via n left target k) where
   pub expand-room : (k < length dist) × (k < length first-in) × (k < 98)
   expand-room = omega (arith, c .to, c .scene .within, c .scene .periods, c .dists, c .chained .firsts)
 
-  pub expanding-start : Expanding d order holds first-in next-in prices n target dist dist via via k (getD dist k 0) (getD first-in k 0)
+  pub expanding-start : Expanding d order holds first-in next-in prices level list n left target dist dist via via k (getD dist k 0) (getD first-in k 0)
   expanding-start =
       let h = c .chained .first k (expand-room .2) in
       record {
@@ -81,11 +83,12 @@ module _ {d : Day} {order holds first-in next-in prices dist via : List ℕ} {n 
         there = h .there;
         from-is = as-read dist k (expand-room .0);
         most = c .most;
+        passed = λ j g a. omega (arith, c .passed j g a, as-read dist k (expand-room .0));
         keeps = λ rank t a. (pass-to h a, as-read dist k (expand-room .0));
       }
 
-module _ {d : Day} {order holds first-in next-in prices dist₀ dist via₀ via : List ℕ} {n target k from who : ℕ}
-    (s : Expanding d order holds first-in next-in prices n target dist₀ dist via₀ via k from who) where
+module _ {d : Day} {order holds first-in next-in prices level list dist₀ dist via₀ via : List ℕ} {n left target k from who : ℕ}
+    (s : Expanding d order holds first-in next-in prices level list n left target dist₀ dist via₀ via k from who) where
   pub expanding-end : n ≤ who → Expanded (scope d order n target) (landing d order holds) (ofPeriod prices) target dist₀ dist via₀ via k n
   expanding-end l = let e : who ≡ n = omega (arith, s .upto) in record { keeps = λ rank t a. rw e at (s .keeps rank t a .0) }
 
@@ -133,7 +136,7 @@ module _ {d : Day} {order holds first-in next-in prices dist₀ dist via₀ via 
           pub expanding-small : b + q ≤ dearest
           expanding-small = omega (arith, base-is, s .can .scene .pays who k (omega arith) window)
 
-          pub expanding-can : CanOffer d prices dist via target i from (b + q)
+          pub expanding-can : CanOffer d prices level list dist via left target i from (b + q)
           expanding-can = record {
             few = s .can .table .valid .periods-to;
             room = expanding-stands .0;
@@ -149,11 +152,18 @@ module _ {d : Day} {order holds first-in next-in prices dist₀ dist via₀ via 
                 let best = s .can .scene .sound .accepted .best who j l w in
                 let least = s .can .scene .pays who j (omega arith) w in
                 rw i-is (omega (arith, rw here at best, least, base-is));
+            levels = s .can .levels;
+            copied = record { price = λ j a e. s .can .copied .price j (omega (arith, rw i-is at a, s .can .scene .floor who l)) e };
+            shape = s .can .shape;
+            passed = λ j g a e.
+                let w : In (scope d order n target) who j = record { from = rw i-is at a; to = omega (arith, to, rw i-is at e) } in
+                let best = s .can .scene .sound .accepted .best who j l w in
+                rw i-is (omega (arith, rw here at best, base-is, s .passed j g (omega (arith, w .from, s .can .scene .floor who l))));
           }
 
           pub expanding-offered : {dist₂ via₂ : List ℕ} → length dist₂ ≡ length dist → length via₂ ≡ length via
               → Offers d prices target i who from (b + q) dist dist₂ via via₂
-              → Expanding d order holds first-in next-in prices n target dist₀ dist₂ via₀ via₂ k from (getD next-in who 0)
+              → Expanding d order holds first-in next-in prices level list n left target dist₀ dist₂ via₀ via₂ k from (getD next-in who 0)
           expanding-offered {dist₂} {via₂} sd sv o = record {
             can = s .can;
             same-d = sd ∙ s .same-d;
@@ -162,6 +172,10 @@ module _ {d : Day} {order holds first-in next-in prices dist₀ dist via₀ via 
             there = λ b. next .there b ∙ here;
             from-is = s .from-is;
             most = elim (o target) [ inl c ↦ omega (arith, c .less, c .far, s .most) | inr c ↦ omega (arith, c .far, s .most) ];
+            passed = λ j g a. elim (o j) [
+              | inl c ↦ omega (arith, c .less, c .far, s .passed j g a)
+              | inr c ↦ omega (arith, c .far, s .passed j g a)
+            ];
             keeps = λ rank t a.
                 let g = s .keeps rank t a in (
                   pass-to (rw here at next) (around-offered (g .0) dist₂ via₂ (s .can .scene) l here to (g .1) base-is sd sv (rw i-is at o)),
@@ -171,8 +185,8 @@ module _ {d : Day} {order holds first-in next-in prices dist₀ dist via₀ via 
 
 -- ---- find_path
 
--- t periods are reached, and k is the nearest of the others
-pub record Finding (d : Day) (order holds first-in next-in prices dist rank via : List ℕ) (n first target t k : ℕ) : Type 0 where
+-- t periods are reached, the others stand in the list, and the one at place `at` is the nearest of them
+pub record Finding (d : Day) (order holds first-in next-in prices level list dist rank via : List ℕ) (n first left target t at : ℕ) : Type 0 where
   pub table : Table d order
   pub scene : Scene (scope d order n target) (landing d order holds) (ofPeriod prices) target
   pub upto : n < N d
@@ -180,7 +194,10 @@ pub record Finding (d : Day) (order holds first-in next-in prices dist rank via 
   pub chained : Chained (landing d order holds) first-in next-in n
   pub first-is : first ≡ due d (el order n)
   pub so-far : Search (scope d order n target) (landing d order holds) (ofPeriod prices) target dist rank via t n
-  pub nearest : Nearest dist rank first target k
+  pub levels : length level ≡ 98
+  pub copied : Copied prices level first target
+  pub listed : Listed list rank left first target
+  pub nearest : NearestIn dist list left at
 
 module _ {d : Day} {order holds first-in next-in prices dist rank via : List ℕ} {n target : ℕ} (c : CanSearch d order holds first-in next-in prices dist rank via n target) where
   pub find-rows : Rows dist rank via
@@ -189,6 +206,9 @@ module _ {d : Day} {order holds first-in next-in prices dist rank via : List ℕ
     ranks = rw (c .no-ranks) (length-replicate {A = ℕ} 98 0);
     vias = rw (c .no-links) (length-replicate {A = ℕ} 98 n);
   }
+
+  pub find-within : target < 98
+  find-within = omega (arith, c .scene .within, c .scene .periods)
 
   pub find-room : (n < length order) × (n < 128)
   find-room = omega (arith, c .upto, c .table .by-due .row, c .table .valid .flights-to)
@@ -203,81 +223,120 @@ module _ {d : Day} {order holds first-in next-in prices dist rank via : List ℕ
     window-to : min (latest d (getD order n 0)) target ≡ scope d order n target .hi n
     window-to = until-target d (getD order n 0) target (omega (arith, c .scene .within)) (c .scene .before)
 
-    pub find-offer : CanOffer d prices dist via target i 0 0
-    find-offer = record {
-      few = c .table .valid .periods-to;
-      room = find-stands;
-      rates = c .table .valid .flight i in-day .rate-to;
-      jumps = c .table .valid .flight i in-day .jump-to;
-      within = omega (arith, c .scene .within, c .scene .periods);
-      dists = find-rows .dists;
-      vias = find-rows .vias;
-      low = omega arith;
-      most = rw (c .all-far) (omega (arith, blank-far 98 target));
-      pays = λ k a b.
-          let w : In (scope d order n target) n k = record { from = rw i-is at a; to = omega (arith, window-to, rw i-is at b) } in
-          (omega arith, rw i-is (c .scene .pays n k (omega arith) w));
-    }
-
-    module _ (dist₁ via₁ : List ℕ) {first : ℕ} (first-is : first ≡ due d i) (same-d : length dist₁ ≡ length dist) (same-v : length via₁ ≡ length via)
-        (o : Offers d prices target i n 0 0 dist dist₁ via via₁) where
+    module _ {first : ℕ} (first-is : first ≡ due d i) where
       first-at : first ≡ due d (getD order n 0)
       first-at = rw i-is at first-is
 
-      begun : Search (scope d order n target) (landing d order holds) (ofPeriod prices) target dist₁ rank via₁ 0 n
-      begun = rw (c .no-ranks) (search-start dist₁ via₁ (c .scene) window-to (same-d ∙ find-rows .dists) (same-v ∙ find-rows .vias)
-          (rw (i-is, c .all-far, c .no-links) at o))
+      pub find-list : (first ≤ target) × (first + (target - first) < 98)
+      find-list = omega (arith, first-at, c .scene .before, c .scene .within, c .scene .periods)
 
-      pub finding-near : CanNear dist₁ rank first target
-      finding-near = search-near begun (c .scene) first-at
+      module _ {level list : List ℕ} (row : length list ≡ 98) (f : Filled list first (target - first)) (levels : length level ≡ 98) (copied : Copied prices level first target) where
+        unreached : (k : ℕ) → el rank k ≡ 0
+        unreached k = rw (c .no-ranks) (blank 98 k)
 
-      pub finding-start : {k : ℕ} → Nearest dist₁ rank first target k → Finding d order holds first-in next-in prices dist₁ rank via₁ n first target 0 k
-      finding-start a = record {
-        table = c .table;
-        scene = c .scene;
-        upto = c .upto;
-        holds-row = c .holds-row;
-        chained = c .chained;
-        first-is = first-at;
-        so-far = begun;
-        nearest = a;
-      }
+        listed : Listed list rank (target - first) first target
+        listed = listed-start rank row unreached (omega (arith, find-list)) (omega (arith, find-list)) f
 
-module _ {d : Day} {order holds first-in next-in prices dist rank via : List ℕ} {n first target t k : ℕ}
-    (s : Finding d order holds first-in next-in prices dist rank via n first target t k) where
-  pub finding-end : k ≡ target → Searched (scope d order n target) (landing d order holds) (ofPeriod prices) target dist rank via
-  finding-end e = search-end (s .so-far) (s .scene) (s .first-is) (s .nearest) e
-
-  module _ (e : k ≢ target) where
-    pub finding-in : (k < 98) × (t < 98) × (k < length rank)
-    finding-in = let a = reach-in (s .so-far) (s .scene) (s .first-is) (s .nearest) e in (a .1, a .2, a .3)
-
-    pub finding-expand : CanExpand d order holds first-in next-in prices dist via n target k
-    finding-expand =
-        let a = reach-in (s .so-far) (s .scene) (s .first-is) (s .nearest) e in
-        record {
-          table = s .table;
-          scene = s .scene;
-          upto = s .upto;
-          holds-row = s .holds-row;
-          chained = s .chained;
-          dists = s .so-far .rows .dists;
-          vias = s .so-far .rows .vias;
-          to = a .0;
-          near = a .4;
-          most = s .so-far .most target;
+        pub find-offer : CanOffer d prices level list dist via (target - first) target i 0 0
+        find-offer = record {
+          few = c .table .valid .periods-to;
+          room = find-stands;
+          rates = c .table .valid .flight i in-day .rate-to;
+          jumps = c .table .valid .flight i in-day .jump-to;
+          within = omega (arith, c .scene .within, c .scene .periods);
+          dists = find-rows .dists;
+          vias = find-rows .vias;
+          low = omega arith;
+          most = rw (c .all-far) (omega (arith, blank-far 98 target));
+          pays = λ k a b.
+              let w : In (scope d order n target) n k = record { from = rw i-is at a; to = omega (arith, window-to, rw i-is at b) } in
+              (omega arith, rw i-is (c .scene .pays n k (omega arith) w));
+          levels = levels;
+          copied = record { price = λ k a b. copied .price k (omega (arith, first-is)) b };
+          shape = listed .shape;
+          passed = λ j g a b. absurd (omega (arith, listed .gaps j g (omega (arith, first-is)), unreached j));
         }
 
-    module _ {dist₂ via₂ : List ℕ}
-        (h : Expanded (scope d order n target) (landing d order holds) (ofPeriod prices) target dist dist₂ via via₂ k n) where
-      expanded : Search (scope d order n target) (landing d order holds) (ofPeriod prices) target dist₂ (set rank k (t + 1)) via₂ (t + 1) n
-      expanded = h .keeps (set rank k (t + 1)) (t + 1) (reach-next (s .so-far) (s .scene) (s .first-is) (s .nearest) e) .so-far
+        module _ (dist₁ via₁ : List ℕ) (same-d : length dist₁ ≡ length dist) (same-v : length via₁ ≡ length via)
+            (o : Offers d prices target i n 0 0 dist dist₁ via via₁) where
+          begun : Search (scope d order n target) (landing d order holds) (ofPeriod prices) target dist₁ rank via₁ 0 n
+          begun = rw (c .no-ranks) (search-start dist₁ via₁ (c .scene) window-to (same-d ∙ find-rows .dists) (same-v ∙ find-rows .vias)
+              (rw (i-is, c .all-far, c .no-links) at o))
 
-      pub finding-again : CanNear dist₂ (set rank k (t + 1)) first target
-      finding-again = search-near expanded (s .scene) (s .first-is)
+          pub finding-near : CanNear dist₁ list (target - first) target
+          finding-near = search-near begun (c .scene) (listed .shape)
 
-      pub finding-next : {j : ℕ} → Nearest dist₂ (set rank k (t + 1)) first target j
-          → Finding d order holds first-in next-in prices dist₂ (set rank k (t + 1)) via₂ n first target (t + 1) j
+          pub finding-start : {at : ℕ} → NearestIn dist₁ list (target - first) at
+              → Finding d order holds first-in next-in prices level list dist₁ rank via₁ n first (target - first) target 0 at
+          finding-start a = record {
+            table = c .table;
+            scene = c .scene;
+            upto = c .upto;
+            holds-row = c .holds-row;
+            chained = c .chained;
+            first-is = first-at;
+            so-far = begun;
+            levels = levels;
+            copied = copied;
+            listed = listed;
+            nearest = a;
+          }
+
+module _ {d : Day} {order holds first-in next-in prices level list dist rank via : List ℕ} {n first left target t at : ℕ}
+    (s : Finding d order holds first-in next-in prices level list dist rank via n first left target t at) where
+  nearest-one : Nearest dist rank first target (el list at)
+  nearest-one = listed-nearest (s .listed) (s .nearest)
+
+  pub finding-end : left ≤ at → Searched (scope d order n target) (landing d order holds) (ofPeriod prices) target dist rank via
+  finding-end e = search-end (s .so-far) (s .scene) (s .first-is) nearest-one (listed-last (s .listed) (s .nearest .to) e)
+
+  module _ (l : at < left) where
+    e : el list at ≢ target
+    e = listed-other (s .listed) l
+
+    reached : (el list at < target) × (el list at < 98) × (t < 98) × (el list at < length rank) × (away dist (el list at) ≤ 98 * dearest)
+    reached = reach-in (s .so-far) (s .scene) (s .first-is) nearest-one e
+
+    pub finding-in : (at < 98) × (at < length list) × (t < 98) × (el list at < length rank) × (el list at < 98)
+    finding-in = omega (arith, s .listed .shape .row, s .listed .shape .short, reached .1, reached .2, reached .3)
+
+    pub finding-out : (length list ≡ 98) × (at < left) × (left < 98)
+    finding-out = (s .listed .shape .row, l, s .listed .shape .short)
+
+    around : Around (scope d order n target) (landing d order holds) (ofPeriod prices) target dist (set rank (el list at) (t + 1)) via (t + 1) (el list at) 0
+    around = reach-next (s .so-far) (s .scene) (s .first-is) nearest-one e
+
+    pub finding-expand : CanExpand d order holds first-in next-in prices level list dist via n left target (el list at)
+    finding-expand = record {
+      table = s .table;
+      scene = s .scene;
+      upto = s .upto;
+      holds-row = s .holds-row;
+      chained = s .chained;
+      dists = s .so-far .rows .dists;
+      vias = s .so-far .rows .vias;
+      to = reached .0;
+      near = reached .4;
+      most = s .so-far .most target;
+      levels = s .levels;
+      copied = record { price = λ k a b. s .copied .price k (omega (arith, s .first-is)) b };
+      shape = s .listed .shape;
+      passed = λ j g a. s .so-far .near .order j (el list at) (s .listed .gaps j g (omega (arith, s .first-is))) (nearest-one .fresh e);
+    }
+
+    module _ {dist₂ via₂ list₂ : List ℕ} (same : length list₂ ≡ length list) (r : Removed list list₂ at left)
+        (h : Expanded (scope d order n target) (landing d order holds) (ofPeriod prices) target dist dist₂ via via₂ (el list at) n) where
+      expanded : Search (scope d order n target) (landing d order holds) (ofPeriod prices) target dist₂ (set rank (el list at) (t + 1)) via₂ (t + 1) n
+      expanded = h .keeps (set rank (el list at) (t + 1)) (t + 1) around .so-far
+
+      listed₂ : Listed list₂ (set rank (el list at) (t + 1)) (left - 1) first target
+      listed₂ = listed-out (s .listed) (set rank (el list at) (t + 1)) t l (set-moved rank (el list at) (t + 1) (reached .3)) same r
+
+      pub finding-again : CanNear dist₂ list₂ (left - 1) target
+      finding-again = search-near expanded (s .scene) (listed₂ .shape)
+
+      pub finding-next : {at₂ : ℕ} → NearestIn dist₂ list₂ (left - 1) at₂
+          → Finding d order holds first-in next-in prices level list₂ dist₂ (set rank (el list at) (t + 1)) via₂ n first (left - 1) target (t + 1) at₂
       finding-next a = record {
         table = s .table;
         scene = s .scene;
@@ -286,5 +345,8 @@ module _ {d : Day} {order holds first-in next-in prices dist rank via : List ℕ
         chained = s .chained;
         first-is = s .first-is;
         so-far = expanded;
+        levels = s .levels;
+        copied = s .copied;
+        listed = listed₂;
         nearest = a;
       }

@@ -1,4 +1,5 @@
 pub mod Rows
+pub mod Listing
 pub mod Scan
 pub mod Offering
 pub mod Reaching

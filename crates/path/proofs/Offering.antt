@@ -1,7 +1,7 @@
 -- The loop of `offer`.
 -- Assumes nothing.
-use mathlib.Core.Path.{_≡_, refl, _∙_}
-use mathlib.Core.Logic.{_⊎_, inl, inr}
+use mathlib.Core.Path.{_≡_, refl, ap, _∙_}
+use mathlib.Core.Logic.{_⊎_, inl, inr, _≢_}
 use mathlib.Core.List.{List}
 use Prim.Native.Nat.{ℕ, _+_, _-_, _*_, _^_, _≤_, _<_, min}
 use native.Mathlib.Nat.{mul-le-mul}
@@ -27,139 +27,194 @@ pub cost-is : {d : Day} {target i due₁ rate₁ after₁ jump₁ last r : ℕ} 
     → r ≡ holdCost rate₁ after₁ jump₁ (k - due₁) → r ≡ cost d i (k - due d i)
 cost-is k n e = rw (n .due-is, n .rate-is, n .after-is, n .jump-is) at e
 
--- the periods before k have been offered
-pub record Offering (d : Day) (prices dist₀ dist via₀ via : List ℕ) (target i who from base goal k : ℕ) : Type 0 where
-  pub can : CanOffer d prices dist₀ via₀ target i from base
+-- what stands before place z of the list has been offered
+pub record Offering (d : Day) (prices level list dist₀ dist via₀ via : List ℕ) (left target i who from base goal z : ℕ) : Type 0 where
+  pub can : CanOffer d prices level list dist₀ via₀ left target i from base
   pub same-d : length dist ≡ length dist₀
   pub same-v : length via ≡ length via₀
   pub goal-is : goal ≡ away dist₀ target
-  pub lower : due d i ≤ k
-  pub done : (j : ℕ) → j < k
+  pub done : (j : ℕ) → (z ≤ left → j < el list z)
       → Took (due d i) (min (latest d i) target) (payment d prices i) who from base (away dist₀) (away dist) (el via) j
       ⊎ Kept (due d i) (min (latest d i) target) (payment d prices i) from base (away dist₀ target) (away dist₀) (away dist) (el via₀) (el via) j
-  pub left : (j : ℕ) → k ≤ j → (away dist j ≡ away dist₀ j) × (el via j ≡ el via₀ j)
+  pub rest : (j : ℕ) → ((y : ℕ) → y < z → el list y < j) → (away dist j ≡ away dist₀ j) × (el via j ≡ el via₀ j)
 
-module _ {d : Day} {prices dist via : List ℕ} {target i from base : ℕ} (c : CanOffer d prices dist via target i from base) where
+module _ {d : Day} {prices level list dist via : List ℕ} {left target i from base : ℕ} (c : CanOffer d prices level list dist via left target i from base) where
   pub offer-room : (target < length dist) × (target < 98)
   offer-room = omega (arith, c .within, c .dists)
 
-  pub offering-start : {who k : ℕ} → k ≡ due d i → Offering d prices dist dist via via target i who from base (getD dist target 0) k
-  offering-start e = record {
+  pub offering-start : {who : ℕ} → Offering d prices level list dist dist via via left target i who from base (getD dist target 0) 0
+  offering-start = record {
     can = c;
     same-d = refl;
     same-v = refl;
     goal-is = as-read dist target (offer-room .0);
-    lower = omega arith;
-    done = λ j l. inr (record { far = refl; by = refl; no-nearer = λ a b. absurd (omega arith) });
-    left = λ j _. (refl, refl);
+    done = λ j l. inr (record {
+      far = refl;
+      by = refl;
+      no-nearer = λ a b. omega (
+        arith,
+        c .passed j (record { place = 0; to = omega arith; below = l (omega arith); above = λ y e. absurd (omega arith) }) a b,
+      );
+    });
+    rest = λ j _. (refl, refl);
   }
 
-module _ {d : Day} {prices dist₀ dist via₀ via : List ℕ} {target i who from base goal k due₁ rate₁ after₁ jump₁ last : ℕ}
-    (s : Offering d prices dist₀ dist via₀ via target i who from base goal k) (n : Numbers d target i due₁ rate₁ after₁ jump₁ last) where
-  -- what is left stays as it was, where no offer to it is nearer than the goal
-  rest : ((j : ℕ) → k ≤ j → due d i ≤ j → j ≤ min (latest d i) target → away dist₀ target + base ≤ from + payment d prices i j)
-      → Offers d prices target i who from base dist₀ dist via₀ via
-  rest none j = elim (lt? j k) [
-    | inl l ↦ s .done j l
-    | inr l ↦ inr (record { far = s .left j l .0; by = s .left j l .1; no-nearer = λ a b. omega (arith, none j l a b) })
-  ]
+module _ {d : Day} {prices level list dist₀ dist via₀ via : List ℕ} {left target i who from base goal z due₁ rate₁ after₁ jump₁ last : ℕ}
+    (s : Offering d prices level list dist₀ dist via₀ via left target i who from base goal z) (n : Numbers d target i due₁ rate₁ after₁ jump₁ last) where
+  pub offering-end : left < z → Offers d prices target i who from base dist₀ dist via₀ via
+  offering-end l j = s .done j (λ b. absurd (omega arith))
 
-  pub offering-end : last < k → Offers d prices target i who from base dist₀ dist via₀ via
-  offering-end l = rest (λ j a b c. absurd (omega (arith, n .last-is)))
+  module _ (l : z ≤ left) where
+    pub offering-place : (z < length list) × (z < 98)
+    offering-place = omega (arith, s .can .shape .row, s .can .shape .short)
 
-  module _ (l : k ≤ last) where
-    in-window : k ≤ min (latest d i) target
-    in-window = omega (arith, n .last-is)
+    -- no period before place z is beyond one that is
+    beyond : (j : ℕ) → el list z ≤ j → (y : ℕ) → y < z → el list y < j
+    beyond j a y b = omega (arith, s .can .shape .rising y z b l)
 
-    pub offering-room : (k < length dist) × (k < length via) × (k < 98) × (due₁ ≤ k) × (k ≤ last) × (last < 98)
-    offering-room = omega (
-      arith,
-      n .last-is,
-      n .due-is,
-      s .lower,
-      s .can .within,
-      s .can .dists,
-      s .can .vias,
-      s .same-d,
-      s .same-v,
-    )
+    -- what is left stays as it was, where no offer to it is nearer than the goal
+    stop : ((j : ℕ) → el list z ≤ j → due d i ≤ j → j ≤ min (latest d i) target → away dist₀ target + base ≤ from + payment d prices i j)
+        → Offers d prices target i who from base dist₀ dist via₀ via
+    stop none j = elim (lt? j (el list z)) [
+      | inl b ↦ s .done j (λ _. b)
+      | inr b ↦ inr (record {
+        far = s .rest j (beyond j b) .0;
+        by = s .rest j (beyond j b) .1;
+        no-nearer = λ a e. omega (arith, none j b a e);
+      })
+    ]
 
-    pub offering-fits : {h : ℕ} → h ≤ 98 → rate₁ * h + jump₁ < 2 ^ 64
-    offering-fits {h} short = omega (
-      arith,
-      n .jump-is,
-      s .can .jumps,
-      mul-le-mul {n₁ = rate₁} {m₁ = h} {n₂ = 10000} {m₂ = 98} (omega (arith, n .rate-is, s .can .rates)) short,
-    )
+    pub offering-beyond : last < el list z → Offers d prices target i who from base dist₀ dist via₀ via
+    offering-beyond b = stop (λ j a e f. absurd (omega (arith, n .last-is)))
 
-    module _ {r : ℕ} (r-is : r ≡ cost d i (k - due d i)) where
-      pub offering-reach : (from + r ≤ 99 * dearest) × (goal + base ≤ far + 99 * dearest)
-      offering-reach = omega (arith, r-is, s .can .pays k (s .lower) in-window, s .can .low, s .goal-is, s .can .most)
+    -- the other periods before the next place
+    others-done : (j : ℕ) → j ≢ el list z → (z + 1 ≤ left → j < el list (z + 1))
+        → Took (due d i) (min (latest d i) target) (payment d prices i) who from base (away dist₀) (away dist) (el via) j
+        ⊎ Kept (due d i) (min (latest d i) target) (payment d prices i) from base (away dist₀ target) (away dist₀) (away dist) (el via₀) (el via) j
+    others-done j other next = elim (lt? j (el list z)) [
+      | inl b ↦ s .done j (λ _. b)
+      | inr b ↦ inr (record {
+        far = s .rest j (beyond j b) .0;
+        by = s .rest j (beyond j b) .1;
+        no-nearer = λ a e. elim (lt? z left) [
+          | inl f ↦ omega (arith, s .can .passed j (record { place = z + 1; to = omega arith; below = next (omega arith); above = up b }) a e)
+          | inr f ↦ let same : z ≡ left = omega arith in absurd (omega (arith, ap (el list) same, s .can .shape .ends))
+        ];
+      })
+    ]
+      where
+        up : el list z ≤ j → (y : ℕ) → y < z + 1 → el list y < j
+        up b y e = elim (eq? y z) [ inl f ↦ rw f (omega arith) | inr f ↦ beyond j b y (omega arith) ]
 
-      -- costs rise
-      pub offering-stop : goal + base ≤ from + r → Offers d prices target i who from base dist₀ dist via₀ via
-      offering-stop h = rest (λ j a b c. omega (arith, s .goal-is, r-is, cost-rises d i (k - due d i) (j - due d i) (omega arith)))
+    rest-next : (j : ℕ) → ((y : ℕ) → y < z + 1 → el list y < j) → (away dist j ≡ away dist₀ j) × (el via j ≡ el via₀ j)
+    rest-next j a = s .rest j (λ y b. a y (omega arith))
 
-      module _ {q : ℕ} (q-is : q ≡ ofPeriod prices k) where
-        pub offering-small : (base ≤ (from + r) + q) × ((from + r) + q ≤ 99 * dearest)
-        offering-small = omega (arith, r-is, q-is, s .can .pays k (s .lower) in-window, s .can .low)
+    here-rest : (away dist (el list z) ≡ away dist₀ (el list z)) × (el via (el list z) ≡ el via₀ (el list z))
+    here-rest = s .rest (el list z) (beyond (el list z) (omega arith))
 
-        read : getD dist k 0 ≡ away dist k
-        read = as-read dist k (offering-room .0)
+    kept : (due d i ≤ el list z → el list z ≤ min (latest d i) target → min (away dist₀ (el list z)) (away dist₀ target) + base ≤ from + payment d prices i (el list z))
+        → Offering d prices level list dist₀ dist via₀ via left target i who from base goal (z + 1)
+    kept h = record {
+      can = s .can;
+      same-d = s .same-d;
+      same-v = s .same-v;
+      goal-is = s .goal-is;
+      done = λ j b. elim (eq? j (el list z)) [
+        | inl e ↦ rw e (inr (record { far = here-rest .0; by = here-rest .1; no-nearer = h }))
+        | inr e ↦ others-done j e b
+      ];
+      rest = rest-next;
+    }
 
-        pub offering-keep : getD dist k 0 ≤ ((from + r) + q) - base → Offering d prices dist₀ dist via₀ via target i who from base goal (k + 1)
-        offering-keep h = record {
-          can = s .can;
-          same-d = s .same-d;
-          same-v = s .same-v;
-          goal-is = s .goal-is;
-          lower = omega (arith, s .lower);
-          done = λ j b. elim (eq? j k) [
-            | inl e ↦ rw e (inr (record {
-              far = s .left k (omega arith) .0;
-              by = s .left k (omega arith) .1;
-              no-nearer = λ _ _. omega (arith, read, s .left k (omega arith) .0, r-is, q-is, offering-small);
-            }))
-            | inr e ↦ s .done j (omega arith)
-          ];
-          left = λ j a. s .left j (omega arith);
-        }
+    pub offering-early : el list z < due₁ → Offering d prices level list dist₀ dist via₀ via left target i who from base goal (z + 1)
+    offering-early b = kept (λ a e. absurd (omega (arith, n .due-is)))
 
-        pub offering-take : ((from + r) + q) - base < getD dist k 0
-            → Offering d prices dist₀ (set dist k (((from + r) + q) - base)) via₀ (set via k who) target i who from base goal (k + 1)
-        offering-take h = record {
-          can = s .can;
-          same-d = length-set dist k new ∙ s .same-d;
-          same-v = length-set via k who ∙ s .same-v;
-          goal-is = s .goal-is;
-          lower = omega (arith, s .lower);
-          done = λ j b. elim (eq? j k) [
-            | inl e ↦ rw e (inl (record {
-              from-lo = s .lower;
-              to-hi = in-window;
-              less = omega (arith, read, s .left k (omega arith) .0, r-is, q-is, offering-small);
-              far = omega (arith, v .here, r-is, q-is, offering-small);
-              by = u .here;
-            }))
-            | inr e ↦ elim (s .done j (omega arith)) [
-              | inl c ↦ inl (record {
-                from-lo = c .from-lo;
-                to-hi = c .to-hi;
-                less = c .less;
-                far = omega (arith, v .others j e, c .far);
-                by = u .others j e ∙ c .by;
-              })
-              | inr c ↦ inr (record { far = v .others j e ∙ c .far; by = u .others j e ∙ c .by; no-nearer = c .no-nearer })
-            ]
-          ];
-          left = λ j a. (v .others j (omega arith) ∙ s .left j (omega arith) .0, u .others j (omega arith) ∙ s .left j (omega arith) .1);
-        }
-          where
-            new : ℕ
-            new = ((from + r) + q) - base
+    module _ (to : el list z ≤ last) (lower : due₁ ≤ el list z) where
+      due-by : due d i ≤ el list z
+      due-by = omega (arith, n .due-is)
 
-            v : Moved (away dist) (away (set dist k new)) k new
-            v = away-moved dist k new (offering-room .0)
+      in-window : el list z ≤ min (latest d i) target
+      in-window = omega (arith, n .last-is)
 
-            u : Moved (el via) (el (set via k who)) k who
-            u = set-moved via k who (offering-room .1)
+      pub offering-room : (el list z < length dist) × (el list z < length via) × (el list z < 98) × (el list z - due₁ ≤ 98) × (el list z < length level)
+      offering-room = omega (
+        arith,
+        s .can .levels,
+        n .last-is,
+        s .can .within,
+        s .can .dists,
+        s .can .vias,
+        s .same-d,
+        s .same-v,
+      )
+
+      pub offering-fits : rate₁ * (el list z - due₁) + jump₁ < 2 ^ 64
+      offering-fits = omega (
+        arith,
+        n .jump-is,
+        s .can .jumps,
+        mul-le-mul {n₁ = rate₁} {m₁ = el list z - due₁} {n₂ = 10000} {m₂ = 98} (omega (arith, n .rate-is, s .can .rates)) (offering-room .3),
+      )
+
+      module _ {r : ℕ} (r-is : r ≡ cost d i (el list z - due d i)) where
+        pub offering-reach : (from + r ≤ 99 * dearest) × (goal + base ≤ far + 99 * dearest)
+        offering-reach = omega (arith, r-is, s .can .pays (el list z) due-by in-window, s .can .low, s .goal-is, s .can .most)
+
+        -- costs rise
+        pub offering-stop : goal + base ≤ from + r → Offers d prices target i who from base dist₀ dist via₀ via
+        offering-stop h = stop (λ j a b c. omega (arith, s .goal-is, r-is, cost-rises d i (el list z - due d i) (j - due d i) (omega arith)))
+
+        module _ where
+          abbrev q : ℕ
+          q = getD level (el list z) 0
+
+          q-is : q ≡ ofPeriod prices (el list z)
+          q-is = s .can .copied .price (el list z) due-by (omega (arith, in-window))
+
+          pub offering-small : (base ≤ (from + r) + q) × ((from + r) + q ≤ 99 * dearest)
+          offering-small = omega (arith, r-is, q-is, s .can .pays (el list z) due-by in-window, s .can .low)
+
+          read : getD dist (el list z) 0 ≡ away dist (el list z)
+          read = as-read dist (el list z) (offering-room .0)
+
+          pub offering-keep : getD dist (el list z) 0 ≤ ((from + r) + q) - base
+              → Offering d prices level list dist₀ dist via₀ via left target i who from base goal (z + 1)
+          offering-keep h = kept (λ _ _. omega (arith, read, here-rest .0, r-is, q-is, offering-small))
+
+          pub offering-take : ((from + r) + q) - base < getD dist (el list z) 0
+              → Offering d prices level list dist₀ (set dist (el list z) (((from + r) + q) - base)) via₀ (set via (el list z) who) left target i who from base goal (z + 1)
+          offering-take h = record {
+            can = s .can;
+            same-d = length-set dist (el list z) new ∙ s .same-d;
+            same-v = length-set via (el list z) who ∙ s .same-v;
+            goal-is = s .goal-is;
+            done = λ j b. elim (eq? j (el list z)) [
+              | inl e ↦ rw e (inl (record {
+                from-lo = due-by;
+                to-hi = in-window;
+                less = omega (arith, read, here-rest .0, r-is, q-is, offering-small);
+                far = omega (arith, v .here, r-is, q-is, offering-small);
+                by = u .here;
+              }))
+              | inr e ↦ elim (others-done j e b) [
+                | inl c ↦ inl (record {
+                  from-lo = c .from-lo;
+                  to-hi = c .to-hi;
+                  less = c .less;
+                  far = omega (arith, v .others j e, c .far);
+                  by = u .others j e ∙ c .by;
+                })
+                | inr c ↦ inr (record { far = v .others j e ∙ c .far; by = u .others j e ∙ c .by; no-nearer = c .no-nearer })
+              ]
+            ];
+            rest = λ j a. let e : j ≢ el list z = λ f. omega (arith, a z (omega arith)) in (v .others j e ∙ rest-next j a .0, u .others j e ∙ rest-next j a .1);
+          }
+            where
+              new : ℕ
+              new = ((from + r) + q) - base
+
+              v : Moved (away dist) (away (set dist (el list z) new)) (el list z) new
+              v = away-moved dist (el list z) new (offering-room .0)
+
+              u : Moved (el via) (el (set via (el list z) who)) (el list z) who
+              u = set-moved via (el list z) who (offering-room .1)

@@ -15,7 +15,7 @@ use Rattle.assignment.proofs.Sums.{count-move, count-member, count-all}
 use Rattle.assignment.proofs.Moves.{Moved}
 use Rattle.assignment.proofs.Near.{Offered, near-start, near-reach, near-pass, near-offer, offer-kept, offer-falls}
 use Rattle.assignment.proofs.Stuck.{Stuck, stuck-is-short}
-use Rattle.path.specs.Path.{el, far, away, dearest, Scene, Search, Around, CanNear, Nearest, Searched}
+use Rattle.path.specs.Path.{el, far, away, dearest, InList, Scene, Search, Around, CanNear, Nearest, Searched}
 use Rattle.path.proofs.Rows.{set-moved}
 
 -- ---- the start
@@ -77,13 +77,8 @@ module _ {d : Instance} {x p : ℕ → ℕ} {target : ℕ} (dist via : List ℕ)
 
 module _ {d : Instance} {x p : ℕ → ℕ} {target : ℕ} {dist rank via : List ℕ} {t : ℕ} (s : Search d x p target dist rank via t (d .n))
     (scene : Scene d x p target) where
-  pub search-near : {first : ℕ} → first ≡ d .lo (d .n) → CanNear dist rank first target
-  search-near e = record {
-    dists = s .rows .dists;
-    ranks = s .rows .ranks;
-    before = omega (arith, scene .before);
-    within = omega (arith, scene .within, scene .periods);
-  }
+  pub search-near : {list : List ℕ} {left : ℕ} → InList list left target → CanNear dist list left target
+  search-near o = record { dists = s .rows .dists; shape = o; within = omega (arith, scene .within, scene .periods) }
 
   module _ {first k : ℕ} (first-is : first ≡ d .lo (d .n)) (a : Nearest dist rank first target k) where
     -- nothing that is not reached is nearer

@@ -1,96 +1,80 @@
 -- The loop of `nearest`.
 -- Assumes nothing.
-use mathlib.Core.Path.{_≡_, refl}
-use mathlib.Core.Logic.{inl, inr, _≢_}
+use mathlib.Core.Path.{_≡_, refl, ap, _∙_}
+use mathlib.Core.Logic.{inl, inr}
 use mathlib.Core.List.{List}
 use Prim.Native.Nat.{ℕ, _+_, _≤_, _<_}
 use native.Mathlib.Omega.{arith}
 use lib.ListN.{getD, length}
 use Rattle.assignment.proofs.Tests.{eq?}
-use Rattle.path.specs.Path.{el, away, CanNear, Nearest}
+use Rattle.path.specs.Path.{el, away, CanNear, NearestIn}
 use Rattle.path.proofs.Rows.{as-read}
+use Rattle.path.proofs.Listing.{list-to}
 
--- of the periods before k, `at` is the nearest so far
-pub record Scan (dist rank : List ℕ) (first target best at k : ℕ) : Type 0 where
-  pub can : CanNear dist rank first target
-  pub from : first ≤ at
-  pub to : at ≤ target
-  pub lower : first ≤ k
-  pub upper : k ≤ target
-  pub is : best ≡ away dist at
-  pub most : best ≤ away dist target
-  pub fresh : at ≢ target → (el rank at ≡ 0) × (best < away dist target)
-  pub least : (j : ℕ) → first ≤ j → j < k → el rank j ≡ 0 → best ≤ away dist j
+-- of the places before z, `at` has the nearest so far
+pub record Scan (dist list : List ℕ) (left target best at z : ℕ) : Type 0 where
+  pub can : CanNear dist list left target
+  pub to : at ≤ left
+  pub upper : z ≤ left
+  pub is : best ≡ away dist (el list at)
+  pub most : best ≤ away dist (el list left)
+  pub nearer : at < left → best < away dist (el list left)
+  pub least : (y : ℕ) → y < z → best ≤ away dist (el list y)
 
-module _ {dist rank : List ℕ} {first target : ℕ} (c : CanNear dist rank first target) where
+module _ {dist list : List ℕ} {left target : ℕ} (c : CanNear dist list left target) where
   pub scan-room : target < length dist
   scan-room = omega (arith, c .dists, c .within)
 
-  pub scan-start : Scan dist rank first target (getD dist target 0) target first
+  goal : getD dist target 0 ≡ away dist (el list left)
+  goal = rw (c .shape .ends) (as-read dist target scan-room)
+
+  pub scan-start : Scan dist list left target (getD dist target 0) left 0
   scan-start = record {
     can = c;
-    from = c .before;
     to = omega arith;
-    lower = omega arith;
-    upper = c .before;
-    is = as-read dist target scan-room;
-    most = omega (arith, as-read dist target scan-room);
-    fresh = λ e. absurd (e refl);
-    least = λ j a b _. absurd (omega arith);
+    upper = omega arith;
+    is = goal;
+    most = omega (arith, goal);
+    nearer = λ l. absurd (omega arith);
+    least = λ y b. absurd (omega arith);
   }
 
-module _ {dist rank : List ℕ} {first target best at k : ℕ} (s : Scan dist rank first target best at k) where
-  module _ (l : k < target) where
-    pub scan-in : (k < length dist) × (k < length rank) × (k < 98)
-    scan-in = omega (arith, s .can .dists, s .can .ranks, s .can .within)
+module _ {dist list : List ℕ} {left target best at z : ℕ} (s : Scan dist list left target best at z) where
+  module _ (l : z < left) where
+    pub scan-in : (z < length list) × (el list z < length dist) × (z < 98) × (el list z < 98)
+    scan-in = omega (arith, s .can .dists, s .can .shape .row, s .can .shape .short, s .can .within, list-to (s .can .shape) z (omega arith))
 
-    same : getD dist k 0 ≡ away dist k
-    same = as-read dist k (scan-in .0)
+    same : getD dist (el list z) 0 ≡ away dist (el list z)
+    same = as-read dist (el list z) (scan-in .1)
 
-    next-least : (b : ℕ) → b ≤ best → (el rank k ≡ 0 → b ≤ away dist k) → (j : ℕ) → first ≤ j → j < k + 1 → el rank j ≡ 0 → b ≤ away dist j
-    next-least b low here j a less none = elim (eq? j k) [
-      | inl e ↦ rw e (here (rw e at none))
-      | inr e ↦ omega (arith, s .least j a (omega arith) none)
-    ]
+    next-least : (b : ℕ) → b ≤ best → b ≤ away dist (el list z) → (y : ℕ) → y < z + 1 → b ≤ away dist (el list y)
+    next-least b low here y less = elim (eq? y z) [ inl e ↦ rw e here | inr e ↦ omega (arith, s .least y (omega arith)) ]
 
-    keep : (el rank k ≡ 0 → best ≤ away dist k) → Scan dist rank first target best at (k + 1)
-    keep here = record {
+    pub scan-farther : best ≤ getD dist (el list z) 0 → Scan dist list left target best at (z + 1)
+    scan-farther e = record {
       can = s .can;
-      from = s .from;
       to = s .to;
-      lower = omega (arith, s .lower);
       upper = omega arith;
       is = s .is;
       most = s .most;
-      fresh = s .fresh;
-      least = next-least best (omega arith) here;
+      nearer = s .nearer;
+      least = next-least best (omega arith) (omega (arith, same));
     }
 
-    pub scan-reached : getD rank k 0 ≢ 0 → Scan dist rank first target best at (k + 1)
-    scan-reached e = keep (λ z. absurd (e z))
-
-    pub scan-farther : best ≤ getD dist k 0 → Scan dist rank first target best at (k + 1)
-    scan-farther e = keep (λ _. omega (arith, same))
-
-    pub scan-nearer : getD rank k 0 ≡ 0 → getD dist k 0 < best → Scan dist rank first target (getD dist k 0) k (k + 1)
-    scan-nearer fresh e = record {
+    pub scan-nearer : getD dist (el list z) 0 < best → Scan dist list left target (getD dist (el list z) 0) z (z + 1)
+    scan-nearer e = record {
       can = s .can;
-      from = s .lower;
       to = omega arith;
-      lower = omega (arith, s .lower);
       upper = omega arith;
       is = same;
       most = omega (arith, s .most);
-      fresh = λ _. (fresh, omega (arith, s .most));
-      least = next-least (getD dist k 0) (omega arith) (λ _. omega (arith, same));
+      nearer = λ _. omega (arith, s .most);
+      least = next-least (getD dist (el list z) 0) (omega arith) (omega (arith, same));
     }
 
-  pub scan-end : target ≤ k → Nearest dist rank first target at
+  pub scan-end : left ≤ z → NearestIn dist list left at
   scan-end l = record {
-    from = s .from;
     to = s .to;
-    fresh = λ e. s .fresh e .0;
-    nearer = λ e. omega (arith, s .is, s .fresh e .1);
-    least = λ j a b none. omega (arith, s .is, s .least j a (omega arith) none);
-    target-least = omega (arith, s .is, s .most);
+    nearer = λ b. omega (arith, s .is, s .nearer b);
+    least = λ y b. elim (eq? y left) [ inl e ↦ rw e (omega (arith, s .is, s .most)) | inr e ↦ omega (arith, s .is, s .least y (omega arith)) ];
   }

@@ -101,11 +101,50 @@ pub record Around (d : Instance) (x p : ℕ → ℕ) (target : ℕ) (dist rank v
   pub here : el rank k ≡ t
   pub only : (j : ℕ) → el rank j ≡ t → j ≡ k
 
-pub record CanNear (dist rank : List ℕ) (first target : ℕ) : Type 0 where
+-- ---- the list of the periods that are not reached
+
+-- the periods of the list stand rising at places 0 .. left, the target last
+pub record InList (list : List ℕ) (left target : ℕ) : Type 0 where
+  pub row : length list ≡ 98
+  pub short : left < 98
+  pub ends : el list left ≡ target
+  pub rising : (y z : ℕ) → y < z → z ≤ left → el list y < el list z
+
+-- period j does not stand in the list: it would stand before place `place`
+pub record Gap (list : List ℕ) (left j : ℕ) : Type 0 where
+  pub place : ℕ
+  pub to : place ≤ left
+  pub below : j < el list place
+  pub above : (z : ℕ) → z < place → el list z < j
+
+-- from the first period on, the list has the target and what is not reached
+pub record Listed (list rank : List ℕ) (left first target : ℕ) : Type 0 where
+  pub shape : InList list left target
+  pub low : (y : ℕ) → y ≤ left → first ≤ el list y
+  pub fresh : (y : ℕ) → y < left → el rank (el list y) ≡ 0
+  pub gaps : (j : ℕ) → Gap list left j → first ≤ j → 0 < el rank j
+
+-- all periods from first to the target
+pub record Filled (list : List ℕ) (first left : ℕ) : Type 0 where
+  pub periods : (z : ℕ) → z ≤ left → el list z ≡ first + z
+
+-- the period at place `at` is taken out, and those behind it move up
+pub record Removed (list list₂ : List ℕ) (at left : ℕ) : Type 0 where
+  pub before : (z : ℕ) → z < at → el list₂ z ≡ el list z
+  pub behind : (z : ℕ) → at ≤ z → z < left → el list₂ z ≡ el list (z + 1)
+
+-- ---- the nearest of them
+
+pub record CanNear (dist list : List ℕ) (left target : ℕ) : Type 0 where
   pub dists : length dist ≡ 98
-  pub ranks : length rank ≡ 98
-  pub before : first ≤ target
+  pub shape : InList list left target
   pub within : target < 98
+
+-- the period at place `at` of the list is the nearest
+pub record NearestIn (dist list : List ℕ) (left at : ℕ) : Type 0 where
+  pub to : at ≤ left
+  pub nearer : at < left → away dist (el list at) < away dist (el list left)
+  pub least : (y : ℕ) → y ≤ left → away dist (el list at) ≤ away dist (el list y)
 
 -- k is the nearest period of first .. target that is not reached
 pub record Nearest (dist rank : List ℕ) (first target k : ℕ) : Type 0 where
@@ -116,7 +155,12 @@ pub record Nearest (dist rank : List ℕ) (first target k : ℕ) : Type 0 where
   pub least : (j : ℕ) → first ≤ j → j < target → el rank j ≡ 0 → away dist k ≤ away dist j
   pub target-least : away dist k ≤ away dist target
 
-pub record CanOffer (d : Day) (prices dist via : List ℕ) (target i from base : ℕ) : Type 0 where
+-- the row has the prices of the periods from first to the target
+pub record Copied (prices level : List ℕ) (first target : ℕ) : Type 0 where
+  pub price : (k : ℕ) → first ≤ k → k ≤ target → el level k ≡ ofPeriod prices k
+
+-- a period that does not stand in the list is no farther than an offer to it
+pub record CanOffer (d : Day) (prices level list dist via : List ℕ) (left target i from base : ℕ) : Type 0 where
   pub few : P d ≤ 96
   pub room : (i + 1) * width ≤ length (d .flights)
   pub rates : rate d i ≤ 10000
@@ -127,12 +171,16 @@ pub record CanOffer (d : Day) (prices dist via : List ℕ) (target i from base :
   pub low : from ≤ 98 * dearest
   pub most : away dist target ≤ far
   pub pays : (k : ℕ) → due d i ≤ k → k ≤ min (latest d i) target → (base ≤ from + payment d prices i k) × (payment d prices i k ≤ dearest)
+  pub levels : length level ≡ 98
+  pub copied : Copied prices level (due d i) target
+  pub shape : InList list left target
+  pub passed : (j : ℕ) → Gap list left j → due d i ≤ j → j ≤ min (latest d i) target → away dist j + base ≤ from + payment d prices i j
 
 abbrev pub Offers : (d : Day) (prices : List ℕ) (target i who from base : ℕ) (dist dist₂ via via₂ : List ℕ) → Type 0
 Offers d prices target i who from base dist dist₂ via via₂ =
     Offered (due d i) (min (latest d i) target) (payment d prices i) who from base (away dist target) (away dist) (away dist₂) (el via) (el via₂)
 
-pub record CanExpand (d : Day) (order holds first-in next-in prices dist via : List ℕ) (n target k : ℕ) : Type 0 where
+pub record CanExpand (d : Day) (order holds first-in next-in prices level list dist via : List ℕ) (n left target k : ℕ) : Type 0 where
   pub table : Table d order
   pub scene : Scene (scope d order n target) (landing d order holds) (ofPeriod prices) target
   pub upto : n < N d
@@ -143,6 +191,10 @@ pub record CanExpand (d : Day) (order holds first-in next-in prices dist via : L
   pub to : k < target
   pub near : away dist k ≤ 98 * dearest
   pub most : away dist target ≤ far
+  pub levels : length level ≡ 98
+  pub copied : Copied prices level (due d (el order n)) target
+  pub shape : InList list left target
+  pub passed : (j : ℕ) → Gap list left j → due d (el order n) ≤ j → away dist j ≤ away dist k
 
 -- the flights that land in k have offered
 pub record Expanded (d : Instance) (x p : ℕ → ℕ) (target : ℕ) (dist dist₂ via via₂ : List ℕ) (k m : ℕ) : Type 0 where

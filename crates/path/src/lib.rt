@@ -1,8 +1,9 @@
 // The search for the cheapest chain of moves that makes room for a new flight: periods are reached in the order of their distances.
 ghost use mathlib.Core.Path.{_≡_};
 ghost use Prim.Native.Nat.{_+_, _<_, min};
+ghost use lib.ListN.{length};
 ghost use Rattle.day.specs.Day.{day, ofPeriod};
-ghost use Rattle.path.specs.Path.{landing, scope, CanNear, Nearest, CanOffer, Offers, CanExpand, Expanded, CanSearch, Searched};
+ghost use Rattle.path.specs.Path.{landing, scope, Copied, Filled, Removed, CanNear, NearestIn, CanOffer, Offers, CanExpand, Expanded, CanSearch, Searched};
 use day::after_of;
 use day::cost_of;
 use day::due_of;
@@ -25,43 +26,82 @@ fn smaller(a: usize, b: usize) -> usize
     b
 }
 
-// The nearest period from first to target that has no rank yet.
-fn nearest(dist: &[usize], rank: &[usize], first: usize, target: usize) -> usize
-    requires { ⌜ CanNear (now dist) (now rank) first target ⌝ }
-    ensures { λ k. ⌜ Nearest (now (dist .entry)) (now (rank .entry)) first target k ⌝ }
+// Lists the periods from first on, rising, at places 0 .. left.
+fn list_periods(list: &mut [usize], first: usize, left: usize)
+    requires { ⌜ (length (now list) ≡ 98) × (first + left < 98) ⌝ }
+    ensures { λ _. ⌜ Filled (now (list .exit)) first left ⌝ }
+{
+    let mut z = 0;
+    while z <= left {
+        list[z] = first + z;
+        z += 1;
+    }
+}
+
+// Takes the period at place `at` out of a list whose last place is `left`.
+fn take_out(list: &mut [usize], at: usize, left: usize)
+    requires { ⌜ (length (now list) ≡ 98) × (at < left) × (left < 98) ⌝ }
+    ensures { λ _. ⌜ Removed (now (list .entry)) (now (list .exit)) at left ⌝ }
+{
+    let mut z = at;
+    while z < left {
+        let here = z;
+        z += 1;
+        list[here] = list[z];
+    }
+}
+
+// Copies the prices of first .. target to a row that is read at the period itself.
+fn copy_prices(prices: &[u32], level: &mut [usize], first: usize, target: usize)
+    requires { ⌜ (length (now level) ≡ 98) × (target < 98) ⌝ }
+    ensures { λ _. ⌜ Copied (now (prices .entry)) (now (level .exit)) first target ⌝ }
+{
+    let mut k = first;
+    while k <= target {
+        level[k] = of_period(prices, k);
+        k += 1;
+    }
+}
+
+// The place of the nearest period of the list, whose last is the target.
+fn nearest(dist: &[usize], list: &[usize], left: usize, target: usize) -> usize
+    requires { ⌜ CanNear (now dist) (now list) left target ⌝ }
+    ensures { λ at. ⌜ NearestIn (now (dist .entry)) (now (list .entry)) left at ⌝ }
 {
     let mut best = dist[target];
-    let mut at = target;
-    let mut k = first;
-    while k < target {
-        let here = k;
-        k += 1;
-        if rank[here] == 0 {
-            if dist[here] < best {
-                best = dist[here];
-                at = here;
-            }
+    let mut at = left;
+    let mut z = 0;
+    while z < left {
+        let here = z;
+        z += 1;
+        let away = dist[list[here]];
+        if away < best {
+            best = away;
+            at = here;
         }
     }
     at
 }
 
-// The flight at table place i, who is known to the search as `who`, offers the periods of its window up to the target: from distance `from`,
-// where it pays `base`, to what it pays there. Costs rise with the hold, so that behind the first offer that is no nearer than the target
-// none is.
+// The flight at table place i, who is known to the search as `who`, offers the periods of its window that stand in the list: from distance
+// `from`, where it pays `base`, to what it pays there. Costs rise with the hold, so that behind the first offer that is no nearer than the target
+// none is. The prices stand in `level`; the row that they came from is only there to say which they are.
 fn offer(
     capacities: &[u32],
     flights: &[u32],
     prices: &[u32],
+    level: &[usize],
+    list: &[usize],
     dist: &mut [usize],
     via: &mut [usize],
+    left: usize,
     target: usize,
     i: usize,
     who: usize,
     from: usize,
     base: usize,
 )
-    requires { ⌜ CanOffer (day (now capacities) (now flights)) (now prices) (now dist) (now via) target i from base ⌝ }
+    requires { ⌜ CanOffer (day (now capacities) (now flights)) (now prices) (now level) (now list) (now dist) (now via) left target i from base ⌝ }
     ensures { λ _. ⌜ Offers (day (now (capacities .entry)) (now (flights .entry))) (now (prices .entry)) target i who from base (now (dist .entry)) (now (dist .exit)) (now (via .entry)) (now (via .exit)) ⌝ }
 {
     let due = due_of(flights, i);
@@ -70,18 +110,23 @@ fn offer(
     let jump = jump_of(flights, i);
     let last = smaller(latest_of(capacities, flights, i), target);
     let goal = dist[target];
-    let mut k = due;
-    while k <= last {
-        let at = k;
-        k += 1;
-        let reach = from + hold_cost(rate, after, jump, at - due);
-        if goal + base <= reach {
+    let mut z = 0;
+    while z <= left {
+        let at = list[z];
+        z += 1;
+        if last < at {
             return;
         }
-        let away = reach + of_period(prices, at) - base;
-        if away < dist[at] {
-            dist[at] = away;
-            via[at] = who;
+        if due <= at {
+            let reach = from + hold_cost(rate, after, jump, at - due);
+            if goal + base <= reach {
+                return;
+            }
+            let away = reach + level[at] - base;
+            if away < dist[at] {
+                dist[at] = away;
+                via[at] = who;
+            }
         }
     }
 }
@@ -95,13 +140,16 @@ fn expand(
     first_in: &[usize],
     next_in: &[usize],
     prices: &[u32],
+    level: &[usize],
+    list: &[usize],
     dist: &mut [usize],
     via: &mut [usize],
     n: usize,
+    left: usize,
     target: usize,
     k: usize,
 )
-    requires { ⌜ CanExpand (day (now capacities) (now flights)) (now order) (now holds) (now first_in) (now next_in) (now prices) (now dist) (now via) n target k ⌝ }
+    requires { ⌜ CanExpand (day (now capacities) (now flights)) (now order) (now holds) (now first_in) (now next_in) (now prices) (now level) (now list) (now dist) (now via) n left target k ⌝ }
     ensures { λ _. ⌜ Expanded (scope (day (now (capacities .entry)) (now (flights .entry))) (now (order .entry)) n target) (landing (day (now (capacities .entry)) (now (flights .entry))) (now (order .entry)) (now (holds .entry))) (ofPeriod (now (prices .entry))) target (now (dist .entry)) (now (dist .exit)) (now (via .entry)) (now (via .exit)) k n ⌝ }
 {
     let from = dist[k];
@@ -113,8 +161,11 @@ fn expand(
             capacities,
             flights,
             prices,
+            level,
+            list,
             dist,
             via,
+            left,
             target,
             i,
             who,
@@ -126,7 +177,7 @@ fn expand(
 }
 
 // The cheapest chain of moves that makes room for flight n of the order, due by the target: the flight offers, and then the nearest period is
-// reached again and again, until that is the target. All is far at the start, and `via` names the new flight everywhere.
+// reached again and again, until that is the target. What is reached leaves the list of those that are heard and offered to. All is far at the start, and `via` names the new flight everywhere.
 pub fn find_path(
     capacities: &[u32],
     flights: &[u32],
@@ -146,10 +197,30 @@ pub fn find_path(
 {
     let i = wide(order[n]);
     let first = due_of(flights, i);
-    offer(capacities, flights, prices, dist, via, target, i, n, 0, 0);
+    let mut list = [0; 98];
+    let mut left = target - first;
+    list_periods(&mut list, first, left);
+    let mut level = [0; 98];
+    copy_prices(prices, &mut level, first, target);
+    offer(
+        capacities,
+        flights,
+        prices,
+        &level,
+        &list,
+        dist,
+        via,
+        left,
+        target,
+        i,
+        n,
+        0,
+        0,
+    );
     let mut t = 0;
-    let mut k = nearest(dist, rank, first, target);
-    while k != target {
+    let mut at = nearest(dist, &list, left, target);
+    while at < left {
+        let k = list[at];
         t += 1;
         rank[k] = t;
         expand(
@@ -160,12 +231,17 @@ pub fn find_path(
             first_in,
             next_in,
             prices,
+            &level,
+            &list,
             dist,
             via,
             n,
+            left,
             target,
             k,
         );
-        k = nearest(dist, rank, first, target);
+        take_out(&mut list, at, left);
+        left -= 1;
+        at = nearest(dist, &list, left, target);
     }
 }

@@ -15,17 +15,17 @@ Inv-loop capacities flights holds₀ prices₀ order total₀ n₀ holds prices 
 abbrev μ-loop : tie.MeasureT-loop
 μ-loop capacities flights holds₀ prices₀ order total₀ n₀ holds prices total n = length holds - n
 
-slice-aggregate-order-by-due : tie.Need-slice-aggregate-order-by-due Inv-loop μ-loop
-slice-aggregate-order-by-due c = search needs
+slice-aggregate-order-flights : tie.Need-slice-aggregate-order-flights Inv-loop μ-loop
+slice-aggregate-order-flights c = search needs
 
-order-by-due-requires : tie.Need-order-by-due-requires Inv-loop μ-loop
-order-by-due-requires c κs = building-order (c .before .before .before .before .before .pre)
+order-flights-requires : tie.Need-order-flights-requires Inv-loop μ-loop
+order-flights-requires c κs = building-order (c .before .before .before .before .before .pre)
 
 clear-requires : tie.Need-clear-requires Inv-loop μ-loop
 clear-requires c κs = tt
 
 loop-holds : tie.Need-loop-holds Inv-loop μ-loop
-loop-holds c = (building-start (c .before .before .before .before .before .before .before .before .before .before .before .pre) (c .before .before .before .before .before .order-by-due .kept .1 .1 .0) (c .before .before .before .before .before .order-by-due .ensures) (c .before .before .clear .kept .0) (c .before .before .clear .ensures), refl, refl)
+loop-holds c = (building-start (c .before .before .before .before .before .before .before .before .before .before .before .pre) (c .before .before .before .before .before .order-flights .kept .1 .1 .0) (c .before .before .before .before .before .order-flights .ensures) (c .before .before .clear .kept .0) (c .before .before .clear .ensures), refl, refl)
 
 slice-aggregate-insert : tie.Need-slice-aggregate-insert Inv-loop μ-loop
 slice-aggregate-insert c = sym (c .before .before .loop .inv .0 .order-row)
@@ -60,8 +60,8 @@ insert-all-spec =
     (tie.spec
     Inv-loop
     μ-loop
-    slice-aggregate-order-by-due
-    order-by-due-requires
+    slice-aggregate-order-flights
+    order-flights-requires
     clear-requires
     loop-holds
     slice-aggregate-insert

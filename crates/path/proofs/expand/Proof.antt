@@ -7,25 +7,25 @@ use Rattle.path.proofs.expand.Statement.{statement}
 use Rattle.path.proofs.expand.Tie as tie
 
 abbrev Inv-loop : tie.InvT-loop
-Inv-loop capacities flights order holds first-in next-in prices dist₀ via₀ n target k from who₀ dist via who = Expanding (day capacities flights) order holds first-in next-in prices n target dist₀ dist via₀ via k from who
+Inv-loop capacities flights order holds first-in next-in prices level list dist₀ via₀ n left target k from who₀ dist via who = Expanding (day capacities flights) order holds first-in next-in prices level list n left target dist₀ dist via₀ via k from who
 
 abbrev μ-loop : tie.MeasureT-loop
-μ-loop capacities flights order holds first-in next-in prices dist₀ via₀ n target k from who₀ dist via who = n - who
+μ-loop capacities flights order holds first-in next-in prices level list dist₀ via₀ n left target k from who₀ dist via who = n - who
 
 mul-from : tie.Need-mul-from Inv-loop μ-loop
-mul-from c = omega (arith, expand-room (c .before .before .before .before .before .before .before .before .before .pre))
+mul-from c = omega (arith, expand-room (c .before .before .before .before .before .before .before .before .before .before .before .pre))
 
 slice-read-from : tie.Need-slice-read-from Inv-loop μ-loop
-slice-read-from c = expand-room (c .before .before .before .before .before .before .before .before .before .before .pre) .0
+slice-read-from c = expand-room (c .before .before .before .before .before .before .before .before .before .before .before .before .pre) .0
 
 mul-who : tie.Need-mul-who Inv-loop μ-loop
-mul-who c = omega (arith, expand-room (c .before .before .before .before .before .before .before .before .before .before .pre))
+mul-who c = omega (arith, expand-room (c .before .before .before .before .before .before .before .before .before .before .before .before .pre))
 
 shared-slice-read-who : tie.Need-shared-slice-read-who Inv-loop μ-loop
-shared-slice-read-who c = expand-room (c .before .before .before .before .before .before .before .before .before .before .before .pre) .1
+shared-slice-read-who c = expand-room (c .before .before .before .before .before .before .before .before .before .before .before .before .before .pre) .1
 
 loop-holds : tie.Need-loop-holds Inv-loop μ-loop
-loop-holds c = expanding-start (c .before .before .before .before .before .before .before .before .before .before .before .pre)
+loop-holds c = expanding-start (c .before .before .before .before .before .before .before .before .before .before .before .before .before .pre)
 
 mul-wide : tie.Need-mul-wide Inv-loop μ-loop
 mul-wide c = omega (arith, expanding-room (c .before .loop .inv) (c .loop-test .taken))
@@ -67,7 +67,7 @@ loop-less : tie.Need-loop-less Inv-loop μ-loop
 loop-less c = omega (arith, c .before .before .before .before .before .before .before .before .before .before .before .before .before .before .loop-test .taken, expanding-less (c .before .before .before .before .before .before .before .before .before .before .before .before .before .before .before .loop .inv) (c .before .before .before .before .before .before .before .before .before .before .before .before .before .before .loop-test .taken))
 
 loop-again : tie.Need-loop-again Inv-loop μ-loop
-loop-again c = expanding-offered (c .before .before .before .before .before .before .before .before .before .before .before .before .before .before .before .loop .inv) (c .before .before .before .before .before .before .before .before .before .before .before .before .before .before .loop-test .taken) (c .before .before .before .before .before .before .before .before .before .before .before .before .wide .ensures) (c .before .before .before .before .before .before .before .before .before .before .wide2 .ensures) (c .before .before .before .before .before .before .before .before .before .cost-of .ensures) (c .before .before .before .before .before .before .before .before .of-period .ensures .0) (c .before .before .before .before .before .offer .kept .1 .1 .1 .0) (c .before .before .before .before .before .offer .kept .1 .1 .1 .1 .0) (c .before .before .before .before .before .offer .ensures)
+loop-again c = expanding-offered (c .before .before .before .before .before .before .before .before .before .before .before .before .before .before .before .loop .inv) (c .before .before .before .before .before .before .before .before .before .before .before .before .before .before .loop-test .taken) (c .before .before .before .before .before .before .before .before .before .before .before .before .wide .ensures) (c .before .before .before .before .before .before .before .before .before .before .wide2 .ensures) (c .before .before .before .before .before .before .before .before .before .cost-of .ensures) (c .before .before .before .before .before .before .before .before .of-period .ensures .0) (c .before .before .before .before .before .offer .kept .1 .1 .1 .1 .1 .0) (c .before .before .before .before .before .offer .kept .1 .1 .1 .1 .1 .1 .0) (c .before .before .before .before .before .offer .ensures)
 
 same-length : tie.Need-same-length Inv-loop μ-loop
 same-length c = c .before .loop .inv .same-d
