@@ -310,7 +310,7 @@ module _ {d : Instance} {x₀ x y q order via : ℕ → ℕ} {u z at : ℕ} (s :
 
 -- the search has come to z, the nearest period that is not reached, and z has room
 pub record Found (d : Instance) (x p root dist rank via : ℕ → ℕ) (t u z : ℕ) : Type 0 where
-  pub near : Near d x p root dist rank via z t (d .n)
+  pub near : Near d x p root dist rank via z t 0
   pub fresh : rank z ≡ 0
   pub here : dist z ≡ u
   pub least : (k : ℕ) → rank k ≡ 0 → u ≤ dist k
@@ -331,7 +331,7 @@ module _ {d : Instance} {x p q root dist rank via : ℕ → ℕ} {t u z : ℕ} (
   rise-settled = record {
     window = s .accepted .legal .window;
     best = λ i k l b. elim (lt? 0 (rank (x i))) [
-      | inl some ↦ omega (arith, f .near .near i k l b some (inr l), rise k, rise (x i), close (x i) some, f .here)
+      | inl some ↦ omega (arith, f .near .near i k l b some (inr (omega arith)), rise k, rise (x i), close (x i) some, f .here)
       | inr none ↦ omega (arith, s .accepted .best i k l b, rise k, far-off (x i) (omega arith))
     ];
   }
@@ -391,7 +391,7 @@ module _ {d : Instance} {x p q root dist rank via : ℕ → ℕ} {t u z : ℕ} (
   tree k b = elim (f .near .how k) [
     | inl e ↦
         let r = f .rooted k (omega (arith, e .0)) in
-        inl (e .1 (omega (arith, r .0 .to, d .within (d .n))), record { fits = r .0; pays = omega (arith, r .1, e .0, rise k) })
+        inl (e .1 (r .0) (r .1), record { fits = r .0; pays = omega (arith, r .1, e .0, rise k) })
     | inr a ↦
         let i = via k in
         inr (record {
@@ -420,7 +420,7 @@ module _ {d : Instance} {x p q root dist rank via : ℕ → ℕ} {t u z : ℕ} (
       -- a price that does not rise is not held up by one that does
       not-near : (k : ℕ) → u < dist k → (a : Link d x p (s .rank) k) → u ≤ dist (x (a .by))
       not-near k b a = elim (lt? 0 (rank (x (a .by)))) [
-        | inl some ↦ omega (arith, f .near .near (a .by) k (a .who) (a .fits) some (inr (a .who)), a .tie, f .here)
+        | inl some ↦ omega (arith, f .near .near (a .by) k (a .who) (a .fits) some (inr (omega arith)), a .tie, f .here)
         | inr none ↦ f .least (x (a .by)) (omega arith)
       ]
 

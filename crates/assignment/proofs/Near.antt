@@ -17,20 +17,21 @@ pub record Step (d : Instance) (x p dist rank : ℕ → ℕ) (k i : ℕ) : Type 
   pub lower : 0 < rank k → rank (x i) < rank k
   pub far : dist k + (d .cost i (x i) + p (x i)) ≡ dist (x i) + (d .cost i k + p k)
 
--- t periods are reached, via d .n stands for no flight; from the last of them the flights before m have offered. Whatever is no nearer than
--- the target z need not be known
+-- t periods are reached, via d .n stands for the new flight; from the last of them the flights from m on have offered. Whatever is no nearer
+-- than the target z need not be known
 pub record Near (d : Instance) (x p root dist rank via : ℕ → ℕ) (z t m : ℕ) : Type 0 where
   pub settled : Settled d x p
   pub low : (k : ℕ) → dist k ≤ root k
-  pub how : (k : ℕ) → ((dist k ≡ root k) × (k < d .m → via k ≡ d .n)) ⊎ Step d x p dist rank k (via k)
+  pub how : (k : ℕ) → ((dist k ≡ root k) × (In d (d .n) k → root k ≡ d .cost (d .n) k + p k → via k ≡ d .n)) ⊎ Step d x p dist rank k (via k)
   pub top : (k : ℕ) → rank k ≤ t
   pub order : (j k : ℕ) → 0 < rank j → rank k ≡ 0 → dist j ≤ dist k
   pub last : (j k : ℕ) → 0 < rank j → rank k ≡ t → dist j ≤ dist k
-  pub near : (i k : ℕ) → i < d .n → In d i k → 0 < rank (x i) → (rank (x i) < t) ⊎ (i < m)
+  pub near : (i k : ℕ) → i < d .n → In d i k → 0 < rank (x i) → (rank (x i) < t) ⊎ (m ≤ i)
       → min (dist k) (dist z) + (d .cost i (x i) + p (x i)) ≤ dist (x i) + (d .cost i k + p k)
 
-pub near-start : {d : Instance} {x p root dist rank via : ℕ → ℕ} {z : ℕ} → Settled d x p → ((k : ℕ) → dist k ≡ root k) → ((k : ℕ) → k < d .m → via k ≡ d .n)
-    → ((k : ℕ) → rank k ≡ 0) → Near d x p root dist rank via z 0 (d .n)
+pub near-start : {d : Instance} {x p root dist rank via : ℕ → ℕ} {z : ℕ} → Settled d x p → ((k : ℕ) → dist k ≡ root k)
+    → ((k : ℕ) → In d (d .n) k → root k ≡ d .cost (d .n) k + p k → via k ≡ d .n) → ((k : ℕ) → rank k ≡ 0)
+    → Near d x p root dist rank via z 0 0
 near-start {x = x} s same new none = record {
   settled = s;
   low = λ k. omega (arith, same k);
@@ -63,8 +64,8 @@ Offered lo hi pays i from base goal dist dist₂ via via₂ =
 
 module _ {d : Instance} {x p root dist rank via : ℕ → ℕ} {z t m : ℕ} (s : Near d x p root dist rank via z t m) where
   -- the nearest period that is not reached is reached
-  pub near-reach : {rank₂ : ℕ → ℕ} {at : ℕ} → d .n ≤ m → rank at ≡ 0 → ((k : ℕ) → rank k ≡ 0 → dist at ≤ dist k) → Moved rank rank₂ at (t + 1)
-      → Near d x p root dist rank₂ via z (t + 1) 0
+  pub near-reach : {rank₂ : ℕ → ℕ} {at : ℕ} → m ≡ 0 → rank at ≡ 0 → ((k : ℕ) → rank k ≡ 0 → dist at ≤ dist k) → Moved rank rank₂ at (t + 1)
+      → Near d x p root dist rank₂ via z (t + 1) (d .n)
   near-reach {rank₂} {at} all fresh least v = record {
     settled = s .settled;
     low = s .low;
@@ -102,8 +103,9 @@ module _ {d : Instance} {x p root dist rank via : ℕ → ℕ} {z t m : ℕ} (s 
       was : (k : ℕ) → rank₂ k ≡ 0 → rank k ≡ 0
       was k none = elim (eq? k at) [ inl e ↦ ap rank e ∙ fresh | inr e ↦ sym (v .others k e) ∙ none ]
 
+module _ {d : Instance} {x p root dist rank via : ℕ → ℕ} {z t m : ℕ} (s : Near d x p root dist rank via z t (m + 1)) where
   -- flight m does not land in the last period reached
-  pub near-pass : rank (x m) ≢ t → Near d x p root dist rank via z t (m + 1)
+  pub near-pass : rank (x m) ≢ t → Near d x p root dist rank via z t m
   near-pass away = record {
     settled = s .settled;
     low = s .low;
@@ -144,7 +146,7 @@ module _ {d : Instance} {x p root dist rank via : ℕ → ℕ} {z t m : ℕ} (s 
       | inr e ↦ omega (arith, e .far, offer-falls z, e .no-nearer (w .from) (omega (arith, w .to)))
     ]
 
-    pub near-offer : Near d x p root dist₂ rank via₂ z t (m + 1)
+    pub near-offer : Near d x p root dist₂ rank via₂ z t m
     near-offer = record {
       settled = s .settled;
       low = λ k. omega (arith, offer-falls k, s .low k);

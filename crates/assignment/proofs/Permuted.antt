@@ -1,6 +1,6 @@
 -- Flights taken in another order: a row of places that has every place once only renames them.
 -- Assumes nothing.
-use mathlib.Core.Path.{_≡_, refl, ap, _∙_}
+use mathlib.Core.Path.{_≡_, refl, sym, ap, _∙_}
 use mathlib.Core.Logic.{inl, inr, _≢_}
 use mathlib.Core.Bool.{_&&_}
 use Prim.Native.Nat.{ℕ, zero, suc, _+_, _-_, _*_, _≤_, _<_}
@@ -8,8 +8,11 @@ use native.Mathlib.Omega.{arith}
 use lib.Dec.{leb, eqb}
 use Rattle.assignment.specs.Sum.{gate, sum, count}
 use Rattle.assignment.specs.Assignment.{Instance, In, total, Accepted, mustLand, room, Short}
-use Rattle.assignment.proofs.Tests.{eq?, gate-eq, gate-ne}
-use Rattle.assignment.proofs.Sums.{sum-ext, sum-grow, sum-member, exchange-all, count-ext}
+use Rattle.assignment.proofs.Tests.{eq?, lt?, gate-eq, gate-ne}
+use Rattle.assignment.proofs.Sums.{sum-ext, sum-grow, sum-member, exchange-all, count-ext, count-move}
+use Rattle.assignment.proofs.Moves.{put, put-moved}
+use Rattle.assignment.proofs.Saving.{Link}
+use Rattle.assignment.proofs.Insertion.{Sound}
 
 -- every place below n stands once in π 0 .. π (n - 1), and nothing else does
 pub record Permuted (n : ℕ) (π : ℕ → ℕ) : Type 0 where
@@ -73,6 +76,29 @@ module _ {n : ℕ} {π : ℕ → ℕ} (q : Permuted n π) where
     gate-eq (π s) (π t) 1 e,
   )
 
+  pub permuted-other : (s t : ℕ) → s < n → t < n → s ≢ t → π s ≢ π t
+  permuted-other s t l m e f = elim (lt? s t) [
+    | inl less ↦ permuted-apart s t less m f
+    | inr more ↦ permuted-apart t s (omega arith) l (sym f)
+  ]
+
+-- each at its own place
+same-none : (n i : ℕ) → n ≤ i → count n (λ s. s) i ≡ 0
+unfolding count sum
+same-none zero i l = refl
+same-none (suc n) i l = omega (arith, gate-ne n i 1 (omega arith), same-none n i (omega arith))
+
+same-once : (n i : ℕ) → i < n → count n (λ s. s) i ≡ 1
+unfolding count sum
+same-once zero i l = absurd (omega arith)
+same-once (suc n) i l = elim (eq? n i) [
+  | inl e ↦ omega (arith, gate-eq n i 1 e, same-none n i (omega arith))
+  | inr e ↦ omega (arith, gate-ne n i 1 e, same-once n i (omega arith))
+]
+
+pub permuted-same : (n : ℕ) → Permuted n (λ s. s)
+permuted-same n = record { below = λ s l. l; once = same-once n }
+
 module _ (d : Instance) {π : ℕ → ℕ} (q : Permuted (d .n) π) where
   abbrev d′ : Instance
   d′ = ordered d π (d .n)
@@ -123,3 +149,98 @@ module _ (d : Instance) {π : ℕ → ℕ} (q : Permuted (d .n) π) where
 
       prefix : (n m : ℕ) → n ≤ m → (f : ℕ → ℕ) → sum n f ≤ sum m f
       prefix n m l f = let e : (m - n) + n ≡ m = omega arith in rw e at (sum-grow n (m - n) f)
+
+-- π₂ is π with what stands at a and b exchanged
+pub record Swapped (π π₂ : ℕ → ℕ) (a b : ℕ) : Type 0 where
+  pub here : π₂ a ≡ π b
+  pub there : π₂ b ≡ π a
+  pub others : (s : ℕ) → s ≢ a → s ≢ b → π₂ s ≡ π s
+
+module _ {n : ℕ} {π π₂ : ℕ → ℕ} {a b : ℕ} (q : Permuted n π) (in-a : a < n) (in-b : b < n) (apart : a ≢ b) (v : Swapped π π₂ a b) where
+  pub swapped : Permuted n π₂
+  swapped = record {
+    below = λ s l. elim (eq? s a) [
+      | inl e ↦ rw (e, v .here) (q .below b in-b)
+      | inr e ↦ elim (eq? s b) [ inl f ↦ rw (f, v .there) (q .below a in-a) | inr f ↦ rw (v .others s e f) (q .below s l) ]
+    ];
+    once = λ i l. omega (
+      arith,
+      q .once i l,
+      count-move n a π (put π a (π b)) in-a (λ s _ e. put-moved π a (π b) .others s e) i,
+      count-move n b (put π a (π b)) π₂ in-b (λ s _ e. stays s e) i,
+      ap (λ z. gate (eqb z i) 1) (put-moved π a (π b) .here),
+      ap (λ z. gate (eqb z i) 1) (put-moved π a (π b) .others b (λ e. apart (sym e))),
+      ap (λ z. gate (eqb z i) 1) (v .there),
+    );
+  }
+    where
+      stays : (s : ℕ) → s ≢ b → π₂ s ≡ put π a (π b) s
+      stays s e = elim (eq? s a) [
+        | inl f ↦ rw f (v .here ∙ sym (put-moved π a (π b) .here))
+        | inr f ↦ v .others s f e ∙ sym (put-moved π a (π b) .others s f)
+      ]
+
+-- the first n flights of an order, taken in another order σ of their own: the plan is as sound and costs as much
+module _ (d : Instance) {n : ℕ} {σ : ℕ → ℕ} (π π₂ x y : ℕ → ℕ) (q : Permuted n σ) (same : (s : ℕ) → s < n → π₂ s ≡ π (σ s))
+    (lands : (s : ℕ) → s < n → y s ≡ x (σ s)) where
+  pub reordered-total : total (ordered d π₂ n) y ≡ total (ordered d π n) x
+  unfolding total
+  reordered-total =
+      sum-ext n (λ s. d .cost (π₂ s) (y s)) (λ s. d .cost (π (σ s)) (x (σ s))) (λ s l. rw (same s l, lands s l) refl)
+      ∙ permuted-sum q (λ s. d .cost (π s) (x s))
+
+  as-many : (k : ℕ) → count n y k ≡ count n x k
+  as-many k = count-ext n (λ s. x (σ s)) y lands k ∙ permuted-count q x k
+
+  -- each flight has the window and the costs that it had
+  module _ {i j : ℕ} (l : i < n) (is : σ i ≡ j) where
+    flight : π₂ i ≡ π j
+    flight = same i l ∙ ap π is
+
+    place : y i ≡ x j
+    place = lands i l ∙ ap x is
+
+    from : d .lo (π₂ i) ≡ d .lo (π j)
+    from = ap (d .lo) flight
+
+    to : d .hi (π₂ i) ≡ d .hi (π j)
+    to = ap (d .hi) flight
+
+    costs : (k : ℕ) → d .cost (π₂ i) k ≡ d .cost (π j) k
+    costs k = ap (λ o. d .cost o k) flight
+
+    pays : (p : ℕ → ℕ) → d .cost (π₂ i) (y i) + p (y i) ≡ d .cost (π j) (x j) + p (x j)
+    pays p = rw (flight, place) refl
+
+  pub reordered-sound : {p : ℕ → ℕ} → Sound (ordered d π n) x p → Sound (ordered d π₂ n) y p
+  reordered-sound {p} s = record {
+    accepted = record {
+      legal = record {
+        window = λ i l.
+            let w = s .accepted .legal .window (σ i) (q .below i l) in
+            record { from = omega (arith, w .from, from l refl, place l refl); to = omega (arith, w .to, to l refl, place l refl) };
+        room = λ k. omega (arith, as-many k, s .accepted .legal .room k);
+      };
+      unsold = λ k free. s .accepted .unsold k (omega (arith, as-many k));
+      best = λ i k l w. omega (
+        arith,
+        pays l refl p,
+        costs l refl k,
+        s .accepted .best (σ i) k (q .below i l) (record { from = omega (arith, w .from, from l refl); to = omega (arith, w .to, to l refl) }),
+      );
+    };
+    rank = s .rank;
+    held = λ k. elim (s .held k) [
+      | inl none ↦ inl none
+      | inr a ↦ inr (linked a (stands n σ (a .by) (omega (arith, q .once (a .by) (a .who)))))
+    ];
+  }
+    where
+      linked : {k : ℕ} (a : Link (ordered d π n) x p (s .rank) k) → Stands n σ (a .by) → Link (ordered d π₂ n) y p (s .rank) k
+      linked {k} a h = record {
+        by = h .at;
+        who = h .in-row;
+        fits = record { from = omega (arith, a .fits .from, from (h .in-row) (h .is)); to = omega (arith, a .fits .to, to (h .in-row) (h .is)) };
+        lower = rw (place (h .in-row) (h .is)) (a .lower);
+        tie = omega (arith, a .tie, costs (h .in-row) (h .is) k, pays (h .in-row) (h .is) p);
+      }

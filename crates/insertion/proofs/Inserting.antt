@@ -5,24 +5,25 @@ use mathlib.Core.Logic.{_⊎_, inl, inr, _≢_}
 use mathlib.Core.List.{List}
 use Prim.Native.Nat.{ℕ, suc, _+_, _-_, _*_, _≤_, _<_}
 use native.Mathlib.Omega.{arith}
-use lib.ListN.{getD, length, set, replicate, length-replicate, getD-replicate}
+use lib.ListN.{getD, length, set, length-set}
 use Rattle.assignment.specs.Sum.{count}
 use Rattle.assignment.specs.Assignment as A
+use Rattle.assignment.specs.Assignment.{In}
 use Rattle.assignment.proofs.Tests.{eq?, lt?}
 use Rattle.assignment.proofs.Sums.{sum-most, count-le}
-use Rattle.assignment.proofs.Moves.{Moved}
+use Rattle.assignment.proofs.Moves.{Moved, put-moved}
 use Rattle.assignment.proofs.Near.{Step}
-use Rattle.assignment.proofs.Insertion.{Sound, Found, price-le, going, ground, order as reach-order, z-free, going-end, going-total, sound-ext, total-ext}
-use Rattle.assignment.proofs.Permuted.{permuted-short}
+use Rattle.assignment.proofs.Insertion.{Sound, Found, price-le, going, ground, order as reach-order, z-free, going-end, going-total}
+use Rattle.assignment.proofs.Permuted.{permuted-short, reordered-sound, reordered-total}
 use Rattle.assignment.proofs.Restricted.{Rising, until-near, until-le, restricted, restrict, widen, widen-short}
 use Rattle.day.specs.Day.{Day, width, P, N, ofPeriod, due, limit, cost}
 use Rattle.day.proofs.Costs.{latest-missing, latest-given, cost-grows}
-use Rattle.day.proofs.Instance.{instance, last, last-to, places, places-in, places-closing, cost-le, instance-short}
+use Rattle.day.proofs.Instance.{instance, last, last-to, places as rooms, places-in, places-closing, cost-le, instance-short}
 use Rattle.path.specs.Path.{el, far, away, scope, landing, Table, Scene, CanSearch, Searched}
 use Rattle.path.proofs.Rows.{set-moved, as-read}
-use Rattle.path.proofs.Reaching.{blank}
 use Rattle.path.proofs.Expanding.{stands}
-use Rattle.insertion.specs.Insertion.{begun, Placed, cost-of-placed, CanChain, Chains, CanFind, FirstRoom, Linked, CanWalk, Arrived, Walked, CanRaise, Raised, Inserted}
+use Rattle.insertion.specs.Insertion.{begun, Placed, Kept, cost-of-placed, Added, CanFind, FirstRoom, Linked, CanWalk, Arrived, Walked, CanForget, Forgotten, CanRaise, Raised, Inserted}
+use Rattle.insertion.proofs.Steps.{added-chained, added-loads}
 
 -- ---- the numbers of a day
 
@@ -39,72 +40,59 @@ same-total : (d : A.Instance) (target : ℕ) (x : ℕ → ℕ) → A.total (rest
 unfolding A.total
 same-total d target x = refl
 
-module _ {d : Day} {order : List ℕ} (t : Table d order) where
-  in-table : (s : ℕ) → s < N d → el order s < N d
-  in-table s l = t .by-due .permuted .below s l
+module _ {d : Day} {places : List ℕ} (t : Table d places) where
+  in-table : (s : ℕ) → s < N d → el places s < N d
+  in-table s l = t .permuted .below s l
 
-  place-cost : (s k : ℕ) → s < N d → k ≤ last d (el order s) → cost d (el order s) (k - due d (el order s)) ≤ 1960000
-  place-cost s k l to = cost-le (t .valid) (el order s) (k - due d (el order s)) (in-table s l) (omega (
+  place-cost : (s k : ℕ) → s < N d → k ≤ last d (el places s) → cost d (el places s) (k - due d (el places s)) ≤ 1960000
+  place-cost s k l to = cost-le (t .valid) (el places s) (k - due d (el places s)) (in-table s l) (omega (
     arith,
-    last-to d (el order s),
-    t .valid .flight (el order s) (in-table s l) .due-from,
+    last-to d (el places s),
+    t .valid .flight (el places s) (in-table s l) .due-from,
     t .valid .periods-to,
   ))
 
-  pub rising : (n : ℕ) → n ≤ N d → Rising (begun d order n)
+  pub rising : (n : ℕ) → n ≤ N d → Rising (begun d places n)
   rising n l = record {
-    dearer = λ s j k b v w less. cost-grows d (el order s) _ _
-        (t .valid .flight (el order s) (in-table s (omega arith)) .rate-from) (omega (arith, v .from));
+    dearer = λ s j k b v w less. cost-grows d (el places s) _ _
+        (t .valid .flight (el places s) (in-table s (omega arith)) .rate-from) (omega (arith, v .from));
   }
 
   -- "never above 250,880,000"
-  pub sound-total : {n : ℕ} {x q : ℕ → ℕ} → n ≤ N d → Sound (begun d order n) x q → A.total (begun d order n) x ≤ 250880000
+  pub sound-total : {n : ℕ} {x q : ℕ → ℕ} → n ≤ N d → Sound (begun d places n) x q → A.total (begun d places n) x ≤ 250880000
   unfolding A.total
   sound-total {n} {x} upto sound = omega (
     arith,
     t .valid .flights-to,
-    sum-most n 1960000 (λ o. cost d (el order o) (x o - due d (el order o))) (λ o l. place-cost o (x o) (omega arith) (sound .accepted .legal .window o l .to)),
+    sum-most n 1960000 (λ o. cost d (el places o) (x o - due d (el places o))) (λ o l. place-cost o (x o) (omega arith) (sound .accepted .legal .window o l .to)),
   )
 
-module _ {d : Day} {order holds prices : List ℕ} {n : ℕ} (s : Placed d order holds prices n) where
-  pub placed-total : cost-of-placed d order holds n ≤ 250880000
+module _ {d : Day} {places holds prices : List ℕ} {n : ℕ} (s : Placed d places holds prices n) where
+  pub placed-total : cost-of-placed d places holds n ≤ 250880000
   placed-total = sound-total (s .table) (s .upto) (s .sound)
 
   placed-low : (k : ℕ) → ofPeriod prices k ≤ 250880000
   placed-low k = omega (arith, placed-total, price-le (s .sound) k)
 
-  module _ (l : n < N d) where
-    pub insert-chain : CanChain d order holds (replicate 98 0) (replicate 98 n) (replicate 128 n) n
-    insert-chain = record {
-      table = s .table;
-      upto = s .upto;
-      holds-row = s .holds-row;
-      loads-row = length-replicate {A = ℕ} 98 0;
-      firsts = length-replicate {A = ℕ} 98 n;
-      nexts = length-replicate {A = ℕ} 128 n;
-      empty = blank 98;
-      none = λ k b. getD-replicate {A = ℕ} 98 k n 0 b;
-      in-day = λ o b. omega (arith, s .sound .accepted .legal .window o b .to, last-to d (el order o), s .table .valid .periods-to);
-    }
+  module _ {loads first-in next-in list dist₀ rank₀ via₀ : List ℕ} (kept : Kept d places holds loads first-in next-in list dist₀ rank₀ via₀ n)
+      (l : n < N d) where
+    pub insert-room : (n < length places) × (n < 128)
+    insert-room = omega (arith, s .table .row, s .table .valid .flights-to)
 
-    pub insert-room : (n < length order) × (n < 128)
-    insert-room = omega (arith, s .table .by-due .row, s .table .valid .flights-to)
-
-    module _ {loads first-in next-in : List ℕ} (g : Chains d order holds loads first-in next-in n) (loads-row : length loads ≡ 98)
-        {i : ℕ} (i-is : i ≡ getD order n 0) where
+    module _ {i : ℕ} (i-is : i ≡ getD places n 0) where
       pub insert-stands : (i + 1) * width ≤ length (d .flights)
       insert-stands = stands (s .table) i (omega (arith, in-table (s .table) n l))
 
       module _ {first : ℕ} (first-is : first ≡ due d i) where
-        first-at : first ≡ due d (getD order n 0)
+        first-at : first ≡ due d (getD places n 0)
         first-at = rw i-is at first-is
 
         pub insert-find : CanFind (d .capacities) loads first
         insert-find =
-            let f = s .table .valid .flight (el order n) (in-table (s .table) n l) in
+            let f = s .table .valid .flight (el places n) (in-table (s .table) n l) in
             record {
               few = s .table .valid .periods-to;
-              rows = loads-row;
+              rows = kept .loads-row;
               from = omega (arith, first-at, f .due-from);
               to = omega (arith, first-at, f .due-to);
             }
@@ -113,63 +101,65 @@ module _ {d : Day} {order holds prices : List ℕ} {n : ℕ} (s : Placed d order
           pub insert-within : target < 98
           insert-within = omega (arith, room .to, s .table .valid .periods-to)
 
-          free : count n (landing d order holds) target < places d target
+          free : count n (landing d places holds) target < rooms d target
           free = elim (lt? (P d) target) [
-            | inr in-day ↦ omega (arith, places-in d target in-day, room .free in-day, g .loads-are target insert-within)
+            | inr in-day ↦ omega (arith, places-in d target in-day, room .free in-day, kept .loads-are target insert-within)
             | inl closing ↦
                 let e : target ≡ P d + 1 = omega (arith, room .to) in
-                rw e (omega (arith, places-closing d, count-le n (landing d order holds) (P d + 1), insert-room))
+                rw e (omega (arith, places-closing d, count-le n (landing d places holds) (P d + 1), insert-room))
           ]
 
-          pub insert-scene : Scene (scope d order n target) (landing d order holds) (ofPeriod prices) target
+          pub insert-scene : Scene (scope d places n target) (landing d places holds) (ofPeriod prices) target
           insert-scene =
-              let near : due d (el order n) ≤ target = omega (arith, first-at, room .from) in
-              let f = s .table .valid .flight (el order n) (in-table (s .table) n l) in
+              let near : due d (el places n) ≤ target = omega (arith, first-at, room .from) in
+              let f = s .table .valid .flight (el places n) (in-table (s .table) n l) in
               record {
-                sound = restrict (begun d order n) target (rising (s .table) n (s .upto)) (s .sound .accepted .unsold target free) (s .sound);
+                sound = restrict (begun d places n) target (rising (s .table) n (s .upto)) (s .sound .accepted .unsold target free) (s .sound);
                 periods = omega (arith, s .table .valid .periods-to);
                 pays = λ o k b w. omega (
                   arith,
-                  place-cost (s .table) o k (omega arith) (omega (arith, w .to, until-le target (due d (el order o)) (last d (el order o)))),
+                  place-cost (s .table) o k (omega arith) (omega (arith, w .to, until-le target (due d (el places o)) (last d (el places o)))),
                   placed-low k,
                 );
-                floor = λ o b. s .table .by-due .falling o n (omega arith) l;
-                ceiling = λ o b low. omega (arith, until-near (last d (el order o)) low);
+                floor = λ o b. s .falling o n (omega arith) (omega arith) l;
+                ceiling = λ o b low. omega (arith, until-near (last d (el places o)) low);
                 from = f .due-from;
-                some = omega (arith, until-near (last d (el order n)) near, due-latest d (el order n) (f .due-to), first-at, room .from);
+                some = omega (arith, until-near (last d (el places n)) near, due-latest d (el places n) (f .due-to), first-at, room .from);
                 before = near;
                 within = omega (arith, room .to);
                 full = λ k a b. omega (
                   arith,
                   places-in d k (omega (arith, room .to)),
                   room .full k (omega (arith, first-at)) b,
-                  g .loads-are k (omega (arith, insert-within)),
+                  kept .loads-are k (omega (arith, insert-within)),
                 );
                 free = free;
                 none-short = λ a b from stretch less short. s .none-short a b (instance-short d a b (omega (arith, room .to)) from stretch
-                    (permuted-short (instance d) (s .table .by-due .permuted) l (widen-short (begun d order (suc n)) target less short)));
+                    (permuted-short (instance d) (s .table .permuted) l (widen-short (begun d places (suc n)) target less short)));
               }
 
-          pub insert-search : CanSearch d order holds first-in next-in prices (replicate 98 4611686018427387904) (replicate 98 0) (replicate 98 n) n target
+          pub insert-search : CanSearch d places holds first-in next-in prices list dist₀ rank₀ via₀ n target
           insert-search = record {
             table = s .table;
             scene = insert-scene;
             upto = l;
             holds-row = s .holds-row;
-            chained = g .chained;
-            all-far = refl;
-            no-ranks = refl;
-            no-links = refl;
+            chained = kept .chained;
+            prices-row = omega (arith, s .prices-row, room .to);
+            listed = kept .listed;
+            rows = kept .rows;
+            all-far = kept .all-far;
+            no-ranks = kept .no-ranks;
           }
 
-          module _ {dist rank via : List ℕ} (h : Searched (scope d order n target) (landing d order holds) (ofPeriod prices) target dist rank via) where
+          module _ {dist rank via : List ℕ} (h : Searched (scope d places n target) (landing d places holds) (ofPeriod prices) target dist rank via) where
             fresh : el rank target ≡ 0
             fresh = elim (lt? 0 (el rank target)) [ inl some ↦ absurd (omega (arith, h .so-far .reached target some)) | inr e ↦ omega arith ]
 
             pub insert-rows : (target < length dist) × (target < length rank) × (target < 98)
             insert-rows = omega (arith, insert-within, h .so-far .rows .dists, h .so-far .rows .ranks)
 
-            found : Found (scope d order n target) (landing d order holds) (ofPeriod prices) (h .so-far .root) (away dist) (el rank) (el via) (h .t) (away dist target) target
+            found : Found (scope d places n target) (landing d places holds) (ofPeriod prices) (h .so-far .root) (away dist) (el rank) (el via) (h .t) (away dist target) target
             found = record {
               near = h .so-far .near;
               fresh = fresh;
@@ -181,7 +171,7 @@ module _ {d : Day} {order holds prices : List ℕ} {n : ℕ} (s : Placed d order
               reach = h .so-far .reach;
             }
 
-            pub insert-walk : CanWalk d order holds (set rank target 99) via n target
+            pub insert-walk : CanWalk d places holds (set rank target 99) via n target
             insert-walk = record {
               table = s .table;
               upto = l;
@@ -205,17 +195,19 @@ module _ {d : Day} {order holds prices : List ℕ} {n : ℕ} (s : Placed d order
 
                 -- what the search reached from k keeps its rank
                 linked : (k : ℕ) → 0 < el (set rank target 99) k
-                    → ((away dist k ≡ h .so-far .root k) × (k < P d + 2 → el via k ≡ n))
-                    ⊎ Step (scope d order n target) (landing d order holds) (ofPeriod prices) (away dist) (el rank) k (el via k)
-                    → Linked d order (landing d order holds) (set rank target 99) via n k
+                    → ((away dist k ≡ h .so-far .root k)
+                    × (In (scope d places n target) n k → h .so-far .root k ≡ scope d places n target .cost n k + ofPeriod prices k → el via k ≡ n))
+                    ⊎ Step (scope d places n target) (landing d places holds) (ofPeriod prices) (away dist) (el rank) k (el via k)
+                    → Linked d places (landing d places holds) (set rank target 99) via n k
                 linked k some how = elim how [
                   | inl e ↦
-                      let new = e .1 (omega (arith, k-in k some .0)) in
-                      record { due-by = rw new (h .so-far .rooted k (omega (arith, e .0, k-in k some .1)) .0 .from); flight = inl new }
+                      let root = h .so-far .rooted k (omega (arith, e .0, k-in k some .1)) in
+                      let new = e .1 (root .0) (root .1) in
+                      record { due-by = rw new (root .0 .from); flight = inl new }
                   | inr a ↦
-                      let other : landing d order holds (el via k) ≢ target = λ f. omega (arith, a .from, fresh, ap (el rank) f) in
-                      let same = v .others (landing d order holds (el via k)) other in
-                      let at = h .so-far .reached (landing d order holds (el via k)) (a .from) in
+                      let other : landing d places holds (el via k) ≢ target = λ f. omega (arith, a .from, fresh, ap (el rank) f) in
+                      let same = v .others (landing d places holds (el via k)) other in
+                      let at = h .so-far .reached (landing d places holds (el via k)) (a .from) in
                       record {
                         due-by = a .fits .from;
                         flight = inr (record {
@@ -223,34 +215,34 @@ module _ {d : Day} {order holds prices : List ℕ} {n : ℕ} (s : Placed d order
                           in-day = omega (arith, at .1, insert-within);
                           some = omega (arith, same, a .from);
                           lower = elim (eq? k target) [
-                            | inl e ↦ omega (arith, same, ap (el (set rank target 99)) e, v .here, h .so-far .near .top (landing d order holds (el via k)), h .so-far .zeros)
+                            | inl e ↦ omega (arith, same, ap (el (set rank target 99)) e, v .here, h .so-far .near .top (landing d places holds (el via k)), h .so-far .zeros)
                             | inr e ↦ omega (arith, same, v .others k e, a .lower (omega (arith, v .others k e)))
                           ];
                         });
                       }
                 ]
 
-            module _ {holds₂ : List ℕ} (w : Walked d order holds holds₂ via n target) where
-              f : Found (scope d order n target) (landing d order holds) (ofPeriod prices) (h .so-far .root) (away dist) (el rank) (el via) (h .t) (away dist target) target
+            module _ {places₂ holds₂ : List ℕ} (w : Walked d places places₂ holds holds₂ via n target) where
+              f : Found (scope d places n target) (landing d places holds) (ofPeriod prices) (h .so-far .root) (away dist) (el rank) (el via) (h .t) (away dist target) target
               f = found
 
-              narrow : Sound (scope d order n target) (landing d order holds) (ofPeriod prices)
+              narrow : Sound (scope d places n target) (landing d places holds) (ofPeriod prices)
               narrow = insert-scene .sound
 
               -- whatever prices are higher by what their periods are nearer than the target
               module _ {q : ℕ → ℕ} (rise : (k : ℕ) → q k ≡ ofPeriod prices k + (away dist target - away dist k)) where
-                arrived : Arrived (scope d order n target) (landing d order holds) (w .y) q (reach-order f narrow rise) (el via) (away dist target) target
-                arrived = w .keeps (scope d order n target) q (reach-order f narrow rise) (away dist target) refl (going f narrow rise)
+                arrived : Arrived (scope d places n target) (landing d places holds) (w .y) q (reach-order f narrow rise) (el via) (away dist target) target
+                arrived = w .keeps (scope d places n target) q (reach-order f narrow rise) (away dist target) refl (going f narrow rise)
 
-                whole : Sound (begun d order (suc n)) (w .y) q
-                whole = widen (begun d order (suc n)) target (rising (s .table) (suc n) l) (z-free f narrow rise)
+                whole : Sound (begun d places (suc n)) (w .y) q
+                whole = widen (begun d places (suc n)) target (rising (s .table) (suc n) l) (z-free f narrow rise)
                     (going-end (arrived .going) (ground f narrow rise) (arrived .new) (arrived .last))
 
-                adds : A.total (begun d order (suc n)) (w .y) ≡ cost-of-placed d order holds n + away dist target
+                adds : A.total (begun d places (suc n)) (w .y) ≡ cost-of-placed d places holds n + away dist target
                 adds = omega (
                   arith,
-                  same-total (begun d order (suc n)) target (w .y),
-                  same-total (begun d order n) target (landing d order holds),
+                  same-total (begun d places (suc n)) target (w .y),
+                  same-total (begun d places n) target (landing d places holds),
                   going-total (arrived .going) (ground f narrow rise) (arrived .new) (arrived .last) (z-free f narrow rise),
                 )
 
@@ -278,29 +270,106 @@ module _ {d : Day} {order holds prices : List ℕ} {n : ℕ} (s : Placed d order
 
               module _ {prices₂ : List ℕ} (r : Raised prices prices₂ dist target) (holds-same : length holds₂ ≡ length holds)
                   (prices-same : length prices₂ ≡ length prices) where
-                pub insert-end : {added : ℕ} → added ≡ getD dist target 0 → Inserted d order holds holds₂ prices₂ n added
+                next : suc n ≡ n + 1
+                next = omega arith
+
+                -- those that are not placed stand where they stood, and those that are were due no earlier
+                falling : (o t : ℕ) → o ≤ t → n + 1 ≤ t → t < N d → due d (el places₂ t) ≤ due d (el places₂ o)
+                falling o t le out b = elim (lt? n o) [
+                  | inl c ↦ rw (w .beyond t (omega arith), w .beyond o c) (s .falling o t le (omega arith) b)
+                  | inr c ↦
+                      let low = w .permuted .below o (omega arith) in
+                      rw (w .beyond t (omega arith), w .moved o (omega arith)) (s .falling (w .σ o) t (omega arith) (omega arith) b)
+                ]
+
+                pub insert-end : {added : ℕ} → added ≡ getD dist target 0 → Inserted d places places₂ holds holds₂ prices₂ n added
                 insert-end {added} e = record {
                   placed = record {
-                    table = s .table;
+                    table = w .table;
+                    falling = falling;
                     none-short = s .none-short;
                     upto = omega arith;
                     holds-row = holds-same ∙ s .holds-row;
                     prices-row = prices-same ∙ s .prices-row;
-                    sound = rw next at (sound-ext (begun d order (suc n)) (w .y) (landing d order holds₂) stored (whole (r .rise)));
+                    sound = rw next at (reordered-sound (instance d) (el places) (el places₂) (w .y) (landing d places₂ holds₂) (w .permuted) (w .moved) (w .lands-are) (whole (r .rise)));
                   };
                   adds = rw next at added-up;
                 }
                   where
-                    next : suc n ≡ n + 1
-                    next = omega arith
-
-                    stored : (o : ℕ) → o < suc n → landing d order holds₂ o ≡ w .y o
-                    stored o b = omega (arith, w .lands-are o b)
-
-                    added-up : cost-of-placed d order holds₂ (suc n) ≡ cost-of-placed d order holds n + added
+                    added-up : cost-of-placed d places₂ holds₂ (suc n) ≡ cost-of-placed d places holds n + added
                     added-up = omega (
                       arith,
-                      total-ext (begun d order (suc n)) (w .y) (landing d order holds₂) stored,
+                      reordered-total (instance d) (el places) (el places₂) (w .y) (landing d places₂ holds₂) (w .permuted) (w .moved) (w .lands-are),
                       adds (r .rise),
                       as-read dist target (insert-rows .0),
                     )
+
+              -- ---- what is kept
+
+              pub insert-forget : CanForget dist (set rank target 99) first target
+              insert-forget = record {
+                dists = h .so-far .rows .dists;
+                ranks = length-set rank target 99 ∙ h .so-far .rows .ranks;
+                within = insert-within;
+                outside = λ k out. (far-out k out, v .others k (other k out) ∙ unreached k out);
+              }
+                where
+                  v : Moved (el rank) (el (set rank target 99)) target 99
+                  v = set-moved rank target 99 (insert-rows .1)
+
+                  far-out : (k : ℕ) → (k < first) ⊎ (target < k) → away dist k ≡ far
+                  far-out k out = elim (lt? (away dist k) far) [
+                    | inr beyond ↦ omega (arith, h .so-far .most k)
+                    | inl near ↦ absurd (elim out [
+                      | inl a ↦ omega (arith, first-at, h .so-far .inside k near)
+                      | inr a ↦ omega (arith, h .so-far .inside k near)
+                    ])
+                  ]
+
+                  other : (k : ℕ) → (k < first) ⊎ (target < k) → k ≢ target
+                  other k out e = elim out [ inl a ↦ omega (arith, room .from) | inr a ↦ omega arith ]
+
+                  unreached : (k : ℕ) → (k < first) ⊎ (target < k) → el rank k ≡ 0
+                  unreached k out = elim (lt? 0 (el rank k)) [
+                    | inr none ↦ omega arith
+                    | inl some ↦ absurd (elim out [
+                      | inl a ↦ omega (arith, first-at, h .so-far .reached k some)
+                      | inr a ↦ omega (arith, h .so-far .reached k some)
+                    ])
+                  ]
+
+              pub insert-add : (target < length loads) × (target < length first-in) × (n < length next-in) × (target < 98) × (n < 128) × (el loads target ≤ 128)
+              insert-add = omega (
+                arith,
+                insert-within,
+                insert-room,
+                kept .loads-row,
+                kept .chained .firsts,
+                kept .chained .nexts,
+                kept .loads-are target insert-within,
+                count-le n (landing d places holds) target,
+              )
+
+              module _ {loads₂ first-in₂ next-in₂ list₂ dist₂ rank₂ : List ℕ} (a : Added loads loads₂ first-in first-in₂ next-in next-in₂ n target)
+                  (f : Forgotten dist₂ rank₂) where
+                pub insert-kept : length list₂ ≡ length list → length dist₂ ≡ length dist → length rank₂ ≡ length (set rank target 99)
+                    → Kept d places₂ holds₂ loads₂ first-in₂ next-in₂ list₂ dist₂ rank₂ via (n + 1)
+                insert-kept same-l same-d same-r = record {
+                  loads-row = ap length (a .counted) ∙ length-set loads target (el loads target + 1) ∙ kept .loads-row;
+                  loads-are = added-loads (kept .chained) insert-within (insert-room .1) stays here a (kept .loads-row) (kept .loads-are);
+                  chained = added-chained (kept .chained) insert-within (insert-room .1) stays here a;
+                  listed = same-l ∙ kept .listed;
+                  rows = record {
+                    dists = same-d ∙ h .so-far .rows .dists;
+                    ranks = same-r ∙ length-set rank target 99 ∙ h .so-far .rows .ranks;
+                    vias = h .so-far .rows .vias;
+                  };
+                  all-far = f .all-far;
+                  no-ranks = f .no-ranks;
+                }
+                  where
+                    stays : (o : ℕ) → o < n → landing d places₂ holds₂ o ≡ landing d places holds o
+                    stays o b = w .at-home o (omega arith) ∙ put-moved (landing d places holds) n target .others o (omega arith)
+
+                    here : landing d places₂ holds₂ n ≡ target
+                    here = w .at-home n (omega arith) ∙ put-moved (landing d places holds) n target .here

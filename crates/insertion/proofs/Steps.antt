@@ -1,7 +1,7 @@
--- The loops of `chain_landings`, `first_with_room`, `walk`, `raise` and `clear`.
+-- What `add_place` does, and the loops of `first_with_room`, `walk`, `forget`, `raise` and `clear`.
 -- Assumes nothing.
 use mathlib.Core.Path.{_≡_, refl, sym, ap, _∙_}
-use mathlib.Core.Logic.{inl, inr, _≢_}
+use mathlib.Core.Logic.{_⊎_, inl, inr, _≢_}
 use mathlib.Core.List.{List, _∷_}
 use Prim.Native.Nat.{ℕ, zero, suc, _+_, _-_, _*_, _≤_, _<_}
 use native.Mathlib.Omega.{arith}
@@ -10,162 +10,83 @@ use lib.ListN.{getD, length, set, length-set}
 use Rattle.assignment.specs.Sum.{gate, count}
 use Rattle.assignment.specs.Assignment.{Instance}
 use Rattle.assignment.proofs.Tests.{eq?, lt?, gate-eq, gate-ne}
-use Rattle.assignment.proofs.Sums.{count-suc, count-zero, count-le}
+use Rattle.assignment.proofs.Sums.{count-suc, count-ext}
 use Rattle.assignment.proofs.Moves.{Moved, put, put-moved}
 use Rattle.assignment.proofs.Insertion.{Going, going-step}
-use Rattle.assignment.proofs.Permuted.{permuted-apart}
+use Rattle.assignment.proofs.Permuted.{Permuted, permuted-other, permuted-same, Swapped, swapped}
 use Rattle.day.specs.Day.{Day, N, width, ofPeriod, due, land}
 use Rattle.day.proofs.Costs.{period-out}
-use Rattle.path.specs.Path.{el, away, landing, Table, Next}
-use Rattle.path.proofs.Rows.{set-moved, as-read}
-use Rattle.path.proofs.Expanding.{stands}
-use Rattle.insertion.specs.Insertion.{CanChain, Chains, CanFind, FirstRoom, Hop, Linked, CanWalk, Walked, CanRaise, Raised, Cleared}
+use Rattle.path.specs.Path.{el, far, away, landing, Table, Newest, Chained}
+use Rattle.path.proofs.Rows.{set-moved, away-moved, as-read}
+use Rattle.path.proofs.Expanding.{stands as stands-in}
+use Rattle.insertion.specs.Insertion.{home, Added, CanFind, FirstRoom, Hop, Linked, CanWalk, Walked, CanForget, Forgotten, CanRaise, Raised, Cleared}
 
--- ---- chain_landings
+-- ---- add_place
 
--- the flights from s on are counted and chained
-pub record Chaining (d : Day) (order holds loads₀ loads first-in₀ first-in next-in₀ next-in : List ℕ) (n s : ℕ) : Type 0 where
-  pub can : CanChain d order holds loads₀ first-in₀ next-in₀ n
-  pub same-loads : length loads ≡ length loads₀
-  pub same-firsts : length first-in ≡ length first-in₀
-  pub same-nexts : length next-in ≡ length next-in₀
-  pub upto : s ≤ n
-  pub counted : (k : ℕ) → k < 98 → el loads k + count s (landing d order holds) k ≡ count n (landing d order holds) k
-  pub first : (k : ℕ) → k < 98 → Next (landing d order holds) n k s (el first-in k)
-  pub next : (o : ℕ) → s ≤ o → o < n → Next (landing d order holds) n (landing d order holds o) (o + 1) (el next-in o)
+newest-ext : {x y : ℕ → ℕ} {k from r : ℕ} → ((s : ℕ) → s < from → y s ≡ x s) → Newest x k from r → Newest y k from r
+newest-ext same h = record {
+  before = h .before;
+  none = λ s a b e. h .none s a b (sym (same s b) ∙ e);
+  there = λ some. same _ (omega (arith, h .before)) ∙ h .there some;
+}
 
-module _ {d : Day} {order holds loads first-in next-in : List ℕ} {n : ℕ} (c : CanChain d order holds loads first-in next-in n) where
-  pub chaining-start : Chaining d order holds loads loads first-in first-in next-in next-in n n
-  chaining-start = record {
-    can = c;
-    same-loads = refl;
-    same-firsts = refl;
-    same-nexts = refl;
-    upto = omega arith;
-    counted = λ k _. omega (arith, c .empty k);
-    first = λ k b. rw (c .none k b) (record { after = omega arith; to = omega arith; none = λ o from less. absurd (omega arith); there = λ less. absurd (omega arith) });
-    next = λ o from less. absurd (omega arith);
+-- place n is the newest of those in k
+module _ {x y : ℕ → ℕ} {loads loads₂ first-in first-in₂ next-in next-in₂ : List ℕ} {n k : ℕ} (c : Chained x first-in next-in n)
+    (in-day : k < 98) (in-row : n < 128) (same : (s : ℕ) → s < n → y s ≡ x s) (here : y n ≡ k)
+    (a : Added loads loads₂ first-in first-in₂ next-in next-in₂ n k) where
+  heads : Moved (el first-in) (el first-in₂) k (n + 1)
+  heads = rw (a .first) (set-moved first-in k (n + 1) (omega (arith, c .firsts)))
+
+  tails : Moved (el next-in) (el next-in₂) n (el first-in k)
+  tails = rw (a .next) (set-moved next-in n (el first-in k) (omega (arith, c .nexts)))
+
+  pub added-chained : Chained y first-in₂ next-in₂ (n + 1)
+  added-chained = record {
+    firsts = ap length (a .first) ∙ length-set first-in k (n + 1) ∙ c .firsts;
+    nexts = ap length (a .next) ∙ length-set next-in n (el first-in k) ∙ c .nexts;
+    first = λ j b. elim (eq? j k) [
+      | inl e ↦ rw (e, heads .here) (record {
+        before = omega arith;
+        none = λ s from less. absurd (omega arith);
+        there = λ _. let back : n ≡ (n + 1) - 1 = omega arith in rw back at here;
+      })
+      | inr e ↦ rw (heads .others j e) (later j e (newest-ext same (c .first j b)))
+    ];
+    next = λ s b. elim (eq? s n) [
+      | inl e ↦ rw (e, here, tails .here) (newest-ext same (c .first k in-day))
+      | inr e ↦ rw (tails .others s e, same s (omega arith)) (newest-ext (λ o l. same o (omega arith)) (c .next s (omega arith)))
+    ];
   }
-
-module _ {d : Day} {order holds loads₀ loads first-in₀ first-in next-in₀ next-in : List ℕ} {n s : ℕ}
-    (w : Chaining d order holds loads₀ loads first-in₀ first-in next-in₀ next-in n s) where
-  pub chaining-end : s ≤ 0 → Chains d order holds loads first-in next-in n
-  chaining-end l =
-      let e : s ≡ 0 = omega arith in
-      record {
-        loads-are = λ k b. omega (arith, w .counted k b, ap (λ z. count z (landing d order holds) k) e, count-zero (landing d order holds) k);
-        chained = record {
-          firsts = w .same-firsts ∙ w .can .firsts;
-          nexts = w .same-nexts ∙ w .can .nexts;
-          first = λ k b. rw e at (w .first k b);
-          next = λ o b. w .next o (omega arith) b;
-        };
+    where
+      later : (j : ℕ) → j ≢ k → {r : ℕ} → Newest y j n r → Newest y j (n + 1) r
+      later j e h = record {
+        before = omega (arith, h .before);
+        none = λ s from less. elim (eq? s n) [
+          | inl g ↦ λ z. e (sym z ∙ ap y g ∙ here)
+          | inr g ↦ h .none s from (omega arith)
+        ];
+        there = h .there;
       }
 
-  module _ (l : 0 < s) where
-    pub chaining-room : (s - 1 < length order) × (s - 1 < length next-in) × (s - 1 < 128) × (s - 1 < n)
-    chaining-room = omega (
-      arith,
-      w .upto,
-      w .can .upto,
-      w .can .table .by-due .row,
-      w .can .table .valid .flights-to,
-      w .same-nexts,
-      w .can .nexts,
-    )
+  pub added-loads : length loads ≡ 98 → ((j : ℕ) → j < 98 → el loads j ≡ count n x j) → (j : ℕ) → j < 98 → el loads₂ j ≡ count (n + 1) y j
+  added-loads row are j b = elim (eq? j k) [
+    | inl e ↦ rw e (omega (arith, u .here, counts k, gate-eq k k 1 refl, are k in-day))
+    | inr e ↦ omega (arith, u .others j e, counts j, gate-ne k j 1 (λ z. e (sym z)), are j b)
+  ]
+    where
+      u : Moved (el loads) (el loads₂) k (el loads k + 1)
+      u = rw (a .counted) (set-moved loads k (el loads k + 1) (omega (arith, row)))
 
-    module _ {i : ℕ} (i-is : i ≡ getD order (s - 1) 0) where
-      in-table : i < N d
-      in-table = omega (arith, w .can .table .by-due .permuted .below (s - 1) (omega (arith, chaining-room, w .can .upto)))
-
-      pub chaining-stands : (i < length holds) × ((i + 1) * width ≤ length (d .flights))
-      chaining-stands = (omega (arith, in-table, w .can .holds-row), stands (w .can .table) i in-table)
-
-      module _ {k : ℕ} (k-is : k ≡ land d holds i) where
-        lands-there : k ≡ landing d order holds (s - 1)
-        lands-there = rw i-is at k-is
-
-        low : k < 98
-        low = omega (arith, lands-there, w .can .in-day (s - 1) (chaining-room .3))
-
-        pub chaining-in : (k < length loads) × (k < length first-in) × (k < 98) × (getD loads k 0 ≤ 128)
-        chaining-in = omega (
-          arith,
-          low,
-          w .same-loads,
-          w .can .loads-row,
-          w .same-firsts,
-          w .can .firsts,
-          w .counted k low,
-          count-le n (landing d order holds) k,
-          w .can .upto,
-          w .can .table .valid .flights-to,
-        )
-
-        pub chaining-next : Chaining d order holds loads₀ (set loads k (getD loads k 0 + 1)) first-in₀ (set first-in k (s - 1)) next-in₀
-            (set next-in (s - 1) (getD first-in k 0)) n (s - 1)
-        chaining-next = record {
-          can = w .can;
-          same-loads = length-set loads k (getD loads k 0 + 1) ∙ w .same-loads;
-          same-firsts = length-set first-in k (s - 1) ∙ w .same-firsts;
-          same-nexts = length-set next-in (s - 1) (getD first-in k 0) ∙ w .same-nexts;
-          upto = omega (arith, w .upto);
-          counted = counted-more;
-          first = λ j b. elim (eq? j k) [
-            | inl e ↦ rw (e, f .here) (record {
-              after = omega arith;
-              to = omega (arith, w .upto);
-              none = λ o from less. absurd (omega arith);
-              there = λ _. sym lands-there;
-            })
-            | inr e ↦ rw (f .others j e) (further j e (w .first j b))
-          ];
-          next = λ o from less. elim (eq? o (s - 1)) [
-            | inl e ↦ rw (e, v .here, ← lands-there, one-less) (w .first k low)
-            | inr e ↦ rw (v .others o e) (w .next o (omega arith) less)
-          ];
-        }
-          where
-            one-less : (s - 1) + 1 ≡ s
-            one-less = omega arith
-
-            u : Moved (el loads) (el (set loads k (getD loads k 0 + 1))) k (getD loads k 0 + 1)
-            u = set-moved loads k (getD loads k 0 + 1) (chaining-in .0)
-
-            f : Moved (el first-in) (el (set first-in k (s - 1))) k (s - 1)
-            f = set-moved first-in k (s - 1) (chaining-in .1)
-
-            v : Moved (el next-in) (el (set next-in (s - 1) (getD first-in k 0))) (s - 1) (getD first-in k 0)
-            v = set-moved next-in (s - 1) (getD first-in k 0) (chaining-room .1)
-
-            -- flight s - 1 lands in k
-            counts : (j : ℕ) → count s (landing d order holds) j ≡ count (s - 1) (landing d order holds) j + gate (eqb k j) 1
-            counts j =
-                let e : suc (s - 1) ≡ s = omega arith in
-                omega (
-                  arith,
-                  ap (λ z. count z (landing d order holds) j) e,
-                  count-suc (s - 1) (landing d order holds) j,
-                  ap (λ z. gate (eqb z j) 1) lands-there,
-                )
-
-            counted-more : (j : ℕ) → j < 98
-                → el (set loads k (getD loads k 0 + 1)) j + count (s - 1) (landing d order holds) j ≡ count n (landing d order holds) j
-            counted-more j b = elim (eq? j k) [
-              | inl e ↦ rw e (omega (arith, u .here, counts k, gate-eq k k 1 refl, w .counted k low))
-              | inr e ↦ omega (arith, u .others j e, counts j, gate-ne k j 1 (λ z. e (sym z)), w .counted j b)
-            ]
-
-            further : (j : ℕ) → j ≢ k → {r : ℕ} → Next (landing d order holds) n j s r → Next (landing d order holds) n j (s - 1) r
-            further j e h = record {
-              after = omega (arith, h .after);
-              to = h .to;
-              none = λ o from less. elim (eq? o (s - 1)) [
-                | inl g ↦ λ z. e (sym z ∙ ap (landing d order holds) g ∙ sym lands-there)
-                | inr g ↦ h .none o (omega arith) less
-              ];
-              there = h .there;
-            }
+      counts : (j : ℕ) → count (n + 1) y j ≡ count n x j + gate (eqb k j) 1
+      counts j =
+          let e : suc n ≡ n + 1 = omega arith in
+          omega (
+            arith,
+            ap (λ z. count z y j) e,
+            count-suc n y j,
+            count-ext n x y same j,
+            ap (λ z. gate (eqb z j) 1) here,
+          )
 
 -- ---- first_with_room
 
@@ -200,149 +121,306 @@ module _ {capacities loads : List ℕ} {first k : ℕ} (s : Passing capacities l
 
 -- ---- walk
 
--- the flight at place `who` of the order is held until k: it lands there, and the others where they did
-module _ {d : Day} {order : List ℕ} (holds : List ℕ) {who i k : ℕ} (t : Table d order) (l : who < N d) (row : length holds ≡ N d)
-    (i-is : i ≡ el order who) (due-by : due d i ≤ k) where
+-- the flight at place `who` is held until k: it lands there, and the others where they did
+module _ {d : Day} {places : List ℕ} (holds : List ℕ) {who i k : ℕ} (t : Table d places) (l : who < N d) (row : length holds ≡ N d)
+    (i-is : i ≡ el places who) (due-by : due d i ≤ k) where
   in-row : i < length holds
-  in-row = omega (arith, t .by-due .permuted .below who l)
+  in-row = omega (arith, t .permuted .below who l)
 
-  held-here : landing d order (set holds i (k - due d i)) who ≡ k
+  held-here : landing d places (set holds i (k - due d i)) who ≡ k
   held-here = rw (← i-is) (omega (arith, set-moved holds i (k - due d i) in-row .here))
 
-  held-other : (s : ℕ) → s < N d → s ≢ who → landing d order (set holds i (k - due d i)) s ≡ landing d order holds s
-  held-other s b e = omega (arith, set-moved holds i (k - due d i) in-row .others (el order s) apart)
-    where
-      apart : el order s ≢ i
-      apart f = elim (lt? s who) [
-        | inl less ↦ permuted-apart (t .by-due .permuted) s who less l (f ∙ i-is)
-        | inr more ↦ permuted-apart (t .by-due .permuted) who s (omega arith) b (sym (f ∙ i-is))
-      ]
+  held-other : (s : ℕ) → s < N d → s ≢ who → landing d places (set holds i (k - due d i)) s ≡ landing d places holds s
+  held-other s b e = omega (arith, set-moved holds i (k - due d i) in-row .others (el places s) (λ f. permuted-other (t .permuted) s who b l e (f ∙ i-is)))
 
-  -- so does the plan
-  pub held-plan : (n : ℕ) (x : ℕ → ℕ) → n ≤ N d → ((s : ℕ) → s < n → s ≢ who → x s ≡ landing d order holds s)
-      → (s : ℕ) → s < n → put x who k s ≡ landing d order (set holds i (k - due d i)) s
-  held-plan n x upto same s b = elim (eq? s who) [
-    | inl e ↦ rw e (put-moved x who k .here ∙ sym held-here)
-    | inr e ↦ put-moved x who k .others s e ∙ same s b e ∙ sym (held-other s (omega arith) e)
-  ]
+-- two entries change places
+swap-moved : (row : List ℕ) (a b : ℕ) → a < length row → b < length row → a ≢ b → Swapped (el row) (el (set (set row a (el row b)) b (el row a))) a b
+swap-moved row a b in-a in-b apart =
+    let v = set-moved row a (el row b) in-a in
+    let w = set-moved (set row a (el row b)) b (el row a) (omega (arith, length-set row a (el row b))) in
+    record {
+      here = w .others a apart ∙ v .here;
+      there = w .here;
+      others = λ s e f. w .others s f ∙ v .others s e;
+    }
 
--- flight `who` is to land in `at`; x is the plan, and flights that land nearer to the new one have not moved
-pub record Walking (d : Day) (order holds₀ holds rank via : List ℕ) (n target at who : ℕ) : Type 0 where
-  pub can : CanWalk d order holds₀ rank via n target
-  pub same : length holds ≡ length holds₀
+put-swapped : (f : ℕ → ℕ) (a b : ℕ) → a ≢ b → Swapped f (put (put f a (f b)) b (f a)) a b
+put-swapped f a b apart =
+    let v = put-moved f a (f b) in
+    let w = put-moved (put f a (f b)) b (f a) in
+    record {
+      here = w .others a apart ∙ v .here;
+      there = w .here;
+      others = λ s e g. w .others s g ∙ v .others s e;
+    }
+
+-- the new flight stands at `place`, which is in period `at`; the flight at `from` is to move there. x is the plan by the places at the start,
+-- σ says where each flight stood then, and places nearer to the new flight's own have not changed
+pub record Walking (d : Day) (places₀ places holds₀ holds rank via : List ℕ) (n target at place from : ℕ) : Type 0 where
+  pub can : CanWalk d places₀ holds₀ rank via n target
+  pub table : Table d places
+  pub same-p : length places ≡ length places₀
+  pub same-h : length holds ≡ length holds₀
   pub in-day : at < 98
   pub some : 0 < el rank at
   pub below : el rank at ≤ el rank target
-  pub is : who ≡ el via at
+  pub is : from ≡ el via at
+  pub stands : place < suc n
+  pub σ : ℕ → ℕ
+  pub permuted : Permuted (suc n) σ
+  pub moved : (s : ℕ) → s < suc n → el places s ≡ el places₀ (σ s)
+  pub beyond : (s : ℕ) → n < s → el places s ≡ el places₀ s
+  pub new : σ place ≡ n
+  pub here : home d places₀ holds₀ n target place ≡ at
+  pub at-home : (s : ℕ) → s < suc n → s ≢ place → landing d places holds s ≡ home d places₀ holds₀ n target s
   pub x : ℕ → ℕ
-  pub lands-are : (s : ℕ) → s < n → x s ≡ landing d order holds s
-  pub still : (s : ℕ) → s < n → el rank (landing d order holds₀ s) < el rank at → x s ≡ landing d order holds₀ s
-  pub keeps : (i : Instance) (q from : ℕ → ℕ) (u : ℕ) → i .n ≡ n
-      → Going i (landing d order holds₀) (landing d order holds₀) q from (el via) u target target
-      → Going i (landing d order holds₀) x q from (el via) u target at
+  pub lands-are : (s : ℕ) → s < suc n → s ≢ place → x (σ s) ≡ home d places₀ holds₀ n target s
+  pub still : (s : ℕ) → s < n → el rank (home d places₀ holds₀ n target s) < el rank at → σ s ≡ s
+  pub keeps : (i : Instance) (q order : ℕ → ℕ) (u : ℕ) → i .n ≡ n
+      → Going i (landing d places₀ holds₀) (landing d places₀ holds₀) q order (el via) u target target
+      → Going i (landing d places₀ holds₀) x q order (el via) u target at
 
-module _ {d : Day} {order holds rank via : List ℕ} {n target : ℕ} (c : CanWalk d order holds rank via n target) where
+module _ {d : Day} {places holds rank via : List ℕ} {n target : ℕ} (c : CanWalk d places holds rank via n target) where
   pub walk-in : target < length via
   walk-in = omega (arith, c .within, c .vias)
 
-  pub walking-start : Walking d order holds holds rank via n target target (getD via target 0)
+  placed-home : (s : ℕ) → s ≢ n → home d places holds n target s ≡ landing d places holds s
+  placed-home s e = put-moved (landing d places holds) n target .others s e
+
+  pub walking-start : Walking d places places holds holds rank via n target target n (getD via target 0)
   walking-start = record {
     can = c;
-    same = refl;
+    table = c .table;
+    same-p = refl;
+    same-h = refl;
     in-day = c .within;
     some = c .some;
     below = omega arith;
     is = refl;
-    x = landing d order holds;
-    lands-are = λ s b. refl;
-    still = λ s b low. refl;
-    keeps = λ i q from u e g. g;
+    stands = omega arith;
+    σ = λ s. s;
+    permuted = permuted-same (suc n);
+    moved = λ s _. refl;
+    beyond = λ s _. refl;
+    new = refl;
+    here = put-moved (landing d places holds) n target .here;
+    at-home = λ s _ e. sym (placed-home s e);
+    x = landing d places holds;
+    lands-are = λ s _ e. sym (placed-home s e);
+    still = λ s _ _. refl;
+    keeps = λ i q order u e g. g;
   }
 
-module _ {d : Day} {order holds₀ holds rank via : List ℕ} {n target at who : ℕ} (s : Walking d order holds₀ holds rank via n target at who) where
-  linked : Linked d order (landing d order holds₀) rank via n at
+module _ {d : Day} {places₀ places holds₀ holds rank via : List ℕ} {n target at place from : ℕ}
+    (s : Walking d places₀ places holds₀ holds rank via n target at place from) where
+  linked : Linked d places₀ (landing d places₀ holds₀) rank via n at
   linked = s .can .chain at (s .in-day) (s .some) (s .below)
 
   row : length holds ≡ N d
-  row = s .same ∙ s .can .holds-row
+  row = s .same-h ∙ s .can .holds-row
 
-  module _ {m i : ℕ} (m-is : m ≡ who) (l : m < N d) (i-is : i ≡ getD order m 0) where
+  pub walking-places : (place < length places) × (place < 128) × (place < N d)
+  walking-places = omega (arith, s .stands, s .can .upto, s .table .row, s .table .valid .flights-to)
+
+  -- the flight at a place, if it stood at `from` at the start, may be held until `at`
+  module _ {o i : ℕ} (l : o < suc n) (was : s .σ o ≡ from) (i-is : i ≡ getD places o 0) where
     due-by : due d i ≤ at
-    due-by = rw (i-is, m-is, s .is) (linked .due-by)
+    due-by = rw (i-is ∙ s .moved o l ∙ ap (el places₀) (was ∙ s .is)) (linked .due-by)
 
     pub walking-hold : (i < length holds) × ((i + 1) * width ≤ length (d .flights)) × (due d i ≤ at) × (i < 128) × (at < 98)
     walking-hold =
-        let b = s .can .table .by-due .permuted .below m l in (
+        let b = s .table .permuted .below o (omega (arith, s .can .upto)) in (
           omega (arith, b, i-is, row),
-          stands (s .can .table) i (omega (arith, b, i-is)),
+          stands-in (s .table) i (omega (arith, b, i-is)),
           due-by,
-          omega (arith, b, i-is, s .can .table .valid .flights-to),
+          omega (arith, b, i-is, s .table .valid .flights-to),
           s .in-day,
         )
 
-  module _ (e : who ≢ n) where
-    hop : Hop (landing d order holds₀) rank via n at
+  module _ (e : from ≢ n) where
+    hop : Hop (landing d places₀ holds₀) rank via n at
     hop = elim (linked .flight) [ inl new ↦ absurd (e (s .is ∙ new)) | inr h ↦ h ]
 
-    in-plan : who < n
+    in-plan : from < n
     in-plan = omega (arith, s .is, hop .who)
 
-    lower : el rank (landing d order holds₀ who) < el rank at
-    lower = rw (s .is) (hop .lower)
+    home-is : home d places₀ holds₀ n target from ≡ landing d places₀ holds₀ from
+    home-is = placed-home (s .can) from e
 
-    pub walking-table : who < N d
-    walking-table = omega (arith, in-plan, s .can .upto)
+    lower : el rank (home d places₀ holds₀ n target from) < el rank at
+    lower = rw (home-is, s .is) (hop .lower)
 
-    pub walking-room : (who < length order) × (who < 128)
-    walking-room = omega (arith, walking-table, s .can .table .by-due .row, s .can .table .valid .flights-to)
+    pub walking-stays : s .σ from ≡ from
+    walking-stays = s .still from in-plan lower
 
-    module _ {i left : ℕ} (i-is : i ≡ getD order who 0) (left-is : left ≡ land d holds i) where
-      unmoved : left ≡ landing d order holds₀ who
-      unmoved = rw i-is at left-is ∙ sym (s .lands-are who in-plan) ∙ s .still who in-plan lower
+    apart : place ≢ from
+    apart f = omega (arith, lower, ap (λ z. el rank (home d places₀ holds₀ n target z)) f, ap (el rank) (s .here))
+
+    pub walking-room : (from < length places) × (from < 128) × (from < suc n) × (from < N d)
+    walking-room = omega (arith, in-plan, s .can .upto, s .table .row, s .table .valid .flights-to)
+
+    module _ {i left : ℕ} (i-is : i ≡ getD places from 0) (left-is : left ≡ land d holds i) where
+      left-at : left ≡ home d places₀ holds₀ n target from
+      left-at = rw i-is at left-is ∙ s .at-home from (walking-room .2) (λ f. apart (sym f))
 
       pub walking-left : (left < length via) × (left < 98)
-      walking-left = rw (unmoved, s .is) (omega (arith, hop .in-day, s .can .vias))
+      walking-left = rw (left-at, home-is, s .is) (omega (arith, hop .in-day, s .can .vias))
 
       pub walking-less : getD rank left 0 < getD rank at 0
-      walking-less = rw unmoved lower
+      walking-less = rw left-at lower
 
-      pub walking-step : Walking d order holds₀ (set holds i (at - due d i)) rank via n target left (getD via left 0)
+      swaps : Swapped (el places) (el (set (set places place (el places from)) from (el places place))) place from
+      swaps = swap-moved places place from (walking-places .0) (walking-room .0) apart
+
+      abbrev σ₂ : ℕ → ℕ
+      σ₂ = put (put (s .σ) place (s .σ from)) from (s .σ place)
+
+      turns : Swapped (s .σ) σ₂ place from
+      turns = put-swapped (s .σ) place from apart
+
+      goes : Moved (s .x) (put (s .x) from at) from at
+      goes = put-moved (s .x) from at
+
+      moved₂ : (o : ℕ) → o < suc n → el (set (set places place (el places from)) from (el places place)) o ≡ el places₀ (σ₂ o)
+      moved₂ o b = elim (eq? o place) [
+        | inl f ↦ rw f (swaps .here ∙ s .moved from (walking-room .2) ∙ ap (el places₀) (sym (turns .here)))
+        | inr f ↦ elim (eq? o from) [
+          | inl g ↦ rw g (swaps .there ∙ s .moved place (s .stands) ∙ ap (el places₀) (sym (turns .there)))
+          | inr g ↦ swaps .others o f g ∙ s .moved o b ∙ ap (el places₀) (sym (turns .others o f g))
+        ]
+      ]
+
+      at-home₂ : (o : ℕ) → o < suc n → o ≢ from
+          → landing d (set (set places place (el places from)) from (el places place)) (set holds i (at - due d i)) o ≡ home d places₀ holds₀ n target o
+      at-home₂ o b f = elim (eq? o place) [
+        | inl g ↦ rw g (ap (land d (set holds i (at - due d i))) (swaps .here)
+            ∙ held-here holds (s .table) (walking-room .3) row i-is (due-by (walking-room .2) walking-stays i-is) ∙ sym (s .here))
+        | inr g ↦ ap (land d (set holds i (at - due d i))) (swaps .others o g f)
+            ∙ held-other holds (s .table) (walking-room .3) row i-is (due-by (walking-room .2) walking-stays i-is) o (omega (arith, s .can .upto)) f ∙ s .at-home o b g
+      ]
+
+      lands₂ : (o : ℕ) → o < suc n → o ≢ from → put (s .x) from at (σ₂ o) ≡ home d places₀ holds₀ n target o
+      lands₂ o b f = elim (eq? o place) [
+        | inl g ↦ rw g (ap (put (s .x) from at) (turns .here ∙ walking-stays) ∙ goes .here ∙ sym (s .here))
+        | inr g ↦ ap (put (s .x) from at) (turns .others o g f)
+            ∙ goes .others (s .σ o) (λ h. permuted-other (s .permuted) o from b (walking-room .2) f (h ∙ sym walking-stays)) ∙ s .lands-are o b g
+      ]
+
+      still₂ : (o : ℕ) → o < n → el rank (home d places₀ holds₀ n target o) < el rank left → σ₂ o ≡ o
+      still₂ o b low = turns .others o
+          (λ f. omega (arith, low, walking-less, ap (λ z. el rank (home d places₀ holds₀ n target z)) f, ap (el rank) (s .here)))
+          (λ f. omega (arith, low, ap (λ z. el rank (home d places₀ holds₀ n target z)) f, ap (el rank) left-at))
+          ∙ s .still o b (omega (arith, low, walking-less))
+
+      pub walking-step : Walking d places₀ (set (set places place (el places from)) from (el places place)) holds₀ (set holds i (at - due d i)) rank via n target left from (getD via left 0)
       walking-step = record {
         can = s .can;
-        same = length-set holds i (at - due d i) ∙ s .same;
+        table = record {
+          valid = s .table .valid;
+          row = omega (arith, s .table .row, length-set (set places place (el places from)) from (el places place), length-set places place (el places from));
+          permuted = swapped (s .table .permuted) (walking-places .2) (walking-room .3) apart swaps;
+        };
+        same-p = length-set (set places place (el places from)) from (el places place) ∙ length-set places place (el places from) ∙ s .same-p;
+        same-h = length-set holds i (at - due d i) ∙ s .same-h;
         in-day = walking-left .1;
-        some = rw (unmoved, s .is) (hop .some);
+        some = rw (left-at, home-is, s .is) (hop .some);
         below = omega (arith, walking-less, s .below);
         is = refl;
-        x = put (s .x) who at;
-        lands-are = held-plan holds (s .can .table) walking-table row i-is (due-by refl walking-table i-is) n (s .x) (omega (arith, s .can .upto))
-            (λ o b _. s .lands-are o b);
-        still = λ o b low. v .others o (λ f. omega (arith, unmoved, ap (λ z. el rank (landing d order holds₀ z)) f, ap (el rank) unmoved))
-            ∙ s .still o b (omega (arith, walking-less));
-        keeps = λ j q from u f g. rw (unmoved ∙ sym (s .still who in-plan lower))
-            (rw (s .is) (going-step (s .keeps j q from u f g) (λ new. e (s .is ∙ new ∙ f)) (rw (s .is) at v)));
+        stands = walking-room .2;
+        σ = σ₂;
+        permuted = swapped (s .permuted) (s .stands) (walking-room .2) apart turns;
+        moved = moved₂;
+        beyond = λ o b. swaps .others o (omega (arith, s .stands)) (omega (arith, in-plan)) ∙ s .beyond o b;
+        new = turns .there ∙ s .new;
+        here = sym left-at;
+        at-home = at-home₂;
+        x = put (s .x) from at;
+        lands-are = lands₂;
+        still = still₂;
+        keeps = λ j q order u f g.
+            let gone : left ≡ s .x from = left-at ∙ sym (s .lands-are from (walking-room .2) (λ h. apart (sym h))) ∙ ap (s .x) walking-stays in
+            rw gone (rw (s .is) (going-step (s .keeps j q order u f g) (λ new. e (s .is ∙ new ∙ f)) (rw (s .is) at goes)));
       }
-        where
-          v : Moved (s .x) (put (s .x) who at) who at
-          v = put-moved (s .x) who at
 
-  pub walking-new : (n < length order) × (n < 128) × (n < N d)
-  walking-new = omega (arith, s .can .upto, s .can .table .by-due .row, s .can .table .valid .flights-to)
+  module _ (e : from ≡ n) {i : ℕ} (i-is : i ≡ getD places place 0) where
+    pub walking-last : (i < length holds) × ((i + 1) * width ≤ length (d .flights)) × (due d i ≤ at) × (i < 128) × (at < 98)
+    walking-last = walking-hold (s .stands) (s .new ∙ sym e) i-is
 
-  module _ (e : who ≡ n) {i : ℕ} (i-is : i ≡ getD order n 0) where
-    pub walking-end : Walked d order holds₀ (set holds i (at - due d i)) via n target
+    home-all : (o : ℕ) → o < suc n → landing d places (set holds i (at - due d i)) o ≡ home d places₀ holds₀ n target o
+    home-all o b = elim (eq? o place) [
+      | inl f ↦ rw f (held-here holds (s .table) (walking-places .2) row i-is (walking-last .2) ∙ sym (s .here))
+      | inr f ↦ held-other holds (s .table) (walking-places .2) row i-is (walking-last .2) o (omega (arith, s .can .upto)) f ∙ s .at-home o b f
+    ]
+
+    pub walking-end : Walked d places₀ places holds₀ (set holds i (at - due d i)) via n target
     walking-end = record {
+      table = s .table;
+      σ = s .σ;
+      permuted = s .permuted;
+      moved = s .moved;
+      beyond = s .beyond;
+      at-home = home-all;
       y = put (s .x) n at;
-      lands-are = held-plan holds (s .can .table) (s .can .upto) row i-is (due-by (sym e) (s .can .upto) i-is) (suc n) (s .x) (s .can .upto)
-          (λ o b other. s .lands-are o (omega arith));
-      keeps = λ j q from u f g. record {
+      lands-are = λ o b. home-all o b ∙ sym (plan o b);
+      keeps = λ j q order u f g. record {
         at = at;
         x = s .x;
-        going = s .keeps j q from u f g;
+        going = s .keeps j q order u f g;
         new = sym (s .is) ∙ e ∙ sym f;
         last = rw f (put-moved (s .x) n at);
       };
     }
+      where
+        plan : (o : ℕ) → o < suc n → put (s .x) n at (s .σ o) ≡ home d places₀ holds₀ n target o
+        plan o b = elim (eq? o place) [
+          | inl f ↦ rw f (ap (put (s .x) n at) (s .new) ∙ put-moved (s .x) n at .here ∙ sym (s .here))
+          | inr f ↦ put-moved (s .x) n at .others (s .σ o) (λ h. permuted-other (s .permuted) o place b (s .stands) f (h ∙ sym (s .new))) ∙ s .lands-are o b f
+        ]
+
+-- ---- forget
+
+-- the periods from first on and before k are far again
+pub record Forgetting (dist₀ dist rank₀ rank : List ℕ) (first target k : ℕ) : Type 0 where
+  pub can : CanForget dist₀ rank₀ first target
+  pub same-d : length dist ≡ length dist₀
+  pub same-r : length rank ≡ length rank₀
+  pub done : (j : ℕ) → first ≤ j → j < k → (away dist j ≡ far) × (el rank j ≡ 0)
+  pub outside : (j : ℕ) → (j < first) ⊎ (target < j) → (away dist j ≡ far) × (el rank j ≡ 0)
+
+pub forgetting-start : {dist rank : List ℕ} {first target : ℕ} → CanForget dist rank first target → Forgetting dist dist rank rank first target first
+forgetting-start c = record { can = c; same-d = refl; same-r = refl; done = λ j a b. absurd (omega arith); outside = c .outside }
+
+module _ {dist₀ dist rank₀ rank : List ℕ} {first target k : ℕ} (s : Forgetting dist₀ dist rank₀ rank first target k) where
+  module _ (l : k ≤ target) where
+    pub forgetting-room : (k < length dist) × (k < length rank) × (k < 98)
+    forgetting-room = omega (arith, s .same-d, s .same-r, s .can .dists, s .can .ranks, s .can .within)
+
+    pub forgetting-next : Forgetting dist₀ (set dist k far) rank₀ (set rank k 0) first target (k + 1)
+    forgetting-next = record {
+      can = s .can;
+      same-d = length-set dist k far ∙ s .same-d;
+      same-r = length-set rank k 0 ∙ s .same-r;
+      done = λ j a b. elim (eq? j k) [ inl e ↦ rw e (v .here, u .here) | inr e ↦ stay j e (s .done j a (omega arith)) ];
+      outside = λ j out. elim (eq? j k) [ inl e ↦ rw e (v .here, u .here) | inr e ↦ stay j e (s .outside j out) ];
+    }
+      where
+        v : Moved (away dist) (away (set dist k far)) k far
+        v = away-moved dist k far (forgetting-room .0)
+
+        u : Moved (el rank) (el (set rank k 0)) k 0
+        u = set-moved rank k 0 (forgetting-room .1)
+
+        stay : (j : ℕ) → j ≢ k → (away dist j ≡ far) × (el rank j ≡ 0) → (away (set dist k far) j ≡ far) × (el (set rank k 0) j ≡ 0)
+        stay j e h = (v .others j e ∙ h .0, u .others j e ∙ h .1)
+
+  pub forgetting-end : target < k → Forgotten dist rank
+  forgetting-end l = record { all-far = λ j. all j .0; no-ranks = λ j. all j .1 }
+    where
+      all : (j : ℕ) → (away dist j ≡ far) × (el rank j ≡ 0)
+      all j = elim (lt? j first) [
+        | inl a ↦ s .outside j (inl a)
+        | inr a ↦ elim (lt? j k) [ inl b ↦ s .done j a b | inr b ↦ s .outside j (inr (omega arith)) ]
+      ]
 
 -- ---- raise
 

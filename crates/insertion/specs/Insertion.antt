@@ -4,53 +4,65 @@ use mathlib.Core.Path.{_≡_}
 use mathlib.Core.Logic.{_⊎_}
 use mathlib.Core.List.{List}
 use Prim.Native.Nat.{ℕ, suc, _+_, _-_, _≤_, _<_}
-use lib.ListN.{length}
+use lib.ListN.{length, set}
 use Rattle.assignment.specs.Sum.{count}
 use Rattle.assignment.specs.Assignment as A
-use Rattle.assignment.proofs.Moves.{Moved}
+use Rattle.assignment.proofs.Moves.{Moved, put}
 use Rattle.assignment.proofs.Insertion.{Sound, Going}
-use Rattle.assignment.proofs.Permuted.{ordered}
+use Rattle.assignment.proofs.Permuted.{Permuted, ordered}
 use Rattle.day.specs.Day.{Day, P, N, ofPeriod, due, total}
 use Rattle.day.specs.Plan.{Accepted, Short}
 use Rattle.day.proofs.Valid.{Valid}
 use Rattle.day.proofs.Instance.{instance}
-use Rattle.path.specs.Path.{el, away, landing, Table, Chained}
+use Rattle.path.specs.Path.{el, far, away, landing, Table, Chained, Rows}
 
--- the first n flights of the order
+-- the flights at the first n places
 abbrev pub begun : Day → List ℕ → ℕ → A.Instance
-begun d order n = ordered (instance d) (el order) n
+begun d places n = ordered (instance d) (el places) n
 
--- n flights are placed: the hold row has their holds, the price row their prices; the holds of the others may be any numbers
-pub record Placed (d : Day) (order holds prices : List ℕ) (n : ℕ) : Type 0 where
-  pub table : Table d order
+-- the flights at the first n places are placed: the hold row has their holds, the price row their prices; the others follow, due falling,
+-- and their holds may be any numbers
+pub record Placed (d : Day) (places holds prices : List ℕ) (n : ℕ) : Type 0 where
+  pub table : Table d places
+  pub falling : (s t : ℕ) → s ≤ t → n ≤ t → t < N d → due d (el places t) ≤ due d (el places s)
   pub none-short : (a b : ℕ) → Short d a b → ⊥
   pub upto : n ≤ N d
   pub holds-row : length holds ≡ N d
   pub prices-row : length prices ≡ P d
-  pub sound : Sound (begun d order n) (landing d order holds) (ofPeriod prices)
+  pub sound : Sound (begun d places n) (landing d places holds) (ofPeriod prices)
 
 -- the cost of their plan
 abbrev pub cost-of-placed : Day → List ℕ → List ℕ → ℕ → ℕ
-cost-of-placed d order holds n = A.total (begun d order n) (landing d order holds)
+cost-of-placed d places holds n = A.total (begun d places n) (landing d places holds)
 
--- ---- where the flights land
+-- ---- what is kept beside the plan
 
--- no landing is counted or chained
-pub record CanChain (d : Day) (order holds loads first-in next-in : List ℕ) (n : ℕ) : Type 0 where
-  pub table : Table d order
-  pub upto : n ≤ N d
-  pub holds-row : length holds ≡ N d
+-- how many of the n flights land in each period, the chains of those that land in the same, and the rows of a search, before the next
+pub record Kept (d : Day) (places holds loads first-in next-in list dist rank via : List ℕ) (n : ℕ) : Type 0 where
   pub loads-row : length loads ≡ 98
-  pub firsts : length first-in ≡ 98
-  pub nexts : length next-in ≡ 128
-  pub empty : (k : ℕ) → el loads k ≡ 0
-  pub none : (k : ℕ) → k < 98 → el first-in k ≡ n
-  pub in-day : (s : ℕ) → s < n → landing d order holds s < 98
+  pub loads-are : (k : ℕ) → k < 98 → el loads k ≡ count n (landing d places holds) k
+  pub chained : Chained (landing d places holds) first-in next-in n
+  pub listed : length list ≡ 98
+  pub rows : Rows dist rank via
+  pub all-far : (k : ℕ) → away dist k ≡ far
+  pub no-ranks : (k : ℕ) → el rank k ≡ 0
 
--- how many of n flights land in each period, and the chains of those that land in the same
-pub record Chains (d : Day) (order holds loads first-in next-in : List ℕ) (n : ℕ) : Type 0 where
-  pub loads-are : (k : ℕ) → k < 98 → el loads k ≡ count n (landing d order holds) k
-  pub chained : Chained (landing d order holds) first-in next-in n
+-- one flight more lands in k, at place n
+pub record Added (loads loads₂ first-in first-in₂ next-in next-in₂ : List ℕ) (n k : ℕ) : Type 0 where
+  pub counted : loads₂ ≡ set loads k (el loads k + 1)
+  pub next : next-in₂ ≡ set next-in n (el first-in k)
+  pub first : first-in₂ ≡ set first-in k (n + 1)
+
+-- outside of first .. target all is far and nothing is reached
+pub record CanForget (dist rank : List ℕ) (first target : ℕ) : Type 0 where
+  pub dists : length dist ≡ 98
+  pub ranks : length rank ≡ 98
+  pub within : target < 98
+  pub outside : (k : ℕ) → (k < first) ⊎ (target < k) → (away dist k ≡ far) × (el rank k ≡ 0)
+
+pub record Forgotten (dist rank : List ℕ) : Type 0 where
+  pub all-far : (k : ℕ) → away dist k ≡ far
+  pub no-ranks : (k : ℕ) → el rank k ≡ 0
 
 -- ---- the first period with room
 
@@ -77,34 +89,44 @@ pub record Hop (x : ℕ → ℕ) (rank via : List ℕ) (n k : ℕ) : Type 0 wher
   pub lower : el rank (x (el via k)) < el rank k
 
 -- period k is for the new flight or for one of the plan, and the flight is due by k
-pub record Linked (d : Day) (order : List ℕ) (x : ℕ → ℕ) (rank via : List ℕ) (n k : ℕ) : Type 0 where
-  pub due-by : due d (el order (el via k)) ≤ k
+pub record Linked (d : Day) (places : List ℕ) (x : ℕ → ℕ) (rank via : List ℕ) (n k : ℕ) : Type 0 where
+  pub due-by : due d (el places (el via k)) ≤ k
   pub flight : (el via k ≡ n) ⊎ Hop x rank via n k
 
-pub record CanWalk (d : Day) (order holds rank via : List ℕ) (n target : ℕ) : Type 0 where
-  pub table : Table d order
+pub record CanWalk (d : Day) (places holds rank via : List ℕ) (n target : ℕ) : Type 0 where
+  pub table : Table d places
   pub upto : n < N d
   pub holds-row : length holds ≡ N d
   pub vias : length via ≡ 98
   pub within : target < 98
   pub some : 0 < el rank target
-  pub chain : (k : ℕ) → k < 98 → 0 < el rank k → el rank k ≤ el rank target → Linked d order (landing d order holds) rank via n k
+  pub chain : (k : ℕ) → k < 98 → 0 < el rank k → el rank k ≤ el rank target → Linked d places (landing d places holds) rank via n k
 
 -- the new flight takes the last place, `at`
-pub record Arrived (d : A.Instance) (x₀ y q order via : ℕ → ℕ) (u z : ℕ) : Type 0 where
+pub record Arrived (d : A.Instance) (x₀ y q places via : ℕ → ℕ) (u z : ℕ) : Type 0 where
   pub at : ℕ
   pub x : ℕ → ℕ
-  pub going : Going d x₀ x q order via u z at
+  pub going : Going d x₀ x q places via u z at
   pub new : via at ≡ d .n
   pub last : Moved x y (d .n) at
 
--- the hold row now has plan y, of n + 1 flights
-pub record Walked (d : Day) (order holds holds₂ via : List ℕ) (n target : ℕ) : Type 0 where
+-- the periods of the places: those of the flights that are placed, and the target for the new one
+abbrev pub home : Day → List ℕ → List ℕ → ℕ → ℕ → ℕ → ℕ
+home d places holds n target = put (landing d places holds) n target
+
+-- the first n + 1 flights have changed places by σ, and each lands in the period of its place; that is plan y
+pub record Walked (d : Day) (places places₂ holds holds₂ via : List ℕ) (n target : ℕ) : Type 0 where
+  pub table : Table d places₂
+  pub σ : ℕ → ℕ
+  pub permuted : Permuted (suc n) σ
+  pub moved : (s : ℕ) → s < suc n → el places₂ s ≡ el places (σ s)
+  pub beyond : (s : ℕ) → n < s → el places₂ s ≡ el places s
+  pub at-home : (s : ℕ) → s < suc n → landing d places₂ holds₂ s ≡ home d places holds n target s
   pub y : ℕ → ℕ
-  pub lands-are : (s : ℕ) → s < suc n → y s ≡ landing d order holds₂ s
+  pub lands-are : (s : ℕ) → s < suc n → landing d places₂ holds₂ s ≡ y (σ s)
   pub keeps : (i : A.Instance) (q rank : ℕ → ℕ) (u : ℕ) → i .n ≡ n
-      → Going i (landing d order holds) (landing d order holds) q rank (el via) u target target
-      → Arrived i (landing d order holds) y q rank (el via) u target
+      → Going i (landing d places holds) (landing d places holds) q rank (el via) u target target
+      → Arrived i (landing d places holds) y q rank (el via) u target
 
 -- ---- the raise
 
@@ -126,9 +148,9 @@ pub record Raised (prices prices₂ dist : List ℕ) (target : ℕ) : Type 0 whe
 abbrev pub Cleared : List ℕ → Type 0
 Cleared prices = (k : ℕ) → ofPeriod prices k ≡ 0
 
-pub record Inserted (d : Day) (order holds holds₂ prices₂ : List ℕ) (n added : ℕ) : Type 0 where
-  pub placed : Placed d order holds₂ prices₂ (n + 1)
-  pub adds : cost-of-placed d order holds₂ (n + 1) ≡ cost-of-placed d order holds n + added
+pub record Inserted (d : Day) (places places₂ holds holds₂ prices₂ : List ℕ) (n added : ℕ) : Type 0 where
+  pub placed : Placed d places₂ holds₂ prices₂ (n + 1)
+  pub adds : cost-of-placed d places₂ holds₂ (n + 1) ≡ cost-of-placed d places holds n + added
 
 -- a day that passes the check and has no short stretch, and rows of its sizes
 pub record CanInsert (d : Day) (holds prices : List ℕ) : Type 0 where

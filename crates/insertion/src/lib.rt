@@ -1,11 +1,14 @@
 // The full plan's insertion: flight after flight, due falling, takes the cheapest chain of moves to the first period that has room.
-// The lent rows are the plan: the hold row has the holds of the flights that are placed, the price row the prices. Only the order of the
-// flights and what one search needs stand in rows of their own.
+// The lent rows are the plan: the hold row has the holds of the flights that are placed, the price row the prices. A row of places has the
+// flights: those that are placed stand in its front, and a place keeps its period while flights change places. What is kept from one
+// insertion to the next beside the plan is how many flights land in each period, the chains of their places, and the rows of the search,
+// in which all is far again after each.
 ghost use mathlib.Core.Path.{_≡_};
 ghost use Prim.Native.Nat.{_+_, _-_, _*_, _<_, _≤_};
 ghost use lib.ListN.{length, set};
 ghost use Rattle.day.specs.Day.{day, width, column, N};
-ghost use Rattle.insertion.specs.Insertion.{CanChain, Chains, CanFind, FirstRoom, CanWalk, Walked, CanRaise, Raised, Placed, Inserted, Cleared, CanInsert, Planned};
+ghost use Rattle.path.specs.Path.{el};
+ghost use Rattle.insertion.specs.Insertion.{Added, CanFind, FirstRoom, CanWalk, Walked, CanRaise, Raised, CanForget, Forgotten, Placed, Kept, Inserted, Cleared, CanInsert, Planned};
 use day::due_of;
 use day::land_of;
 use day::of_period;
@@ -17,28 +20,14 @@ use path::find_path;
 // A rank above those of all reached periods.
 const LAST: usize = 99;
 
-// Counts the first n flights of the order by the periods in which they land, and chains those of each period.
-fn chain_landings(
-    capacities: &[u32],
-    flights: &[u32],
-    order: &[u32],
-    holds: &[u32],
-    loads: &mut [usize],
-    first_in: &mut [usize],
-    next_in: &mut [usize],
-    n: usize,
-)
-    requires { ⌜ CanChain (day (now capacities) (now flights)) (now order) (now holds) (now loads) (now first_in) (now next_in) n ⌝ }
-    ensures { λ _. ⌜ Chains (day (now (capacities .entry)) (now (flights .entry))) (now (order .entry)) (now (holds .entry)) (now (loads .exit)) (now (first_in .exit)) (now (next_in .exit)) n ⌝ }
+// Place n is the newest of those in period k: counts it, and puts it at the head of their chain.
+fn add_place(loads: &mut [usize], first_in: &mut [usize], next_in: &mut [usize], n: usize, k: usize)
+    requires { ⌜ (k < length (now loads)) × (k < length (now first_in)) × (n < length (now next_in)) × (k < 98) × (n < 128) × (el (now loads) k ≤ 128) ⌝ }
+    ensures { λ _. ⌜ Added (now (loads .entry)) (now (loads .exit)) (now (first_in .entry)) (now (first_in .exit)) (now (next_in .entry)) (now (next_in .exit)) n k ⌝ }
 {
-    let mut s = n;
-    while 0 < s {
-        s -= 1;
-        let k = land_of(capacities, flights, holds, wide(order[s]));
-        loads[k] = loads[k] + 1;
-        next_in[s] = first_in[k];
-        first_in[k] = s;
-    }
+    loads[k] = loads[k] + 1;
+    next_in[n] = first_in[k];
+    first_in[k] = n + 1;
 }
 
 // The first period from `first` on that has room; the closing period always has.
@@ -65,31 +54,44 @@ fn hold_until(flights: &[u32], holds: &mut [u32], i: usize, k: usize)
     holds[i] = hold as u32;
 }
 
-// From the target back along `via`: each flight moves on by one place, and the new flight takes the last one. Ranks fall on the way, so
-// that it ends.
+// What stands at a and b changes places.
+fn swap(places: &mut [u32], a: usize, b: usize)
+    requires { ⌜ (a < length (now places)) × (b < length (now places)) × (a < 128) × (b < 128) ⌝ }
+    ensures { λ _. ⌜ now (places .exit) ≡ set (set (now (places .entry)) a (el (now (places .entry)) b)) b (el (now (places .entry)) a) ⌝ }
+{
+    let mine = places[a];
+    places[a] = places[b];
+    places[b] = mine;
+}
+
+// From the target back along `via`: each flight moves on to the place behind it, and the new flight, which starts at place n in the target,
+// changes places with it until it comes to one of its own. Ranks fall on the way, so that it ends.
 fn walk(
     capacities: &[u32],
     flights: &[u32],
-    order: &[u32],
+    places: &mut [u32],
     holds: &mut [u32],
     rank: &[usize],
     via: &[usize],
     n: usize,
     target: usize,
 )
-    requires { ⌜ CanWalk (day (now capacities) (now flights)) (now order) (now holds) (now rank) (now via) n target ⌝ }
-    ensures { λ _. ⌜ Walked (day (now (capacities .entry)) (now (flights .entry))) (now (order .entry)) (now (holds .entry)) (now (holds .exit)) (now (via .entry)) n target ⌝ }
+    requires { ⌜ CanWalk (day (now capacities) (now flights)) (now places) (now holds) (now rank) (now via) n target ⌝ }
+    ensures { λ _. ⌜ Walked (day (now (capacities .entry)) (now (flights .entry))) (now (places .entry)) (now (places .exit)) (now (holds .entry)) (now (holds .exit)) (now (via .entry)) n target ⌝ }
 {
     let mut at = target;
-    let mut who = via[at];
-    while who != n {
-        let i = wide(order[who]);
+    let mut place = n;
+    let mut from = via[at];
+    while from != n {
+        let i = wide(places[from]);
         let left = land_of(capacities, flights, holds, i);
         hold_until(flights, holds, i, at);
+        swap(places, place, from);
+        place = from;
         at = left;
-        who = via[at];
+        from = via[at];
     }
-    hold_until(flights, holds, wide(order[n]), at);
+    hold_until(flights, holds, wide(places[place]), at);
 }
 
 // Raises each price by what its period is nearer than the target.
@@ -109,55 +111,65 @@ fn raise(prices: &mut [u32], dist: &[usize], first: usize, target: usize)
     }
 }
 
-// Takes flight n of the order into the plan of those before it; what that adds to the cost.
+// All is far and nothing is reached again: a search touches no period but those from first to the target.
+fn forget(dist: &mut [usize], rank: &mut [usize], first: usize, target: usize)
+    requires { ⌜ CanForget (now dist) (now rank) first target ⌝ }
+    ensures { λ _. ⌜ Forgotten (now (dist .exit)) (now (rank .exit)) ⌝ }
+{
+    let mut k = first;
+    while k <= target {
+        dist[k] = FAR;
+        rank[k] = 0;
+        k += 1;
+    }
+}
+
+// Takes the flight at place n into the plan of those before it; what that adds to the cost.
 fn insert(
     capacities: &[u32],
     flights: &[u32],
-    order: &[u32],
+    places: &mut [u32],
     holds: &mut [u32],
     prices: &mut [u32],
+    loads: &mut [usize],
+    first_in: &mut [usize],
+    next_in: &mut [usize],
+    list: &mut [usize],
+    dist: &mut [usize],
+    rank: &mut [usize],
+    via: &mut [usize],
     n: usize,
 ) -> usize
-    requires { ⌜ Placed (day (now capacities) (now flights)) (now order) (now holds) (now prices) n ⌝ }
+    requires { ⌜ Placed (day (now capacities) (now flights)) (now places) (now holds) (now prices) n ⌝ }
+    requires { ⌜ Kept (day (now capacities) (now flights)) (now places) (now holds) (now loads) (now first_in) (now next_in) (now list) (now dist) (now rank) (now via) n ⌝ }
     requires { ⌜ n < N (day (now capacities) (now flights)) ⌝ }
-    ensures { λ r. ⌜ Inserted (day (now (capacities .entry)) (now (flights .entry))) (now (order .entry)) (now (holds .entry)) (now (holds .exit)) (now (prices .exit)) n r ⌝ }
+    ensures { λ r. ⌜ Inserted (day (now (capacities .entry)) (now (flights .entry))) (now (places .entry)) (now (places .exit)) (now (holds .entry)) (now (holds .exit)) (now (prices .exit)) n r ⌝ }
+    ensures { λ _. ⌜ Kept (day (now (capacities .entry)) (now (flights .entry))) (now (places .exit)) (now (holds .exit)) (now (loads .exit)) (now (first_in .exit)) (now (next_in .exit)) (now (list .exit)) (now (dist .exit)) (now (rank .exit)) (now (via .exit)) (n + 1) ⌝ }
 {
-    let mut loads = [0; 98];
-    let mut first_in = [n; 98];
-    let mut next_in = [n; 128];
-    chain_landings(
-        capacities,
-        flights,
-        order,
-        holds,
-        &mut loads,
-        &mut first_in,
-        &mut next_in,
-        n,
-    );
-    let first = due_of(flights, wide(order[n]));
-    let target = first_with_room(capacities, &loads, first);
-    let mut dist = [FAR; 98];
-    let mut rank = [0; 98];
-    let mut via = [n; 98];
+    let first = due_of(flights, wide(places[n]));
+    let target = first_with_room(capacities, loads, first);
     find_path(
         capacities,
         flights,
-        order,
+        places,
         holds,
-        &first_in,
-        &next_in,
+        first_in,
+        next_in,
         prices,
-        &mut dist,
-        &mut rank,
-        &mut via,
+        list,
+        dist,
+        rank,
+        via,
         n,
         target,
     );
+    let added = dist[target];
     rank[target] = LAST;
-    walk(capacities, flights, order, holds, &rank, &via, n, target);
-    raise(prices, &dist, first, target);
-    dist[target]
+    walk(capacities, flights, places, holds, rank, via, n, target);
+    raise(prices, dist, first, target);
+    forget(dist, rank, first, target);
+    add_place(loads, first_in, next_in, n, target);
+    added
 }
 
 // No price yet.
@@ -181,13 +193,34 @@ pub fn insert_all(
     requires { ⌜ CanInsert (day (now capacities) (now flights)) (now holds) (now prices) ⌝ }
     ensures { λ r. ⌜ Planned (day (now (capacities .entry)) (now (flights .entry))) (now (holds .exit)) (now (prices .exit)) r ⌝ }
 {
-    let mut order = [0; 128];
-    order_flights(capacities, flights, &mut order);
+    let mut places = [0; 128];
+    order_flights(capacities, flights, &mut places);
     clear(prices);
+    let mut loads = [0; 98];
+    let mut first_in = [0; 98];
+    let mut next_in = [0; 128];
+    let mut list = [0; 98];
+    let mut dist = [FAR; 98];
+    let mut rank = [0; 98];
+    let mut via = [0; 98];
     let mut total = 0;
     let mut n = 0;
     while n < holds.len() {
-        let added = insert(capacities, flights, &order, holds, prices, n);
+        let added = insert(
+            capacities,
+            flights,
+            &mut places,
+            holds,
+            prices,
+            &mut loads,
+            &mut first_in,
+            &mut next_in,
+            &mut list,
+            &mut dist,
+            &mut rank,
+            &mut via,
+            n,
+        );
         total += added;
         n += 1;
     }

@@ -1,23 +1,24 @@
 -- The loops of `expand` and `find_path`.
 -- Assumes nothing.
-use mathlib.Core.Path.{_≡_, refl, _∙_}
+use mathlib.Core.Path.{_≡_, refl, ap, _∙_}
 use mathlib.Core.Logic.{inl, inr, _≢_}
 use mathlib.Core.List.{List}
 use Prim.Native.Nat.{ℕ, zero, suc, _+_, _-_, _*_, _^_, _≤_, _<_, min}
 use native.Mathlib.Nat.{add-zero}
 use native.Mathlib.Omega.{arith}
-use lib.ListN.{getD, length, set, length-replicate}
+use lib.ListN.{getD, length, set}
 use Rattle.assignment.specs.Assignment.{Instance, In}
+use Rattle.assignment.proofs.Tests.{eq?, lt?}
 use Rattle.assignment.proofs.Restricted.{until, until-near}
 use Rattle.day.specs.Day.{Day, P, N, width, ofPeriod, due, latest, cost}
 use Rattle.day.proofs.Instance.{last}
-use Rattle.path.specs.Path.{el, far, away, dearest, scope, landing, Table, Next, Chained, Scene, Rows, Search, Around, Copied, Gap, Listed, Filled, Removed, CanNear, NearestIn, Nearest, CanOffer, Offers, CanExpand, Expanded, CanSearch, Searched}
+use Rattle.path.specs.Path.{el, far, away, dearest, scope, landing, Table, Newest, Chained, Scene, Search, Around, Gap, Listed, Filled, Removed, CanNear, NearestIn, Nearest, CanOffer, Offers, CanExpand, Expanded, CanSearch, Searched}
 use Rattle.path.proofs.Rows.{as-read, set-moved}
 use Rattle.path.proofs.Listing.{listed-start, listed-nearest, listed-last, listed-other, listed-out}
-use Rattle.path.proofs.Reaching.{blank, blank-far, search-start, around-pass, around-kept, around-offered, search-near, reach-in, reach-next, search-end}
+use Rattle.path.proofs.Reaching.{search-start, around-pass, around-kept, around-offered, search-near, reach-in, reach-next, search-end}
 
 -- a flight of the day stands in its row
-pub stands : {d : Day} {order : List ℕ} (t : Table d order) (i : ℕ) → i < N d → (i + 1) * width ≤ length (d .flights)
+pub stands : {d : Day} {places : List ℕ} (t : Table d places) (i : ℕ) → i < N d → (i + 1) * width ≤ length (d .flights)
 stands t i l = omega (arith, t .valid .whole)
 
 -- the window of a flight that may land by the target
@@ -29,57 +30,48 @@ until-target d i target within l = omega (arith, until-near (last d i) l)
 -- ---- expand
 
 -- flights that do not land in k are passed over
-module _ (m j : ℕ) where
-  one-more : (m + j) + 1 ≡ m + suc j
-  one-more = omega arith
+passes : {d : Instance} {x p : ℕ → ℕ} {target : ℕ} {dist rank via : List ℕ} {t k r : ℕ} (j : ℕ) → Around d x p target dist rank via t k (r + j)
+    → ((s : ℕ) → r ≤ s → s < r + j → x s ≢ k) → Around d x p target dist rank via t k r
+passes {r = r} zero a none = rw (add-zero r) at a
+passes {r = r} (suc j) a none =
+    let next : r + suc j ≡ (r + j) + 1 = omega arith in
+    passes j (around-pass (rw next at a) (none (r + j) (omega arith) (omega arith))) (λ s b c. none s b (omega arith))
 
-  before-more : (s : ℕ) → s < m + j → s < m + suc j
-  before-more s l = omega arith
-
-  next-in-range : (m ≤ m + j) × (m + j < m + suc j)
-  next-in-range = omega arith
-
-passes : {d : Instance} {x p : ℕ → ℕ} {target : ℕ} {dist rank via : List ℕ} {t k m : ℕ} (j : ℕ) → Around d x p target dist rank via t k m
-    → ((s : ℕ) → m ≤ s → s < m + j → x s ≢ k) → Around d x p target dist rank via t k (m + j)
-passes {m = m} zero a none = rw (add-zero m) a
-passes {m = m} (suc j) a none =
-    rw (one-more m j) at (around-pass (passes j a (λ s b c. none s b (before-more m j s c))) (none (m + j) (next-in-range m j .0) (next-in-range m j .1)))
-
-gap : {m r : ℕ} → m ≤ r → m + (r - m) ≡ r
-gap l = omega arith
-
-pass-to : {d : Instance} {x p : ℕ → ℕ} {target : ℕ} {dist rank via : List ℕ} {t k m n r : ℕ} → Next x n k m r
+pass-to : {d : Instance} {x p : ℕ → ℕ} {target : ℕ} {dist rank via : List ℕ} {t k m r : ℕ} → Newest x k m r
     → Around d x p target dist rank via t k m → Around d x p target dist rank via t k r
-pass-to {m = m} {r = r} h a = rw (gap (h .after)) at (passes (r - m) a (λ s b c. h .none s b (rw (gap (h .after)) at c)))
+pass-to {m = m} {r = r} h a =
+    let e : m ≡ r + (m - r) = omega (arith, h .before) in
+    passes (m - r) (rw e at a) (λ s b c. h .none s b (omega (arith, h .before)))
 
-module _ (d : Day) (order holds first-in next-in prices level list : List ℕ) (n left target : ℕ) where
-  -- the flights before `who` that land in k have offered, and `who` is the next of them; `from` is the distance of k
-  pub record Expanding (dist₀ dist via₀ via : List ℕ) (k from who : ℕ) : Type 0 where
-    pub can : CanExpand d order holds first-in next-in prices level list dist₀ via₀ n left target k
+module _ (d : Day) (places holds first-in next-in prices list : List ℕ) (n left target : ℕ) where
+  -- the flights at the places from `next` on that land in k have offered, and the one before `next` is the next of them; `from` is the
+  -- distance of k
+  pub record Expanding (dist₀ dist via₀ via : List ℕ) (k from next : ℕ) : Type 0 where
+    pub can : CanExpand d places holds first-in next-in prices list dist₀ via₀ n left target k
     pub same-d : length dist ≡ length dist₀
     pub same-v : length via ≡ length via₀
-    pub upto : who ≤ n
-    pub there : who < n → landing d order holds who ≡ k
+    pub upto : next ≤ n
+    pub there : 0 < next → landing d places holds (next - 1) ≡ k
     pub from-is : from ≡ away dist₀ k
     pub most : away dist target ≤ far
-    pub passed : (j : ℕ) → Gap list left j → due d (el order n) ≤ j → away dist j ≤ from
+    pub passed : (j : ℕ) → Gap list left j → due d (el places n) ≤ j → away dist j ≤ from
     pub keeps : (rank : List ℕ) (t : ℕ)
-        → Around (scope d order n target) (landing d order holds) (ofPeriod prices) target dist₀ rank via₀ t k 0
-        → Around (scope d order n target) (landing d order holds) (ofPeriod prices) target dist rank via t k who × (from ≡ away dist k)
+        → Around (scope d places n target) (landing d places holds) (ofPeriod prices) target dist₀ rank via₀ t k n
+        → Around (scope d places n target) (landing d places holds) (ofPeriod prices) target dist rank via t k next × (from ≡ away dist k)
 
-module _ {d : Day} {order holds first-in next-in prices level list dist via : List ℕ} {n left target k : ℕ}
-    (c : CanExpand d order holds first-in next-in prices level list dist via n left target k) where
+module _ {d : Day} {places holds first-in next-in prices list dist via : List ℕ} {n left target k : ℕ}
+    (c : CanExpand d places holds first-in next-in prices list dist via n left target k) where
   pub expand-room : (k < length dist) × (k < length first-in) × (k < 98)
   expand-room = omega (arith, c .to, c .scene .within, c .scene .periods, c .dists, c .chained .firsts)
 
-  pub expanding-start : Expanding d order holds first-in next-in prices level list n left target dist dist via via k (getD dist k 0) (getD first-in k 0)
+  pub expanding-start : Expanding d places holds first-in next-in prices list n left target dist dist via via k (getD dist k 0) (getD first-in k 0)
   expanding-start =
       let h = c .chained .first k (expand-room .2) in
       record {
         can = c;
         same-d = refl;
         same-v = refl;
-        upto = h .to;
+        upto = h .before;
         there = h .there;
         from-is = as-read dist k (expand-room .0);
         most = c .most;
@@ -87,33 +79,42 @@ module _ {d : Day} {order holds first-in next-in prices level list dist via : Li
         keeps = λ rank t a. (pass-to h a, as-read dist k (expand-room .0));
       }
 
-module _ {d : Day} {order holds first-in next-in prices level list dist₀ dist via₀ via : List ℕ} {n left target k from who : ℕ}
-    (s : Expanding d order holds first-in next-in prices level list n left target dist₀ dist via₀ via k from who) where
-  pub expanding-end : n ≤ who → Expanded (scope d order n target) (landing d order holds) (ofPeriod prices) target dist₀ dist via₀ via k n
-  expanding-end l = let e : who ≡ n = omega (arith, s .upto) in record { keeps = λ rank t a. rw e at (s .keeps rank t a .0) }
+module _ {d : Day} {places holds first-in next-in prices list dist₀ dist via₀ via : List ℕ} {n left target k from next : ℕ}
+    (s : Expanding d places holds first-in next-in prices list n left target dist₀ dist via₀ via k from next) where
+  pub expanding-end : next ≤ 0 → Expanded (scope d places n target) (landing d places holds) (ofPeriod prices) target dist₀ dist via₀ via k
+  expanding-end l = let e : next ≡ 0 = omega arith in record { keeps = λ rank t a. rw e at (s .keeps rank t a .0) }
 
-  module _ (l : who < n) where
-    pub expanding-room : (who < length order) × (who < length next-in) × (who < 128)
-    expanding-room = omega (arith, s .can .table .by-due .row, s .can .upto, s .can .table .valid .flights-to, s .can .chained .nexts)
+  module _ (some : 0 < next) where
+    abbrev who : ℕ
+    who = next - 1
 
-    next : Next (landing d order holds) n (landing d order holds who) (who + 1) (el next-in who)
-    next = s .can .chained .next who l
+    l : who < n
+    l = omega (arith, s .upto)
 
-    pub expanding-less : who < getD next-in who 0
-    expanding-less = omega (arith, next .after)
+    pub expanding-room : (who < length places) × (who < length next-in) × (who < 128)
+    expanding-room = omega (arith, l, s .can .table .row, s .can .upto, s .can .table .valid .flights-to, s .can .chained .nexts)
 
-    here : landing d order holds who ≡ k
-    here = s .there l
+    newest : Newest (landing d places holds) (landing d places holds who) who (el next-in who)
+    newest = s .can .chained .next who l
 
-    window : In (scope d order n target) who k
+    pub expanding-less : getD next-in who 0 < next
+    expanding-less = omega (arith, newest .before)
+
+    here : landing d places holds who ≡ k
+    here = s .there some
+
+    one-more : next ≡ who + 1
+    one-more = omega arith
+
+    window : In (scope d places n target) who k
     window = rw here at (s .can .scene .sound .accepted .legal .window who l)
 
-    to : min (latest d (getD order who 0)) target ≡ scope d order n target .hi who
-    to = until-target d (getD order who 0) target (omega (arith, s .can .scene .within)) (omega (arith, window .from, s .can .to))
+    to : min (latest d (getD places who 0)) target ≡ scope d places n target .hi who
+    to = until-target d (getD places who 0) target (omega (arith, s .can .scene .within)) (omega (arith, window .from, s .can .to))
 
-    module _ {i : ℕ} (i-is : i ≡ getD order who 0) where
+    module _ {i : ℕ} (i-is : i ≡ getD places who 0) where
       in-table : i < N d
-      in-table = omega (arith, s .can .table .by-due .permuted .below who (omega (arith, s .can .upto)))
+      in-table = omega (arith, s .can .table .permuted .below who (omega (arith, s .can .upto)))
 
       pub expanding-stands : ((i + 1) * width ≤ length (d .flights)) × (i < length holds) × (i < 128)
       expanding-stands = (
@@ -130,13 +131,13 @@ module _ {d : Day} {order holds first-in next-in prices level list dist₀ dist 
         expanding-hold = omega (arith, held, s .can .to, s .can .scene .within, s .can .scene .periods)
 
         module _ {b q : ℕ} (b-is : b ≡ cost d i h) (q-is : q ≡ ofPeriod prices k) where
-          base-is : b + q ≡ scope d order n target .cost who k + ofPeriod prices k
+          base-is : b + q ≡ scope d places n target .cost who k + ofPeriod prices k
           base-is = rw (b-is, held, i-is, q-is)
 
           pub expanding-small : b + q ≤ dearest
           expanding-small = omega (arith, base-is, s .can .scene .pays who k (omega arith) window)
 
-          pub expanding-can : CanOffer d prices level list dist via left target i from (b + q)
+          pub expanding-can : CanOffer d prices list dist via left target i from (b + q)
           expanding-can = record {
             few = s .can .table .valid .periods-to;
             room = expanding-stands .0;
@@ -146,30 +147,33 @@ module _ {d : Day} {order holds first-in next-in prices level list dist₀ dist 
             dists = s .same-d ∙ s .can .dists;
             vias = s .same-v ∙ s .can .vias;
             low = omega (arith, s .from-is, s .can .near);
+            base-low = expanding-small;
             most = s .most;
             pays = λ j a e.
-                let w : In (scope d order n target) who j = record { from = rw i-is at a; to = omega (arith, to, rw i-is at e) } in
+                let w : In (scope d places n target) who j = record { from = rw i-is at a; to = omega (arith, to, rw i-is at e) } in
                 let best = s .can .scene .sound .accepted .best who j l w in
                 let least = s .can .scene .pays who j (omega arith) w in
                 rw i-is (omega (arith, rw here at best, least, base-is));
-            levels = s .can .levels;
-            copied = record { price = λ j a e. s .can .copied .price j (omega (arith, rw i-is at a, s .can .scene .floor who l)) e };
+            prices-row = s .can .prices-row;
+            free = s .can .scene .sound .accepted .unsold target (s .can .scene .free);
+            from-due = s .can .table .valid .flight i in-table .due-from;
+            by-target = rw i-is (omega (arith, window .from, s .can .to));
             shape = s .can .shape;
             passed = λ j g a e.
-                let w : In (scope d order n target) who j = record { from = rw i-is at a; to = omega (arith, to, rw i-is at e) } in
+                let w : In (scope d places n target) who j = record { from = rw i-is at a; to = omega (arith, to, rw i-is at e) } in
                 let best = s .can .scene .sound .accepted .best who j l w in
                 rw i-is (omega (arith, rw here at best, base-is, s .passed j g (omega (arith, w .from, s .can .scene .floor who l))));
           }
 
           pub expanding-offered : {dist₂ via₂ : List ℕ} → length dist₂ ≡ length dist → length via₂ ≡ length via
               → Offers d prices target i who from (b + q) dist dist₂ via via₂
-              → Expanding d order holds first-in next-in prices level list n left target dist₀ dist₂ via₀ via₂ k from (getD next-in who 0)
+              → Expanding d places holds first-in next-in prices list n left target dist₀ dist₂ via₀ via₂ k from (getD next-in who 0)
           expanding-offered {dist₂} {via₂} sd sv o = record {
             can = s .can;
             same-d = sd ∙ s .same-d;
             same-v = sv ∙ s .same-v;
-            upto = next .to;
-            there = λ b. next .there b ∙ here;
+            upto = omega (arith, newest .before, l);
+            there = λ b. newest .there b ∙ here;
             from-is = s .from-is;
             most = elim (o target) [ inl c ↦ omega (arith, c .less, c .far, s .most) | inr c ↦ omega (arith, c .far, s .most) ];
             passed = λ j g a. elim (o j) [
@@ -177,176 +181,180 @@ module _ {d : Day} {order holds first-in next-in prices level list dist₀ dist 
               | inr c ↦ omega (arith, c .far, s .passed j g a)
             ];
             keeps = λ rank t a.
-                let g = s .keeps rank t a in (
-                  pass-to (rw here at next) (around-offered (g .0) dist₂ via₂ (s .can .scene) l here to (g .1) base-is sd sv (rw i-is at o)),
-                  omega (arith, g .1, around-kept (g .0) dist₂ via₂ (s .can .scene) l here to (g .1) base-is sd sv (rw i-is at o)),
+                let g = s .keeps rank t a in
+                let at-who = rw one-more at (g .0) in (
+                  pass-to (rw here at newest) (around-offered at-who dist₂ via₂ (s .can .scene) l here to (g .1) base-is sd sv (rw i-is at o)),
+                  omega (arith, g .1, around-kept at-who dist₂ via₂ (s .can .scene) l here to (g .1) base-is sd sv (rw i-is at o)),
                 );
           }
 
 -- ---- find_path
 
 -- t periods are reached, the others stand in the list, and the one at place `at` is the nearest of them
-pub record Finding (d : Day) (order holds first-in next-in prices level list dist rank via : List ℕ) (n first left target t at : ℕ) : Type 0 where
-  pub table : Table d order
-  pub scene : Scene (scope d order n target) (landing d order holds) (ofPeriod prices) target
+pub record Finding (d : Day) (places holds first-in next-in prices list dist rank via : List ℕ) (n first left target t at : ℕ) : Type 0 where
+  pub table : Table d places
+  pub scene : Scene (scope d places n target) (landing d places holds) (ofPeriod prices) target
   pub upto : n < N d
   pub holds-row : length holds ≡ N d
-  pub chained : Chained (landing d order holds) first-in next-in n
-  pub first-is : first ≡ due d (el order n)
-  pub so-far : Search (scope d order n target) (landing d order holds) (ofPeriod prices) target dist rank via t n
-  pub levels : length level ≡ 98
-  pub copied : Copied prices level first target
+  pub chained : Chained (landing d places holds) first-in next-in n
+  pub prices-row : target ≤ length prices + 1
+  pub first-is : first ≡ due d (el places n)
+  pub so-far : Search (scope d places n target) (landing d places holds) (ofPeriod prices) target dist rank via t 0
   pub listed : Listed list rank left first target
   pub nearest : NearestIn dist list left at
 
-module _ {d : Day} {order holds first-in next-in prices dist rank via : List ℕ} {n target : ℕ} (c : CanSearch d order holds first-in next-in prices dist rank via n target) where
-  pub find-rows : Rows dist rank via
-  find-rows = record {
-    dists = rw (c .all-far) (length-replicate {A = ℕ} 98 far);
-    ranks = rw (c .no-ranks) (length-replicate {A = ℕ} 98 0);
-    vias = rw (c .no-links) (length-replicate {A = ℕ} 98 n);
-  }
+module _ {d : Day} {places holds first-in next-in prices list₀ dist rank via : List ℕ} {n target : ℕ}
+    (c : CanSearch d places holds first-in next-in prices list₀ dist rank via n target) where
+  pub find-room : (n < length places) × (n < 128)
+  find-room = omega (arith, c .upto, c .table .row, c .table .valid .flights-to)
 
-  pub find-within : target < 98
-  find-within = omega (arith, c .scene .within, c .scene .periods)
-
-  pub find-room : (n < length order) × (n < 128)
-  find-room = omega (arith, c .upto, c .table .by-due .row, c .table .valid .flights-to)
-
-  module _ {i : ℕ} (i-is : i ≡ getD order n 0) where
+  module _ {i : ℕ} (i-is : i ≡ getD places n 0) where
     in-day : i < N d
-    in-day = omega (arith, c .table .by-due .permuted .below n (c .upto))
+    in-day = omega (arith, c .table .permuted .below n (c .upto))
 
     pub find-stands : (i + 1) * width ≤ length (d .flights)
     find-stands = stands (c .table) i in-day
 
-    window-to : min (latest d (getD order n 0)) target ≡ scope d order n target .hi n
-    window-to = until-target d (getD order n 0) target (omega (arith, c .scene .within)) (c .scene .before)
+    window-to : min (latest d (getD places n 0)) target ≡ scope d places n target .hi n
+    window-to = until-target d (getD places n 0) target (omega (arith, c .scene .within)) (c .scene .before)
 
     module _ {first : ℕ} (first-is : first ≡ due d i) where
-      first-at : first ≡ due d (getD order n 0)
+      first-at : first ≡ due d (getD places n 0)
       first-at = rw i-is at first-is
 
-      pub find-list : (first ≤ target) × (first + (target - first) < 98)
-      find-list = omega (arith, first-at, c .scene .before, c .scene .within, c .scene .periods)
+      pub find-list : (first ≤ target) × (length list₀ ≡ 98) × (first + (target - first) < 98)
+      find-list = omega (arith, c .listed, first-at, c .scene .before, c .scene .within, c .scene .periods)
 
-      module _ {level list : List ℕ} (row : length list ≡ 98) (f : Filled list first (target - first)) (levels : length level ≡ 98) (copied : Copied prices level first target) where
-        unreached : (k : ℕ) → el rank k ≡ 0
-        unreached k = rw (c .no-ranks) (blank 98 k)
-
+      module _ {list : List ℕ} (same-list : length list ≡ length list₀) (f : Filled list first (target - first)) where
         listed : Listed list rank (target - first) first target
-        listed = listed-start rank row unreached (omega (arith, find-list)) (omega (arith, find-list)) f
+        listed = listed-start rank (same-list ∙ c .listed) (c .no-ranks) (omega (arith, find-list)) (omega (arith, find-list)) f
 
-        pub find-offer : CanOffer d prices level list dist via (target - first) target i 0 0
+        pub find-offer : CanOffer d prices list dist via (target - first) target i 0 0
         find-offer = record {
           few = c .table .valid .periods-to;
           room = find-stands;
           rates = c .table .valid .flight i in-day .rate-to;
           jumps = c .table .valid .flight i in-day .jump-to;
           within = omega (arith, c .scene .within, c .scene .periods);
-          dists = find-rows .dists;
-          vias = find-rows .vias;
+          dists = c .rows .dists;
+          vias = c .rows .vias;
           low = omega arith;
-          most = rw (c .all-far) (omega (arith, blank-far 98 target));
+          base-low = omega arith;
+          most = omega (arith, c .all-far target);
           pays = λ k a b.
-              let w : In (scope d order n target) n k = record { from = rw i-is at a; to = omega (arith, window-to, rw i-is at b) } in
+              let w : In (scope d places n target) n k = record { from = rw i-is at a; to = omega (arith, window-to, rw i-is at b) } in
               (omega arith, rw i-is (c .scene .pays n k (omega arith) w));
-          levels = levels;
-          copied = record { price = λ k a b. copied .price k (omega (arith, first-is)) b };
+          prices-row = c .prices-row;
+          free = c .scene .sound .accepted .unsold target (c .scene .free);
+          from-due = c .table .valid .flight i in-day .due-from;
+          by-target = omega (arith, first-is, find-list);
           shape = listed .shape;
-          passed = λ j g a b. absurd (omega (arith, listed .gaps j g (omega (arith, first-is)), unreached j));
+          passed = λ j g a b. absurd (omega (arith, listed .gaps j g (omega (arith, first-is)), c .no-ranks j));
         }
 
         module _ (dist₁ via₁ : List ℕ) (same-d : length dist₁ ≡ length dist) (same-v : length via₁ ≡ length via)
             (o : Offers d prices target i n 0 0 dist dist₁ via via₁) where
-          begun : Search (scope d order n target) (landing d order holds) (ofPeriod prices) target dist₁ rank via₁ 0 n
-          begun = rw (c .no-ranks) (search-start dist₁ via₁ (c .scene) window-to (same-d ∙ find-rows .dists) (same-v ∙ find-rows .vias)
-              (rw (i-is, c .all-far, c .no-links) at o))
+          begun : Search (scope d places n target) (landing d places holds) (ofPeriod prices) target dist₁ rank via₁ 0 0
+          begun = search-start dist dist₁ rank via via₁ (c .scene) window-to (same-d ∙ c .rows .dists) (same-v ∙ c .rows .vias) (c .all-far) (c .no-ranks)
+              (c .rows .ranks) (rw i-is at o)
 
-          pub finding-near : CanNear dist₁ list (target - first) target
-          finding-near = search-near begun (c .scene) (listed .shape)
+          pub finding-near : CanNear dist₁ list (target - first) target 0
+          finding-near = search-near begun (c .scene) (listed .shape) (λ y _. omega arith)
 
           pub finding-start : {at : ℕ} → NearestIn dist₁ list (target - first) at
-              → Finding d order holds first-in next-in prices level list dist₁ rank via₁ n first (target - first) target 0 at
+              → Finding d places holds first-in next-in prices list dist₁ rank via₁ n first (target - first) target 0 at
           finding-start a = record {
             table = c .table;
             scene = c .scene;
             upto = c .upto;
             holds-row = c .holds-row;
             chained = c .chained;
+            prices-row = c .prices-row;
             first-is = first-at;
             so-far = begun;
-            levels = levels;
-            copied = copied;
             listed = listed;
             nearest = a;
           }
 
-module _ {d : Day} {order holds first-in next-in prices level list dist rank via : List ℕ} {n first left target t at : ℕ}
-    (s : Finding d order holds first-in next-in prices level list dist rank via n first left target t at) where
+module _ {d : Day} {places holds first-in next-in prices list dist rank via : List ℕ} {n first left target t at : ℕ}
+    (s : Finding d places holds first-in next-in prices list dist rank via n first left target t at) where
   nearest-one : Nearest dist rank first target (el list at)
   nearest-one = listed-nearest (s .listed) (s .nearest)
 
-  pub finding-end : left ≤ at → Searched (scope d order n target) (landing d order holds) (ofPeriod prices) target dist rank via
+  pub finding-end : left ≤ at → Searched (scope d places n target) (landing d places holds) (ofPeriod prices) target dist rank via
   finding-end e = search-end (s .so-far) (s .scene) (s .first-is) nearest-one (listed-last (s .listed) (s .nearest .to) e)
 
-  module _ (l : at < left) where
+  module _ (l : at < left) {k : ℕ} (k-is : k ≡ el list at) where
     e : el list at ≢ target
     e = listed-other (s .listed) l
 
     reached : (el list at < target) × (el list at < 98) × (t < 98) × (el list at < length rank) × (away dist (el list at) ≤ 98 * dearest)
     reached = reach-in (s .so-far) (s .scene) (s .first-is) nearest-one e
 
-    pub finding-in : (at < 98) × (at < length list) × (t < 98) × (el list at < length rank) × (el list at < 98)
-    finding-in = omega (arith, s .listed .shape .row, s .listed .shape .short, reached .1, reached .2, reached .3)
+    pub finding-in : (at < 98) × (at < length list) × (t < 98) × (k < length rank) × (k < 98)
+    finding-in = omega (arith, k-is, s .listed .shape .row, s .listed .shape .short, reached .1, reached .2, reached .3)
 
     pub finding-out : (length list ≡ 98) × (at < left) × (left < 98)
     finding-out = (s .listed .shape .row, l, s .listed .shape .short)
 
-    around : Around (scope d order n target) (landing d order holds) (ofPeriod prices) target dist (set rank (el list at) (t + 1)) via (t + 1) (el list at) 0
-    around = reach-next (s .so-far) (s .scene) (s .first-is) nearest-one e
+    around : Around (scope d places n target) (landing d places holds) (ofPeriod prices) target dist (set rank k (t + 1)) via (t + 1) k n
+    around = rw k-is (reach-next (s .so-far) (s .scene) (s .first-is) nearest-one e)
 
-    pub finding-expand : CanExpand d order holds first-in next-in prices level list dist via n left target (el list at)
-    finding-expand = record {
-      table = s .table;
-      scene = s .scene;
-      upto = s .upto;
-      holds-row = s .holds-row;
-      chained = s .chained;
-      dists = s .so-far .rows .dists;
-      vias = s .so-far .rows .vias;
-      to = reached .0;
-      near = reached .4;
-      most = s .so-far .most target;
-      levels = s .levels;
-      copied = record { price = λ k a b. s .copied .price k (omega (arith, s .first-is)) b };
-      shape = s .listed .shape;
-      passed = λ j g a. s .so-far .near .order j (el list at) (s .listed .gaps j g (omega (arith, s .first-is))) (nearest-one .fresh e);
-    }
+    module _ {list₂ : List ℕ} (same : length list₂ ≡ length list) (r : Removed list list₂ at left) where
+      listed₂ : Listed list₂ (set rank k (t + 1)) (left - 1) first target
+      listed₂ = rw k-is (listed-out (s .listed) (set rank (el list at) (t + 1)) t l (set-moved rank (el list at) (t + 1) (reached .3)) same r)
 
-    module _ {dist₂ via₂ list₂ : List ℕ} (same : length list₂ ≡ length list) (r : Removed list list₂ at left)
-        (h : Expanded (scope d order n target) (landing d order holds) (ofPeriod prices) target dist dist₂ via via₂ (el list at) n) where
-      expanded : Search (scope d order n target) (landing d order holds) (ofPeriod prices) target dist₂ (set rank (el list at) (t + 1)) via₂ (t + 1) n
-      expanded = h .keeps (set rank (el list at) (t + 1)) (t + 1) around .so-far
-
-      listed₂ : Listed list₂ (set rank (el list at) (t + 1)) (left - 1) first target
-      listed₂ = listed-out (s .listed) (set rank (el list at) (t + 1)) t l (set-moved rank (el list at) (t + 1) (reached .3)) same r
-
-      pub finding-again : CanNear dist₂ list₂ (left - 1) target
-      finding-again = search-near expanded (s .scene) (listed₂ .shape)
-
-      pub finding-next : {at₂ : ℕ} → NearestIn dist₂ list₂ (left - 1) at₂
-          → Finding d order holds first-in next-in prices level list₂ dist₂ (set rank (el list at) (t + 1)) via₂ n first (left - 1) target (t + 1) at₂
-      finding-next a = record {
+      pub finding-expand : CanExpand d places holds first-in next-in prices list₂ dist via n (left - 1) target k
+      finding-expand = record {
         table = s .table;
         scene = s .scene;
         upto = s .upto;
         holds-row = s .holds-row;
         chained = s .chained;
-        first-is = s .first-is;
-        so-far = expanded;
-        levels = s .levels;
-        copied = s .copied;
-        listed = listed₂;
-        nearest = a;
+        dists = s .so-far .rows .dists;
+        vias = s .so-far .rows .vias;
+        to = omega (arith, k-is, reached .0);
+        near = rw k-is (reached .4);
+        most = s .so-far .most target;
+        prices-row = s .prices-row;
+        shape = listed₂ .shape;
+        passed = λ j g a. around .so-far .near .last j k (listed₂ .gaps j g (omega (arith, s .first-is))) (around .here);
       }
+
+      module _ {dist₂ via₂ : List ℕ} (h : Expanded (scope d places n target) (landing d places holds) (ofPeriod prices) target dist dist₂ via via₂ k) where
+        after : Around (scope d places n target) (landing d places holds) (ofPeriod prices) target dist₂ (set rank k (t + 1)) via₂ (t + 1) k 0
+        after = h .keeps (set rank k (t + 1)) (t + 1) around
+
+        pub finding-level : k < length dist₂
+        finding-level = omega (arith, finding-in .4, after .so-far .rows .dists)
+
+        -- what is not reached is no nearer than what was reached last
+        low : (y : ℕ) → y ≤ left - 1 → away dist₂ k ≤ away dist₂ (el list₂ y)
+        low y b = after .so-far .near .order k (el list₂ y) (omega (arith, after .here)) (fresh y b)
+          where
+            fresh : (y : ℕ) → y ≤ left - 1 → el (set rank k (t + 1)) (el list₂ y) ≡ 0
+            fresh y b = elim (eq? y (left - 1)) [
+              | inr f ↦ listed₂ .fresh y (omega arith)
+              | inl f ↦ elim (lt? 0 (el (set rank k (t + 1)) (el list₂ y))) [
+                | inr none ↦ omega arith
+                | inl some ↦ absurd (omega (arith, after .so-far .reached (el list₂ y) some, ap (el list₂) f, listed₂ .shape .ends))
+              ]
+            ]
+
+        pub finding-again : CanNear dist₂ list₂ (left - 1) target (getD dist₂ k 0)
+        finding-again = search-near (after .so-far) (s .scene) (listed₂ .shape) (λ y b. omega (arith, low y b, as-read dist₂ k finding-level))
+
+        pub finding-next : {at₂ : ℕ} → NearestIn dist₂ list₂ (left - 1) at₂
+            → Finding d places holds first-in next-in prices list₂ dist₂ (set rank k (t + 1)) via₂ n first (left - 1) target (t + 1) at₂
+        finding-next a = record {
+          table = s .table;
+          scene = s .scene;
+          upto = s .upto;
+          holds-row = s .holds-row;
+          chained = s .chained;
+          prices-row = s .prices-row;
+          first-is = s .first-is;
+          so-far = after .so-far;
+          listed = listed₂;
+          nearest = a;
+        }

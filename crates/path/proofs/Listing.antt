@@ -8,8 +8,7 @@ use native.Mathlib.Omega.{arith}
 use lib.ListN.{length, set, length-set}
 use Rattle.assignment.proofs.Tests.{eq?, lt?}
 use Rattle.assignment.proofs.Moves.{Moved}
-use Rattle.day.specs.Day.{ofPeriod}
-use Rattle.path.specs.Path.{el, away, Copied, InList, Gap, Listed, Filled, Removed, NearestIn, Nearest}
+use Rattle.path.specs.Path.{el, away, InList, Gap, Listed, Filled, Removed, NearestIn, Nearest}
 use Rattle.path.proofs.Rows.{set-moved}
 
 -- ---- list_periods
@@ -261,32 +260,3 @@ module _ {list : List ℕ} (rank : List ℕ) {left first target : ℕ} (row : le
     fresh = λ y _. none (el list y);
     gaps = λ j g from. absurd (no-gap j g from);
   }
-
--- ---- copy_prices
-
-pub record Copying (prices level₀ level : List ℕ) (first target k : ℕ) : Type 0 where
-  pub row : length level₀ ≡ 98
-  pub same : length level ≡ length level₀
-  pub within : target < 98
-  pub done : (j : ℕ) → first ≤ j → j < k → el level j ≡ ofPeriod prices j
-
-pub copying-start : {prices level : List ℕ} {first target : ℕ} → (length level ≡ 98) × (target < 98) → Copying prices level level first target first
-copying-start c = record { row = c .0; same = refl; within = c .1; done = λ j a b. absurd (omega arith) }
-
-module _ {prices level₀ level : List ℕ} {first target k : ℕ} (s : Copying prices level₀ level first target k) where
-  pub copying-end : target < k → Copied prices level first target
-  copying-end l = record { price = λ j a b. s .done j a (omega arith) }
-
-  module _ (l : k ≤ target) where
-    pub copying-room : (k < length level) × (k < 98)
-    copying-room = omega (arith, s .row, s .same, s .within)
-
-    pub copying-next : {q : ℕ} → q ≡ ofPeriod prices k → Copying prices level₀ (set level k q) first target (k + 1)
-    copying-next {q} e =
-        let v = set-moved level k q (copying-room .0) in
-        record {
-          row = s .row;
-          same = length-set level k q ∙ s .same;
-          within = s .within;
-          done = λ j a b. elim (eq? j k) [ inl f ↦ rw f (v .here ∙ e) | inr f ↦ v .others j f ∙ s .done j a (omega arith) ];
-        }

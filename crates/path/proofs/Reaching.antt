@@ -8,7 +8,7 @@ use mathlib.Core.List.{List}
 use Prim.Native.Nat.{ℕ, _+_, _*_, _≤_, _<_}
 use native.Mathlib.Omega.{arith}
 use lib.Dec.{T, ltb, ltb→lt, lt→ltb}
-use lib.ListN.{length, set, length-set, replicate, length-replicate, getD-replicate, List·getD-eq-default}
+use lib.ListN.{length, set, length-set}
 use Rattle.assignment.specs.Assignment.{Instance, In}
 use Rattle.assignment.proofs.Tests.{eq?, lt?, gate-eq, gate-ne}
 use Rattle.assignment.proofs.Sums.{count-move, count-member, count-all}
@@ -20,21 +20,10 @@ use Rattle.path.proofs.Rows.{set-moved}
 
 -- ---- the start
 
-pub blank : (m k : ℕ) → el (replicate m 0) k ≡ 0
-blank m k = elim (lt? k m) [
-  | inl l ↦ getD-replicate {A = ℕ} m k 0 0 l
-  | inr l ↦ List·getD-eq-default (replicate m 0) 0 {n = k} (omega (arith, length-replicate {A = ℕ} m 0))
-]
-
-pub blank-far : (m k : ℕ) → away (replicate m far) k ≡ far
-blank-far m k = elim (lt? k m) [
-  | inl l ↦ getD-replicate {A = ℕ} m k far far l
-  | inr l ↦ List·getD-eq-default (replicate m far) far {n = k} (omega (arith, length-replicate {A = ℕ} m far))
-]
-
-module _ {d : Instance} {x p : ℕ → ℕ} {target : ℕ} (dist via : List ℕ) {hi : ℕ} (scene : Scene d x p target) (to : hi ≡ d .hi (d .n))
+module _ {d : Instance} {x p : ℕ → ℕ} {target : ℕ} (dist₀ dist rank via₀ via : List ℕ) {hi : ℕ} (scene : Scene d x p target) (to : hi ≡ d .hi (d .n))
     (dists : length dist ≡ 98) (vias : length via ≡ 98)
-    (o : Offered (d .lo (d .n)) hi (λ k. d .cost (d .n) k + p k) (d .n) 0 0 (away (replicate 98 far) target) (away (replicate 98 far)) (away dist) (el (replicate 98 (d .n))) (el via)) where
+    (far-first : (k : ℕ) → away dist₀ k ≡ far) (fresh : (k : ℕ) → el rank k ≡ 0) (ranks : length rank ≡ 98)
+    (o : Offered (d .lo (d .n)) hi (λ k. d .cost (d .n) k + p k) (d .n) 0 0 (away dist₀ target) (away dist₀) (away dist) (el via₀) (el via)) where
   fits : (k : ℕ) → d .lo (d .n) ≤ k → k ≤ hi → In d (d .n) k
   fits k a b = record { from = a; to = omega arith }
 
@@ -45,40 +34,41 @@ module _ {d : Instance} {x p : ℕ → ℕ} {target : ℕ} (dist via : List ℕ)
   heard : (k : ℕ) → In d (d .n) k → (away dist k ≡ d .cost (d .n) k + p k) × (el via k ≡ d .n)
   heard k w = elim (o k) [
     | inl c ↦ (omega (arith, c .far), c .by)
-    | inr e ↦ absurd (omega (arith, e .no-nearer (w .from) (omega (arith, w .to)), small k w, blank-far 98 k, blank-far 98 target))
+    | inr e ↦ absurd (omega (arith, e .no-nearer (w .from) (omega (arith, w .to)), small k w, far-first k, far-first target))
   ]
 
   near-in : (k : ℕ) → away dist k < far → In d (d .n) k
   near-in k near = elim (o k) [
     | inl c ↦ fits k (c .from-lo) (c .to-hi)
-    | inr e ↦ absurd (omega (arith, e .far, blank-far 98 k))
+    | inr e ↦ absurd (omega (arith, e .far, far-first k))
   ]
 
-  pub search-start : Search d x p target dist (replicate 98 0) via 0 (d .n)
+  pub search-start : Search d x p target dist rank via 0 0
   search-start = record {
-    rows = record { dists = dists; ranks = length-replicate {A = ℕ} 98 0; vias = vias };
+    rows = record { dists = dists; ranks = ranks; vias = vias };
     root = away dist;
     rooted = λ k near. let w = near-in k near in (w, heard k w .0);
     reach = λ k w. omega (arith, heard k w .0);
     near = near-start (record { window = scene .sound .accepted .legal .window; best = scene .sound .accepted .best }) (λ _. refl)
-        (λ k l. elim (o k) [ inl c ↦ c .by | inr e ↦ e .by ∙ getD-replicate {A = ℕ} 98 k (d .n) 0 (omega (arith, scene .periods)) ]) (blank 98);
+        (λ k w _. heard k w .1) fresh;
     most = λ k. elim (o k) [
-      | inl c ↦ omega (arith, c .less, c .far, blank-far 98 k)
-      | inr e ↦ omega (arith, e .far, blank-far 98 k)
+      | inl c ↦ omega (arith, c .less, c .far, far-first k)
+      | inr e ↦ omega (arith, e .far, far-first k)
     ];
     inside = λ k near.
         let w = near-in k near in
         omega (arith, w .from, w .to, scene .ceiling (d .n) (omega arith) (scene .before), heard k w .0, small k w);
-    reached = λ k some. absurd (omega (arith, blank 98 k));
-    zeros = omega (arith, count-all 98 0 (el (replicate 98 0)) (blank 98));
+    reached = λ k some. absurd (omega (arith, fresh k));
+    zeros = omega (arith, count-all 98 0 (el rank) fresh);
   }
 
 -- ---- a period is reached
 
-module _ {d : Instance} {x p : ℕ → ℕ} {target : ℕ} {dist rank via : List ℕ} {t : ℕ} (s : Search d x p target dist rank via t (d .n))
+module _ {d : Instance} {x p : ℕ → ℕ} {target : ℕ} {dist rank via : List ℕ} {t : ℕ} (s : Search d x p target dist rank via t 0)
     (scene : Scene d x p target) where
-  pub search-near : {list : List ℕ} {left : ℕ} → InList list left target → CanNear dist list left target
-  search-near o = record { dists = s .rows .dists; shape = o; within = omega (arith, scene .within, scene .periods) }
+  pub search-near : {list : List ℕ} {left level : ℕ} → InList list left target → ((y : ℕ) → y ≤ left → level ≤ away dist (el list y))
+      → CanNear dist list left target level
+  search-near o low = record { dists = s .rows .dists; shape = o; within = omega (arith, scene .within, scene .periods); low = low }
 
   module _ {first k : ℕ} (first-is : first ≡ d .lo (d .n)) (a : Nearest dist rank first target k) where
     -- nothing that is not reached is nearer
@@ -98,14 +88,14 @@ module _ {d : Instance} {x p : ℕ → ℕ} {target : ℕ} {dist rank via : List
           let c : t < 98 = omega (arith, s .zeros, count-member 98 k 0 (el rank) b (a .fresh e)) in
           omega (arith, a .to, s .rows .ranks, s .inside k (omega (arith, a .nearer e, s .most target)))
 
-      pub reach-next : Around d x p target dist (set rank k (t + 1)) via (t + 1) k 0
+      pub reach-next : Around d x p target dist (set rank k (t + 1)) via (t + 1) k (d .n)
       reach-next = record {
         so-far = record {
           rows = record { dists = s .rows .dists; ranks = length-set rank k (t + 1) ∙ s .rows .ranks; vias = s .rows .vias };
           root = s .root;
           rooted = s .rooted;
           reach = s .reach;
-          near = near-reach (s .near) (omega arith) (a .fresh e) nearest-least v;
+          near = near-reach (s .near) refl (a .fresh e) nearest-least v;
           most = s .most;
           inside = λ j near. omega (arith, s .inside j near);
           reached = λ j some. elim (eq? j k) [
@@ -153,7 +143,7 @@ module _ {d : Instance} {x p : ℕ → ℕ} {target : ℕ} {dist rank via : List
         full = λ j t. let b = s .reached j (ltb→lt 0 (el rank j) t) in scene .full j (b .0) (b .1);
         closed = λ i j l t w.
             let some = ltb→lt 0 (el rank (x i)) t in
-            near-is-reached out j (omega (arith, out, s .near .near i j l w some (inr l), s .reached (x i) some, scene .pays i j (omega arith) w, s .zeros));
+            near-is-reached out j (omega (arith, out, s .near .near i j l w some (inr (omega arith)), s .reached (x i) some, scene .pays i j (omega arith) w, s .zeros));
         new = λ j w. near-is-reached out j (omega (arith, s .near .low j, s .reach j w, scene .pays (d .n) j (omega arith) w));
         some = scene .some;
       }
@@ -173,8 +163,8 @@ module _ {d : Instance} {x p : ℕ → ℕ} {target : ℕ} {dist rank via : List
 
 -- ---- the flights that land in the period reached last
 
-module _ {d : Instance} {x p : ℕ → ℕ} {target : ℕ} {dist rank via : List ℕ} {t k m : ℕ} (s : Around d x p target dist rank via t k m) where
-  pub around-pass : x m ≢ k → Around d x p target dist rank via t k (m + 1)
+module _ {d : Instance} {x p : ℕ → ℕ} {target : ℕ} {dist rank via : List ℕ} {t k m : ℕ} (s : Around d x p target dist rank via t k (m + 1)) where
+  pub around-pass : x m ≢ k → Around d x p target dist rank via t k m
   around-pass e = record {
     so-far = record {
       rows = s .so-far .rows;
@@ -213,7 +203,7 @@ module _ {d : Instance} {x p : ℕ → ℕ} {target : ℕ} {dist rank via : List
     at-home : (d .lo m ≤ k) × (k < target)
     at-home = (rw lands at (scene .sound .accepted .legal .window m l .from), s .so-far .reached k (omega (arith, s .here, s .some)) .1)
 
-    pub around-offered : Around d x p target dist₂ rank via₂ t k (m + 1)
+    pub around-offered : Around d x p target dist₂ rank via₂ t k m
     around-offered = record {
       so-far = record {
         rows = record { dists = dists ∙ s .so-far .rows .dists; ranks = s .so-far .rows .ranks; vias = vias ∙ s .so-far .rows .vias };

@@ -1,20 +1,19 @@
 -- What the search for the cheapest chain of moves asks and gives. Only private contracts cite it.
 -- Assumes nothing.
 use mathlib.Core.Path.{_≡_}
-use mathlib.Core.Logic.{_≢_}
+use mathlib.Core.Logic.{_⊎_, _≢_}
 use mathlib.Core.List.{List}
 use Prim.Native.Nat.{ℕ, _+_, _-_, _*_, _≤_, _<_, min}
-use lib.ListN.{getD, length, replicate}
+use lib.ListN.{getD, length, set}
 use Rattle.assignment.specs.Sum.{count}
 use Rattle.assignment.specs.Assignment.{Instance, In, Short}
 use Rattle.assignment.proofs.Near.{Near, Offered}
 use Rattle.assignment.proofs.Insertion.{Sound, grown}
-use Rattle.assignment.proofs.Permuted.{ordered}
+use Rattle.assignment.proofs.Permuted.{Permuted, ordered}
 use Rattle.assignment.proofs.Restricted.{restricted}
 use Rattle.day.specs.Day.{Day, width, P, N, ofPeriod, due, rate, jump, cost, latest, land}
 use Rattle.day.proofs.Valid.{Valid}
 use Rattle.day.proofs.Instance.{instance}
-use Rattle.due_order.specs.DueOrder.{DueOrder}
 
 -- rows are read at the period or the place itself; a distance that does not stand in its row is far
 abbrev pub el : List ℕ → ℕ → ℕ
@@ -30,36 +29,37 @@ away dist k = getD dist k far
 abbrev pub dearest : ℕ
 dearest = 5000000000
 
--- the first n flights of the order, none of which is to land beyond the target
+-- the flights at the first n places, none of which is to land beyond the target
 abbrev pub scope : Day → List ℕ → ℕ → ℕ → Instance
-scope d order n target = restricted (ordered (instance d) (el order) n) target
+scope d places n target = restricted (ordered (instance d) (el places) n) target
 
--- where the flight at place s of the order lands
+-- where the flight at place s lands
 abbrev pub landing : Day → List ℕ → List ℕ → ℕ → ℕ
-landing d order holds s = land d holds (el order s)
+landing d places holds s = land d holds (el places s)
 
 -- what a flight pays in period k
 abbrev pub payment : Day → List ℕ → ℕ → ℕ → ℕ
 payment d prices i k = cost d i (k - due d i) + ofPeriod prices k
 
--- a day that passes the check, and all of its table places, due falling
-pub record Table (d : Day) (order : List ℕ) : Type 0 where
+-- a day that passes the check, and a row in which each of its table places stands once
+pub record Table (d : Day) (places : List ℕ) : Type 0 where
   pub valid : Valid d
-  pub by-due : DueOrder d order
+  pub row : N d ≤ length places
+  pub permuted : Permuted (N d) (el places)
 
--- r is the first place from `from` on whose flight lands in k, or n
-pub record Next (x : ℕ → ℕ) (n k from r : ℕ) : Type 0 where
-  pub after : from ≤ r
-  pub to : r ≤ n
-  pub none : (s : ℕ) → from ≤ s → s < r → x s ≢ k
-  pub there : r < n → x r ≡ k
+-- r - 1 is the last place before `from` whose flight lands in k; r is 0 where there is none
+pub record Newest (x : ℕ → ℕ) (k from r : ℕ) : Type 0 where
+  pub before : r ≤ from
+  pub none : (s : ℕ) → r ≤ s → s < from → x s ≢ k
+  pub there : 0 < r → x (r - 1) ≡ k
 
--- the flights that land in the same period are chained: one row has the first of each period, the other the next behind each flight
+-- the places whose flights land in the same period are chained, the newest first: one row has the first of each period, the other the next
+-- behind each place
 pub record Chained (x : ℕ → ℕ) (first-in next-in : List ℕ) (n : ℕ) : Type 0 where
   pub firsts : length first-in ≡ 98
   pub nexts : length next-in ≡ 128
-  pub first : (k : ℕ) → k < 98 → Next x n k 0 (el first-in k)
-  pub next : (s : ℕ) → s < n → Next x n (x s) (s + 1) (el next-in s)
+  pub first : (k : ℕ) → k < 98 → Newest x k n (el first-in k)
+  pub next : (s : ℕ) → s < n → Newest x (x s) s (el next-in s)
 
 -- a plan x of n flights with prices p, and a new flight; from its due period on, the target is the first period with room
 pub record Scene (d : Instance) (x p : ℕ → ℕ) (target : ℕ) : Type 0 where
@@ -82,7 +82,7 @@ pub record Rows (dist rank via : List ℕ) : Type 0 where
   pub ranks : length rank ≡ 98
   pub vias : length via ≡ 98
 
--- t periods are reached, and from the last of them the flights before m have offered; root is what the new flight pays
+-- t periods are reached, and from the last of them the flights from m on have offered; root is what the new flight pays
 pub record Search (d : Instance) (x p : ℕ → ℕ) (target : ℕ) (dist rank via : List ℕ) (t m : ℕ) : Type 0 where
   pub rows : Rows dist rank via
   pub root : ℕ → ℕ
@@ -135,10 +135,12 @@ pub record Removed (list list₂ : List ℕ) (at left : ℕ) : Type 0 where
 
 -- ---- the nearest of them
 
-pub record CanNear (dist list : List ℕ) (left target : ℕ) : Type 0 where
+-- nothing in the list is nearer than `level`
+pub record CanNear (dist list : List ℕ) (left target level : ℕ) : Type 0 where
   pub dists : length dist ≡ 98
   pub shape : InList list left target
   pub within : target < 98
+  pub low : (y : ℕ) → y ≤ left → level ≤ away dist (el list y)
 
 -- the period at place `at` of the list is the nearest
 pub record NearestIn (dist list : List ℕ) (left at : ℕ) : Type 0 where
@@ -155,12 +157,13 @@ pub record Nearest (dist rank : List ℕ) (first target k : ℕ) : Type 0 where
   pub least : (j : ℕ) → first ≤ j → j < target → el rank j ≡ 0 → away dist k ≤ away dist j
   pub target-least : away dist k ≤ away dist target
 
--- the row has the prices of the periods from first to the target
-pub record Copied (prices level : List ℕ) (first target : ℕ) : Type 0 where
-  pub price : (k : ℕ) → first ≤ k → k ≤ target → el level k ≡ ofPeriod prices k
+-- period k comes to the distance v by way of `who`, if that is nearer
+pub record Nearer (dist dist₂ via via₂ : List ℕ) (k v who : ℕ) : Type 0 where
+  pub cases : ((v < away dist k) × (dist₂ ≡ set dist k v) × (via₂ ≡ set via k who))
+      ⊎ ((away dist k ≤ v) × (dist₂ ≡ dist) × (via₂ ≡ via))
 
 -- a period that does not stand in the list is no farther than an offer to it
-pub record CanOffer (d : Day) (prices level list dist via : List ℕ) (left target i from base : ℕ) : Type 0 where
+pub record CanOffer (d : Day) (prices list dist via : List ℕ) (left target i from base : ℕ) : Type 0 where
   pub few : P d ≤ 96
   pub room : (i + 1) * width ≤ length (d .flights)
   pub rates : rate d i ≤ 10000
@@ -169,10 +172,13 @@ pub record CanOffer (d : Day) (prices level list dist via : List ℕ) (left targ
   pub dists : length dist ≡ 98
   pub vias : length via ≡ 98
   pub low : from ≤ 98 * dearest
+  pub base-low : base ≤ dearest
   pub most : away dist target ≤ far
   pub pays : (k : ℕ) → due d i ≤ k → k ≤ min (latest d i) target → (base ≤ from + payment d prices i k) × (payment d prices i k ≤ dearest)
-  pub levels : length level ≡ 98
-  pub copied : Copied prices level (due d i) target
+  pub prices-row : target ≤ length prices + 1
+  pub free : ofPeriod prices target ≡ 0
+  pub from-due : 1 ≤ due d i
+  pub by-target : due d i ≤ target
   pub shape : InList list left target
   pub passed : (j : ℕ) → Gap list left j → due d i ≤ j → j ≤ min (latest d i) target → away dist j + base ≤ from + payment d prices i j
 
@@ -180,40 +186,41 @@ abbrev pub Offers : (d : Day) (prices : List ℕ) (target i who from base : ℕ)
 Offers d prices target i who from base dist dist₂ via via₂ =
     Offered (due d i) (min (latest d i) target) (payment d prices i) who from base (away dist target) (away dist) (away dist₂) (el via) (el via₂)
 
-pub record CanExpand (d : Day) (order holds first-in next-in prices level list dist via : List ℕ) (n left target k : ℕ) : Type 0 where
-  pub table : Table d order
-  pub scene : Scene (scope d order n target) (landing d order holds) (ofPeriod prices) target
+pub record CanExpand (d : Day) (places holds first-in next-in prices list dist via : List ℕ) (n left target k : ℕ) : Type 0 where
+  pub table : Table d places
+  pub scene : Scene (scope d places n target) (landing d places holds) (ofPeriod prices) target
   pub upto : n < N d
   pub holds-row : length holds ≡ N d
-  pub chained : Chained (landing d order holds) first-in next-in n
+  pub chained : Chained (landing d places holds) first-in next-in n
   pub dists : length dist ≡ 98
   pub vias : length via ≡ 98
   pub to : k < target
   pub near : away dist k ≤ 98 * dearest
   pub most : away dist target ≤ far
-  pub levels : length level ≡ 98
-  pub copied : Copied prices level (due d (el order n)) target
+  pub prices-row : target ≤ length prices + 1
   pub shape : InList list left target
-  pub passed : (j : ℕ) → Gap list left j → due d (el order n) ≤ j → away dist j ≤ away dist k
+  pub passed : (j : ℕ) → Gap list left j → due d (el places n) ≤ j → away dist j ≤ away dist k
 
 -- the flights that land in k have offered
-pub record Expanded (d : Instance) (x p : ℕ → ℕ) (target : ℕ) (dist dist₂ via via₂ : List ℕ) (k m : ℕ) : Type 0 where
-  pub keeps : (rank : List ℕ) (t : ℕ) → Around d x p target dist rank via t k 0 → Around d x p target dist₂ rank via₂ t k m
+pub record Expanded (d : Instance) (x p : ℕ → ℕ) (target : ℕ) (dist dist₂ via via₂ : List ℕ) (k : ℕ) : Type 0 where
+  pub keeps : (rank : List ℕ) (t : ℕ) → Around d x p target dist rank via t k (d .n) → Around d x p target dist₂ rank via₂ t k 0
 
 -- nothing is reached yet
-pub record CanSearch (d : Day) (order holds first-in next-in prices dist rank via : List ℕ) (n target : ℕ) : Type 0 where
-  pub table : Table d order
-  pub scene : Scene (scope d order n target) (landing d order holds) (ofPeriod prices) target
+pub record CanSearch (d : Day) (places holds first-in next-in prices list dist rank via : List ℕ) (n target : ℕ) : Type 0 where
+  pub table : Table d places
+  pub scene : Scene (scope d places n target) (landing d places holds) (ofPeriod prices) target
   pub upto : n < N d
   pub holds-row : length holds ≡ N d
-  pub chained : Chained (landing d order holds) first-in next-in n
-  pub all-far : dist ≡ replicate 98 far
-  pub no-ranks : rank ≡ replicate 98 0
-  pub no-links : via ≡ replicate 98 n
+  pub chained : Chained (landing d places holds) first-in next-in n
+  pub prices-row : target ≤ length prices + 1
+  pub listed : length list ≡ 98
+  pub rows : Rows dist rank via
+  pub all-far : (k : ℕ) → away dist k ≡ far
+  pub no-ranks : (k : ℕ) → el rank k ≡ 0
 
 -- the target is the nearest of the periods that are not reached, and it is not far
 pub record Searched (d : Instance) (x p : ℕ → ℕ) (target : ℕ) (dist rank via : List ℕ) : Type 0 where
   pub t : ℕ
-  pub so-far : Search d x p target dist rank via t (d .n)
+  pub so-far : Search d x p target dist rank via t 0
   pub least : (k : ℕ) → el rank k ≡ 0 → away dist target ≤ away dist k
   pub near : away dist target < far

@@ -1,9 +1,9 @@
 // The search for the cheapest chain of moves that makes room for a new flight: periods are reached in the order of their distances.
 ghost use mathlib.Core.Path.{_≡_};
-ghost use Prim.Native.Nat.{_+_, _<_, min};
+ghost use Prim.Native.Nat.{_+_, _<_};
 ghost use lib.ListN.{length};
 ghost use Rattle.day.specs.Day.{day, ofPeriod};
-ghost use Rattle.path.specs.Path.{landing, scope, Copied, Filled, Removed, CanNear, NearestIn, CanOffer, Offers, CanExpand, Expanded, CanSearch, Searched};
+ghost use Rattle.path.specs.Path.{landing, scope, Filled, Removed, CanNear, NearestIn, Nearer, CanOffer, Offers, CanExpand, Expanded, CanSearch, Searched};
 use day::after_of;
 use day::cost_of;
 use day::due_of;
@@ -16,15 +16,6 @@ use day::wide;
 
 // A distance that no chain of moves has.
 pub const FAR: usize = 4611686018427387904;
-
-fn smaller(a: usize, b: usize) -> usize
-    ensures { λ r. ⌜ r ≡ min a b ⌝ }
-{
-    if a < b {
-        return a;
-    }
-    b
-}
 
 // Lists the periods from first on, rising, at places 0 .. left.
 fn list_periods(list: &mut [usize], first: usize, left: usize)
@@ -51,21 +42,10 @@ fn take_out(list: &mut [usize], at: usize, left: usize)
     }
 }
 
-// Copies the prices of first .. target to a row that is read at the period itself.
-fn copy_prices(prices: &[u32], level: &mut [usize], first: usize, target: usize)
-    requires { ⌜ (length (now level) ≡ 98) × (target < 98) ⌝ }
-    ensures { λ _. ⌜ Copied (now (prices .entry)) (now (level .exit)) first target ⌝ }
-{
-    let mut k = first;
-    while k <= target {
-        level[k] = of_period(prices, k);
-        k += 1;
-    }
-}
-
-// The place of the nearest period of the list, whose last is the target.
-fn nearest(dist: &[usize], list: &[usize], left: usize, target: usize) -> usize
-    requires { ⌜ CanNear (now dist) (now list) left target ⌝ }
+// The place of the nearest period of the list, whose last is the target. None is nearer than `level`, so that the first which is as near
+// ends the search.
+fn nearest(dist: &[usize], list: &[usize], left: usize, target: usize, level: usize) -> usize
+    requires { ⌜ CanNear (now dist) (now list) left target level ⌝ }
     ensures { λ at. ⌜ NearestIn (now (dist .entry)) (now (list .entry)) left at ⌝ }
 {
     let mut best = dist[target];
@@ -76,6 +56,9 @@ fn nearest(dist: &[usize], list: &[usize], left: usize, target: usize) -> usize
         z += 1;
         let away = dist[list[here]];
         if away < best {
+            if away <= level {
+                return here;
+            }
             best = away;
             at = here;
         }
@@ -83,14 +66,24 @@ fn nearest(dist: &[usize], list: &[usize], left: usize, target: usize) -> usize
     at
 }
 
-// The flight at table place i, who is known to the search as `who`, offers the periods of its window that stand in the list: from distance
-// `from`, where it pays `base`, to what it pays there. Costs rise with the hold, so that behind the first offer that is no nearer than the target
-// none is. The prices stand in `level`; the row that they came from is only there to say which they are.
+// Period k comes to the distance `away` by way of `who`, if that is nearer.
+fn bring_nearer(dist: &mut [usize], via: &mut [usize], k: usize, away: usize, who: usize)
+    requires { ⌜ (k < length (now dist)) × (k < length (now via)) × (k < 98) ⌝ }
+    ensures { λ _. ⌜ Nearer (now (dist .entry)) (now (dist .exit)) (now (via .entry)) (now (via .exit)) k away who ⌝ }
+{
+    if away < dist[k] {
+        dist[k] = away;
+        via[k] = who;
+    }
+}
+
+// The flight at table place i, which stands at place `who`, offers the periods of its window that stand in the list: from distance `from`,
+// where it pays `base`, to what it pays there. Costs rise with the hold, so that behind the first offer that is no nearer than the target
+// none is. The target has no price.
 fn offer(
     capacities: &[u32],
     flights: &[u32],
     prices: &[u32],
-    level: &[usize],
     list: &[usize],
     dist: &mut [usize],
     via: &mut [usize],
@@ -101,17 +94,17 @@ fn offer(
     from: usize,
     base: usize,
 )
-    requires { ⌜ CanOffer (day (now capacities) (now flights)) (now prices) (now level) (now list) (now dist) (now via) left target i from base ⌝ }
+    requires { ⌜ CanOffer (day (now capacities) (now flights)) (now prices) (now list) (now dist) (now via) left target i from base ⌝ }
     ensures { λ _. ⌜ Offers (day (now (capacities .entry)) (now (flights .entry))) (now (prices .entry)) target i who from base (now (dist .entry)) (now (dist .exit)) (now (via .entry)) (now (via .exit)) ⌝ }
 {
     let due = due_of(flights, i);
     let rate = rate_of(flights, i);
     let after = after_of(flights, i);
     let jump = jump_of(flights, i);
-    let last = smaller(latest_of(capacities, flights, i), target);
-    let goal = dist[target];
+    let last = latest_of(capacities, flights, i);
+    let goal = dist[target] + base;
     let mut z = 0;
-    while z <= left {
+    while z < left {
         let at = list[z];
         z += 1;
         if last < at {
@@ -119,15 +112,16 @@ fn offer(
         }
         if due <= at {
             let reach = from + hold_cost(rate, after, jump, at - due);
-            if goal + base <= reach {
+            if goal <= reach {
                 return;
             }
-            let away = reach + level[at] - base;
-            if away < dist[at] {
-                dist[at] = away;
-                via[at] = who;
-            }
+            let price = wide(prices[at - 1]);
+            bring_nearer(dist, via, at, reach + price - base, who);
         }
+    }
+    if target <= last {
+        let reach = from + hold_cost(rate, after, jump, target - due);
+        bring_nearer(dist, via, target, reach - base, who);
     }
 }
 
@@ -135,12 +129,11 @@ fn offer(
 fn expand(
     capacities: &[u32],
     flights: &[u32],
-    order: &[u32],
+    places: &[u32],
     holds: &[u32],
     first_in: &[usize],
     next_in: &[usize],
     prices: &[u32],
-    level: &[usize],
     list: &[usize],
     dist: &mut [usize],
     via: &mut [usize],
@@ -149,19 +142,20 @@ fn expand(
     target: usize,
     k: usize,
 )
-    requires { ⌜ CanExpand (day (now capacities) (now flights)) (now order) (now holds) (now first_in) (now next_in) (now prices) (now level) (now list) (now dist) (now via) n left target k ⌝ }
-    ensures { λ _. ⌜ Expanded (scope (day (now (capacities .entry)) (now (flights .entry))) (now (order .entry)) n target) (landing (day (now (capacities .entry)) (now (flights .entry))) (now (order .entry)) (now (holds .entry))) (ofPeriod (now (prices .entry))) target (now (dist .entry)) (now (dist .exit)) (now (via .entry)) (now (via .exit)) k n ⌝ }
+    requires { ⌜ CanExpand (day (now capacities) (now flights)) (now places) (now holds) (now first_in) (now next_in) (now prices) (now list) (now dist) (now via) n left target k ⌝ }
+    ensures { λ _. ⌜ Expanded (scope (day (now (capacities .entry)) (now (flights .entry))) (now (places .entry)) n target) (landing (day (now (capacities .entry)) (now (flights .entry))) (now (places .entry)) (now (holds .entry))) (ofPeriod (now (prices .entry))) target (now (dist .entry)) (now (dist .exit)) (now (via .entry)) (now (via .exit)) k ⌝ }
 {
     let from = dist[k];
-    let mut who = first_in[k];
-    while who < n {
-        let i = wide(order[who]);
+    let mut next = first_in[k];
+    while 0 < next {
+        let who = next - 1;
+        next = next_in[who];
+        let i = wide(places[who]);
         let base = cost_of(capacities, flights, i, wide(holds[i])) + of_period(prices, k);
         offer(
             capacities,
             flights,
             prices,
-            level,
             list,
             dist,
             via,
@@ -172,42 +166,39 @@ fn expand(
             from,
             base,
         );
-        who = next_in[who];
     }
 }
 
-// The cheapest chain of moves that makes room for flight n of the order, due by the target: the flight offers, and then the nearest period is
-// reached again and again, until that is the target. What is reached leaves the list of those that are heard and offered to. All is far at the start, and `via` names the new flight everywhere.
+// The cheapest chain of moves that makes room for the flight at place n, due by the target: the flight offers, and then the nearest period is
+// reached again and again, until that is the target. What is reached leaves the list of those that are heard and offered to. All is far at the
+// start; `via` names the new flight by its place.
 pub fn find_path(
     capacities: &[u32],
     flights: &[u32],
-    order: &[u32],
+    places: &[u32],
     holds: &[u32],
     first_in: &[usize],
     next_in: &[usize],
     prices: &[u32],
+    list: &mut [usize],
     dist: &mut [usize],
     rank: &mut [usize],
     via: &mut [usize],
     n: usize,
     target: usize,
 )
-    requires { ⌜ CanSearch (day (now capacities) (now flights)) (now order) (now holds) (now first_in) (now next_in) (now prices) (now dist) (now rank) (now via) n target ⌝ }
-    ensures { λ _. ⌜ Searched (scope (day (now (capacities .entry)) (now (flights .entry))) (now (order .entry)) n target) (landing (day (now (capacities .entry)) (now (flights .entry))) (now (order .entry)) (now (holds .entry))) (ofPeriod (now (prices .entry))) target (now (dist .exit)) (now (rank .exit)) (now (via .exit)) ⌝ }
+    requires { ⌜ CanSearch (day (now capacities) (now flights)) (now places) (now holds) (now first_in) (now next_in) (now prices) (now list) (now dist) (now rank) (now via) n target ⌝ }
+    ensures { λ _. ⌜ Searched (scope (day (now (capacities .entry)) (now (flights .entry))) (now (places .entry)) n target) (landing (day (now (capacities .entry)) (now (flights .entry))) (now (places .entry)) (now (holds .entry))) (ofPeriod (now (prices .entry))) target (now (dist .exit)) (now (rank .exit)) (now (via .exit)) ⌝ }
 {
-    let i = wide(order[n]);
+    let i = wide(places[n]);
     let first = due_of(flights, i);
-    let mut list = [0; 98];
     let mut left = target - first;
-    list_periods(&mut list, first, left);
-    let mut level = [0; 98];
-    copy_prices(prices, &mut level, first, target);
+    list_periods(list, first, left);
     offer(
         capacities,
         flights,
         prices,
-        &level,
-        &list,
+        list,
         dist,
         via,
         left,
@@ -218,21 +209,22 @@ pub fn find_path(
         0,
     );
     let mut t = 0;
-    let mut at = nearest(dist, &list, left, target);
+    let mut at = nearest(dist, list, left, target, 0);
     while at < left {
         let k = list[at];
         t += 1;
         rank[k] = t;
+        take_out(list, at, left);
+        left -= 1;
         expand(
             capacities,
             flights,
-            order,
+            places,
             holds,
             first_in,
             next_in,
             prices,
-            &level,
-            &list,
+            list,
             dist,
             via,
             n,
@@ -240,8 +232,6 @@ pub fn find_path(
             target,
             k,
         );
-        take_out(&mut list, at, left);
-        left -= 1;
-        at = nearest(dist, &list, left, target);
+        at = nearest(dist, list, left, target, dist[k]);
     }
 }

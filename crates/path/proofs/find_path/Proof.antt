@@ -1,118 +1,95 @@
--- The invariant is the search itself; each turn reaches one period more and takes it out of the list. Were the target far at the end, a stretch would be short. Assumes nothing.
+-- The invariant is the search itself; each turn reaches one period more and takes it out of the list. Were the target far at the end, a
+-- stretch would be short. Assumes nothing.
 use native.Mathlib.Omega.{arith}
-use mathlib.Core.Path.{_∙_, sym}
-use Prim.Native.Nat.{ℕ}
-use lib.ListN.{length-replicate}
-use borrow.Author.Needs.{needs}
+use mathlib.Core.Path.{_∙_, refl, sym}
 use Rattle.day.specs.Day.{day}
-use Rattle.path.proofs.Expanding.{Finding, find-rows, find-room, find-within, find-stands, find-list, find-offer, finding-near, finding-start, finding-end, finding-in, finding-out, finding-expand, finding-again, finding-next}
+use Rattle.path.proofs.Expanding.{Finding, find-room, find-stands, find-list, find-offer, finding-near, finding-start, finding-end, finding-in, finding-out, finding-expand, finding-level, finding-again, finding-next}
 use Rattle.path.proofs.find_path.Statement.{statement}
 use Rattle.path.proofs.find_path.Tie as tie
 
 abbrev Inv-loop : tie.InvT-loop
-Inv-loop capacities flights order holds first-in next-in prices dist₀ rank₀ via₀ n target i first list₀ left₀ level t₀ at₀ dist rank via list left t at = Finding (day capacities flights) order holds first-in next-in prices level list dist rank via n first left target t at
+Inv-loop capacities flights places holds first-in next-in prices list₀ dist₀ rank₀ via₀ n target i first left₀ t₀ at₀ list dist rank via left t at = Finding (day capacities flights) places holds first-in next-in prices list dist rank via n first left target t at
 
 abbrev μ-loop : tie.MeasureT-loop
-μ-loop capacities flights order holds first-in next-in prices dist₀ rank₀ via₀ n target i first list₀ left₀ level t₀ at₀ dist rank via list left t at = left
+μ-loop capacities flights places holds first-in next-in prices list₀ dist₀ rank₀ via₀ n target i first left₀ t₀ at₀ list dist rank via left t at = left
 
 mul-wide : tie.Need-mul-wide Inv-loop μ-loop
-mul-wide c = omega (arith, find-room (c .before .before .before .before .before .before .before .before .before .before .pre))
+mul-wide c = omega (arith, find-room (c .before .before .before .before .before .before .before .before .before .before .before .pre))
 
 shared-slice-read-wide : tie.Need-shared-slice-read-wide Inv-loop μ-loop
-shared-slice-read-wide c = find-room (c .before .before .before .before .before .before .before .before .before .before .before .pre) .0
+shared-slice-read-wide c = find-room (c .before .before .before .before .before .before .before .before .before .before .before .before .pre) .0
 
 wide-requires : tie.Need-wide-requires Inv-loop μ-loop
 wide-requires c κs = tt
 
 due-of-requires : tie.Need-due-of-requires Inv-loop μ-loop
-due-of-requires c κs = find-stands (c .before .before .before .before .before .before .before .before .before .before .before .before .pre) (c .wide .ensures)
+due-of-requires c κs = find-stands (c .before .before .before .before .before .before .before .before .before .before .before .before .before .pre) (c .wide .ensures)
 
 sub-left : tie.Need-sub-left Inv-loop μ-loop
-sub-left c = find-list (c .before .before .before .before .before .before .before .before .before .before .before .before .before .pre) (c .before .wide .ensures) (c .due-of .ensures .0) .0
-
-slice-aggregate-list-periods : tie.Need-slice-aggregate-list-periods Inv-loop μ-loop
-slice-aggregate-list-periods c = search needs
+sub-left c = find-list (c .before .before .before .before .before .before .before .before .before .before .before .before .before .before .pre) (c .before .wide .ensures) (c .due-of .ensures .0) .0
 
 list-periods-requires : tie.Need-list-periods-requires Inv-loop μ-loop
-list-periods-requires c κs = (length-replicate {A = ℕ} 98 0, find-list (c .before .before .before .before .before .before .before .before .before .before .before .before .before .before .pre) (c .before .before .wide .ensures) (c .before .due-of .ensures .0) .1)
-
-slice-aggregate-copy-prices : tie.Need-slice-aggregate-copy-prices Inv-loop μ-loop
-slice-aggregate-copy-prices c = search needs
-
-copy-prices-requires : tie.Need-copy-prices-requires Inv-loop μ-loop
-copy-prices-requires c κs = (length-replicate {A = ℕ} 98 0, find-within (c .before .before .before .before .before .before .before .before .before .before .before .before .before .before .before .before .before .pre))
-
-slice-aggregate-offer : tie.Need-slice-aggregate-offer Inv-loop μ-loop
-slice-aggregate-offer c = sym (c .before .before .copy-prices .kept .1 .0 ∙ length-replicate {A = ℕ} 98 0)
-
-slice-aggregate-offer-2 : tie.Need-slice-aggregate-offer-2 Inv-loop μ-loop
-slice-aggregate-offer-2 c = sym (c .before .before .before .before .before .before .list-periods .kept .0 ∙ length-replicate {A = ℕ} 98 0)
+list-periods-requires c κs = let l = find-list (c .before .before .before .before .before .before .before .before .before .before .before .before .before .before .before .pre) (c .before .before .wide .ensures) (c .before .due-of .ensures .0) in (l .1, l .2)
 
 offer-requires : tie.Need-offer-requires Inv-loop μ-loop
-offer-requires c κs = find-offer (c .before .before .before .before .before .before .before .before .before .before .before .before .before .before .before .before .before .before .before .before .before .before .before .pre) (c .before .before .before .before .before .before .before .before .before .before .before .wide .ensures) (c .before .before .before .before .before .before .before .before .before .before .due-of .ensures .0) (c .before .before .before .before .before .before .before .before .list-periods .kept .0 ∙ length-replicate {A = ℕ} 98 0) (c .before .before .before .before .before .before .before .before .list-periods .ensures) (c .before .before .before .before .before .copy-prices .kept .1 .0 ∙ length-replicate {A = ℕ} 98 0) (c .before .before .before .before .before .copy-prices .ensures)
-
-slice-aggregate-nearest : tie.Need-slice-aggregate-nearest Inv-loop μ-loop
-slice-aggregate-nearest c = sym (c .before .before .before .before .before .before .before .before .before .before .before .before .before .before .before .list-periods .kept .0 ∙ length-replicate {A = ℕ} 98 0)
+offer-requires c κs = find-offer (c .before .before .before .before .before .before .before .before .before .before .before .before .before .before .before .before .before .before .before .before .before .pre) (c .before .before .before .before .before .before .before .before .wide .ensures) (c .before .before .before .before .before .before .before .due-of .ensures .0) (c .before .before .before .before .before .list-periods .kept .0) (c .before .before .before .before .before .list-periods .ensures)
 
 nearest-requires : tie.Need-nearest-requires Inv-loop μ-loop
-nearest-requires c κs = finding-near (c .before .before .before .before .before .before .before .before .before .before .before .before .before .before .before .before .before .before .before .before .before .before .before .before .before .before .before .before .before .before .pre) (c .before .before .before .before .before .before .before .before .before .before .before .before .before .before .before .before .before .before .wide .ensures) (c .before .before .before .before .before .before .before .before .before .before .before .before .before .before .before .before .before .due-of .ensures .0) (c .before .before .before .before .before .before .before .before .before .before .before .before .before .before .before .list-periods .kept .0 ∙ length-replicate {A = ℕ} 98 0) (c .before .before .before .before .before .before .before .before .before .before .before .before .before .before .before .list-periods .ensures) (c .before .before .before .before .before .before .before .before .before .before .before .before .copy-prices .kept .1 .0 ∙ length-replicate {A = ℕ} 98 0) (c .before .before .before .before .before .before .before .before .before .before .before .before .copy-prices .ensures) (c .before .before .before .before .before .before .offer .last .1 .1 .1 .1 .1 .0) (c .before .before .before .before .before .before .offer .last .1 .1 .1 .1 .1 .1 .0) (c .before .before .before .before .before .before .offer .kept .1 .1 .1 .1 .1 .0) (c .before .before .before .before .before .before .offer .kept .1 .1 .1 .1 .1 .1 .0) (c .before .before .before .before .before .before .offer .ensures)
+nearest-requires c κs = finding-near (c .before .before .before .before .before .before .before .before .before .before .before .before .before .before .before .before .before .before .before .before .before .before .before .before .before .before .before .before .pre) (c .before .before .before .before .before .before .before .before .before .before .before .before .before .before .before .wide .ensures) (c .before .before .before .before .before .before .before .before .before .before .before .before .before .before .due-of .ensures .0) (c .before .before .before .before .before .before .before .before .before .before .before .before .list-periods .kept .0) (c .before .before .before .before .before .before .before .before .before .before .before .before .list-periods .ensures) (c .before .before .before .before .before .before .offer .last .1 .1 .1 .1 .0) (c .before .before .before .before .before .before .offer .last .1 .1 .1 .1 .1 .0) (c .before .before .before .before .before .before .offer .kept .1 .1 .1 .1 .0) (c .before .before .before .before .before .before .offer .kept .1 .1 .1 .1 .1 .0) (c .before .before .before .before .before .before .offer .ensures)
 
 loop-holds : tie.Need-loop-holds Inv-loop μ-loop
-loop-holds c = finding-start (c .before .before .before .before .before .before .before .before .before .before .before .before .before .before .before .before .before .before .before .before .before .before .before .before .before .before .before .before .before .before .before .pre) (c .before .before .before .before .before .before .before .before .before .before .before .before .before .before .before .before .before .before .before .wide .ensures) (c .before .before .before .before .before .before .before .before .before .before .before .before .before .before .before .before .before .before .due-of .ensures .0) (c .before .before .before .before .before .before .before .before .before .before .before .before .before .before .before .before .list-periods .kept .0 ∙ length-replicate {A = ℕ} 98 0) (c .before .before .before .before .before .before .before .before .before .before .before .before .before .before .before .before .list-periods .ensures) (c .before .before .before .before .before .before .before .before .before .before .before .before .before .copy-prices .kept .1 .0 ∙ length-replicate {A = ℕ} 98 0) (c .before .before .before .before .before .before .before .before .before .before .before .before .before .copy-prices .ensures) (c .before .before .before .before .before .before .before .offer .last .1 .1 .1 .1 .1 .0) (c .before .before .before .before .before .before .before .offer .last .1 .1 .1 .1 .1 .1 .0) (c .before .before .before .before .before .before .before .offer .kept .1 .1 .1 .1 .1 .0) (c .before .before .before .before .before .before .before .offer .kept .1 .1 .1 .1 .1 .1 .0) (c .before .before .before .before .before .before .before .offer .ensures) (c .nearest .ensures)
+loop-holds c = finding-start (c .before .before .before .before .before .before .before .before .before .before .before .before .before .before .before .before .before .before .before .before .before .before .before .before .before .before .before .before .before .pre) (c .before .before .before .before .before .before .before .before .before .before .before .before .before .before .before .before .wide .ensures) (c .before .before .before .before .before .before .before .before .before .before .before .before .before .before .before .due-of .ensures .0) (c .before .before .before .before .before .before .before .before .before .before .before .before .before .list-periods .kept .0) (c .before .before .before .before .before .before .before .before .before .before .before .before .before .list-periods .ensures) (c .before .before .before .before .before .before .before .offer .last .1 .1 .1 .1 .0) (c .before .before .before .before .before .before .before .offer .last .1 .1 .1 .1 .1 .0) (c .before .before .before .before .before .before .before .offer .kept .1 .1 .1 .1 .0) (c .before .before .before .before .before .before .before .offer .kept .1 .1 .1 .1 .1 .0) (c .before .before .before .before .before .before .before .offer .ensures) (c .nearest .ensures)
 
 mul-k : tie.Need-mul-k Inv-loop μ-loop
-mul-k c = omega (arith, finding-in (c .before .loop .inv) (c .loop-test .taken))
+mul-k c = omega (arith, finding-in (c .before .loop .inv) (c .loop-test .taken) refl)
 
-array-read-k : tie.Need-array-read-k Inv-loop μ-loop
-array-read-k c = finding-in (c .before .loop .inv) (c .loop-test .taken) .0
+slice-read-k : tie.Need-slice-read-k Inv-loop μ-loop
+slice-read-k c = finding-in (c .before .before .loop .inv) (c .before .loop-test .taken) refl .1
 
 add-t : tie.Need-add-t Inv-loop μ-loop
-add-t c = omega (arith, finding-in (c .before .loop .inv) (c .loop-test .taken))
+add-t c = omega (arith, finding-in (c .before .before .loop .inv) (c .before .loop-test .taken) refl)
 
 mul-rank : tie.Need-mul-rank Inv-loop μ-loop
-mul-rank c = omega (arith, finding-in (c .before .loop .inv) (c .loop-test .taken))
+mul-rank c = omega (arith, finding-in (c .before .before .loop .inv) (c .before .loop-test .taken) refl)
 
 slice-write-rank : tie.Need-slice-write-rank Inv-loop μ-loop
-slice-write-rank c = finding-in (c .before .loop .inv) (c .loop-test .taken) .3
-
-slice-aggregate-expand : tie.Need-slice-aggregate-expand Inv-loop μ-loop
-slice-aggregate-expand c = sym (c .before .before .loop .inv .levels)
-
-slice-aggregate-expand-2 : tie.Need-slice-aggregate-expand-2 Inv-loop μ-loop
-slice-aggregate-expand-2 c = sym (c .before .before .before .loop .inv .listed .shape .row)
-
-expand-requires : tie.Need-expand-requires Inv-loop μ-loop
-expand-requires c κs = finding-expand (c .before .before .before .before .before .loop .inv) (c .before .before .before .before .loop-test .taken)
-
-slice-aggregate-take-out : tie.Need-slice-aggregate-take-out Inv-loop μ-loop
-slice-aggregate-take-out c = sym (c .before .before .before .before .before .before .before .before .before .before .before .loop .inv .listed .shape .row)
+slice-write-rank c = finding-in (c .before .before .loop .inv) (c .before .loop-test .taken) refl .3
 
 take-out-requires : tie.Need-take-out-requires Inv-loop μ-loop
-take-out-requires c κs = finding-out (c .before .before .before .before .before .before .before .before .before .before .before .loop .inv) (c .before .before .before .before .before .before .before .before .before .before .loop-test .taken)
+take-out-requires c κs = finding-out (c .before .before .before .loop .inv) (c .before .before .loop-test .taken) refl
 
 sub-left-2 : tie.Need-sub-left-2 Inv-loop μ-loop
-sub-left-2 c = omega (arith, c .before .before .before .before .before .before .before .before .before .before .before .before .loop-test .taken)
+sub-left-2 c = omega (arith, c .before .before .before .before .before .loop-test .taken)
 
-slice-aggregate-nearest-2 : tie.Need-slice-aggregate-nearest-2 Inv-loop μ-loop
-slice-aggregate-nearest-2 c = sym (c .before .before .before .take-out .kept .0 ∙ c .before .before .before .before .before .before .before .before .before .before .before .before .before .before .before .loop .inv .listed .shape .row)
+expand-requires : tie.Need-expand-requires Inv-loop μ-loop
+expand-requires c κs = finding-expand (c .before .before .before .before .before .before .before .before .before .loop .inv) (c .before .before .before .before .before .before .before .before .loop-test .taken) refl (c .before .before .before .before .before .take-out .kept .0) (c .before .before .before .before .before .take-out .ensures)
+
+mul-nearest : tie.Need-mul-nearest Inv-loop μ-loop
+mul-nearest c = omega (arith, finding-in (c .before .before .before .before .before .before .before .before .before .before .before .before .before .before .before .before .loop .inv) (c .before .before .before .before .before .before .before .before .before .before .before .before .before .before .before .loop-test .taken) refl)
+
+slice-reshared-read-nearest : tie.Need-slice-reshared-read-nearest Inv-loop μ-loop
+slice-reshared-read-nearest c = finding-level (c .before .before .before .before .before .before .before .before .before .before .before .before .before .before .before .before .loop .inv) (c .before .before .before .before .before .before .before .before .before .before .before .before .before .before .before .loop-test .taken) refl (c .before .before .before .before .before .before .before .before .before .before .before .before .take-out .kept .0) (c .before .before .before .before .before .before .before .before .before .before .before .before .take-out .ensures) (c .before .before .before .before .before .before .expand .ensures)
 
 nearest-requires-2 : tie.Need-nearest-requires-2 Inv-loop μ-loop
-nearest-requires-2 c κs = finding-again (c .before .before .before .before .before .before .before .before .before .before .before .before .before .before .before .loop .inv) (c .before .before .before .before .before .before .before .before .before .before .before .before .before .before .loop-test .taken) (c .before .before .before .take-out .kept .0) (c .before .before .before .take-out .ensures) (c .before .before .before .before .before .before .before .before .before .expand .ensures)
+nearest-requires-2 c κs = finding-again (c .before .before .before .before .before .before .before .before .before .before .before .before .before .before .before .before .loop .inv) (c .before .before .before .before .before .before .before .before .before .before .before .before .before .before .before .loop-test .taken) refl (c .before .before .before .before .before .before .before .before .before .before .before .before .take-out .kept .0) (c .before .before .before .before .before .before .before .before .before .before .before .before .take-out .ensures) (c .before .before .before .before .before .before .expand .ensures)
 
 loop-less : tie.Need-loop-less Inv-loop μ-loop
-loop-less c = omega (arith, c .before .before .before .before .before .before .before .before .before .before .before .before .before .before .before .loop-test .taken)
+loop-less c = omega (arith, c .before .before .before .before .before .before .before .before .before .before .before .before .before .before .before .before .loop-test .taken)
 
 loop-again : tie.Need-loop-again Inv-loop μ-loop
-loop-again c = finding-next (c .before .before .before .before .before .before .before .before .before .before .before .before .before .before .before .before .loop .inv) (c .before .before .before .before .before .before .before .before .before .before .before .before .before .before .before .loop-test .taken) (c .before .before .before .before .take-out .kept .0) (c .before .before .before .before .take-out .ensures) (c .before .before .before .before .before .before .before .before .before .before .expand .ensures) (c .nearest2 .ensures)
+loop-again c = finding-next (c .before .before .before .before .before .before .before .before .before .before .before .before .before .before .before .before .before .loop .inv) (c .before .before .before .before .before .before .before .before .before .before .before .before .before .before .before .before .loop-test .taken) refl (c .before .before .before .before .before .before .before .before .before .before .before .before .before .take-out .kept .0) (c .before .before .before .before .before .before .before .before .before .before .before .before .before .take-out .ensures) (c .before .before .before .before .before .before .before .expand .ensures) (c .nearest2 .ensures)
 
 same-length : tie.Need-same-length Inv-loop μ-loop
-same-length c = c .before .loop .inv .so-far .rows .dists ∙ sym (find-rows (c .before .before .before .before .before .before .before .before .before .before .before .before .before .before .before .before .before .before .before .before .before .before .before .before .before .before .before .before .before .before .before .before .before .pre) .dists)
+same-length c = c .before .loop .inv .listed .shape .row ∙ sym (c .before .before .before .before .before .before .before .before .before .before .before .before .before .before .before .before .before .before .before .before .before .before .before .before .before .before .before .before .before .before .before .pre .listed)
 
 same-length-2 : tie.Need-same-length-2 Inv-loop μ-loop
-same-length-2 c = c .before .loop .inv .so-far .rows .ranks ∙ sym (find-rows (c .before .before .before .before .before .before .before .before .before .before .before .before .before .before .before .before .before .before .before .before .before .before .before .before .before .before .before .before .before .before .before .before .before .pre) .ranks)
+same-length-2 c = c .before .loop .inv .so-far .rows .dists ∙ sym (c .before .before .before .before .before .before .before .before .before .before .before .before .before .before .before .before .before .before .before .before .before .before .before .before .before .before .before .before .before .before .before .pre .rows .dists)
 
 same-length-3 : tie.Need-same-length-3 Inv-loop μ-loop
-same-length-3 c = c .before .loop .inv .so-far .rows .vias ∙ sym (find-rows (c .before .before .before .before .before .before .before .before .before .before .before .before .before .before .before .before .before .before .before .before .before .before .before .before .before .before .before .before .before .before .before .before .before .pre) .vias)
+same-length-3 c = c .before .loop .inv .so-far .rows .ranks ∙ sym (c .before .before .before .before .before .before .before .before .before .before .before .before .before .before .before .before .before .before .before .before .before .before .before .before .before .before .before .before .before .before .before .pre .rows .ranks)
+
+same-length-4 : tie.Need-same-length-4 Inv-loop μ-loop
+same-length-4 c = c .before .loop .inv .so-far .rows .vias ∙ sym (c .before .before .before .before .before .before .before .before .before .before .before .before .before .before .before .before .before .before .before .before .before .before .before .before .before .before .before .before .before .before .before .pre .rows .vias)
 
 returns : tie.Need-returns Inv-loop μ-loop
 returns c = finding-end (c .before .loop .inv) (c .loop-test .left)
@@ -128,32 +105,25 @@ find-path-spec =
     wide-requires
     due-of-requires
     sub-left
-    slice-aggregate-list-periods
     list-periods-requires
-    slice-aggregate-copy-prices
-    copy-prices-requires
-    slice-aggregate-offer
-    slice-aggregate-offer-2
     offer-requires
-    slice-aggregate-nearest
     nearest-requires
     loop-holds
     mul-k
-    array-read-k
+    slice-read-k
     add-t
     mul-rank
     slice-write-rank
-    slice-aggregate-expand
-    slice-aggregate-expand-2
-    expand-requires
-    slice-aggregate-take-out
     take-out-requires
     sub-left-2
-    slice-aggregate-nearest-2
+    expand-requires
+    mul-nearest
+    slice-reshared-read-nearest
     nearest-requires-2
     loop-less
     loop-again
     same-length
     same-length-2
     same-length-3
+    same-length-4
     returns)

@@ -1,15 +1,15 @@
 -- Of the places looked at so far, none has a nearer period than the best; the target is the first best. Assumes nothing.
 use native.Mathlib.Omega.{arith}
 use Prim.Native.Nat.{_+_, _-_}
-use Rattle.path.proofs.Scan.{Scan, scan-room, scan-start, scan-in, scan-nearer, scan-farther, scan-end}
+use Rattle.path.proofs.Scan.{Scan, scan-room, scan-start, scan-in, scan-nearer, scan-farther, scan-level, scan-end}
 use Rattle.path.proofs.nearest.Statement.{statement}
 use Rattle.path.proofs.nearest.Tie as tie
 
 abbrev Inv-loop : tie.InvT-loop
-Inv-loop dist list left target best₀ at₀ z₀ best at z = Scan dist list left target best at z
+Inv-loop dist list left target level best₀ at₀ z₀ best at z = Scan dist list left target level best at z
 
 abbrev μ-loop : tie.MeasureT-loop
-μ-loop dist list left target best₀ at₀ z₀ best at z = left - z
+μ-loop dist list left target level best₀ at₀ z₀ best at z = left - z
 
 mul-best : tie.Need-mul-best Inv-loop μ-loop
 mul-best c = omega (arith, c .pre .within)
@@ -35,11 +35,14 @@ mul-away-2 c = omega (arith, scan-in (c .before .before .loop .inv) (c .before .
 shared-slice-read-away-2 : tie.Need-shared-slice-read-away-2 Inv-loop μ-loop
 shared-slice-read-away-2 c = scan-in (c .before .before .before .loop .inv) (c .before .before .loop-test .taken) .1
 
+returns : tie.Need-returns Inv-loop μ-loop
+returns c = scan-level (c .before .before .before .before .before .loop .inv) (c .before .before .before .before .loop-test .taken) (c .before .if1 .taken) (c .if2 .taken)
+
 loop-less : tie.Need-loop-less Inv-loop μ-loop
-loop-less c = omega (arith, c .before .before .before .loop-test .taken)
+loop-less c = omega (arith, c .before .before .before .before .loop-test .taken)
 
 loop-again : tie.Need-loop-again Inv-loop μ-loop
-loop-again c = scan-nearer (c .before .before .before .before .loop .inv) (c .before .before .before .loop-test .taken) (c .if1 .taken)
+loop-again c = scan-nearer (c .before .before .before .before .before .loop .inv) (c .before .before .before .before .loop-test .taken) (c .before .if1 .taken)
 
 loop-less-2 : tie.Need-loop-less-2 Inv-loop μ-loop
 loop-less-2 c = omega (arith, c .before .before .before .loop-test .taken)
@@ -47,8 +50,8 @@ loop-less-2 c = omega (arith, c .before .before .before .loop-test .taken)
 loop-again-2 : tie.Need-loop-again-2 Inv-loop μ-loop
 loop-again-2 c = scan-farther (c .before .before .before .before .loop .inv) (c .before .before .before .loop-test .taken) (c .if1 .left)
 
-returns : tie.Need-returns Inv-loop μ-loop
-returns c = scan-end (c .before .loop .inv) (c .loop-test .left)
+returns-2 : tie.Need-returns-2 Inv-loop μ-loop
+returns-2 c = scan-end (c .before .loop .inv) (c .loop-test .left)
 
 pub nearest-spec : {M : Type 1} → statement M
 nearest-spec =
@@ -64,8 +67,9 @@ nearest-spec =
     shared-slice-read-away
     mul-away-2
     shared-slice-read-away-2
+    returns
     loop-less
     loop-again
     loop-less-2
     loop-again-2
-    returns)
+    returns-2)
