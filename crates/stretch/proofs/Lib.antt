@@ -1,2 +1,3 @@
 pub mod Counts
+pub mod Lists
 pub mod Steps
