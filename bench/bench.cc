@@ -1,175 +1,238 @@
 // The core beside LEMON's min-cost-flow solvers, on the same days in one run with equal repeats. Every total is compared.
-// For each class of days: the median over its days of the core's time as a share of the solver's time (below 1: the core is
-// faster), solving only and with the solver's network built each time.
-#include "../include/hold_desk.h"
+// A share is the core's time over the solver's (below 1: the core is faster), solving only and with the solver's network
+// built each time. A shared machine puts a program aside for moments and is slower for whiles. So a time is the least of a
+// few repeats, a share is of two such times close together (a turn), a day's figure is the median over the turns, and all is
+// measured in rounds, each over all days.
+#include "day.h"
 #include <lemon/capacity_scaling.h>
 #include <lemon/cost_scaling.h>
-#include <lemon/network_simplex.h>
-#include <lemon/smart_graph.h>
-#include <algorithm>
-#include <chrono>
-#include <cstdio>
-#include <cstdlib>
-#include <filesystem>
-#include <fstream>
-#include <iterator>
 #include <map>
-#include <string>
-#include <vector>
 
-using Graph = lemon::SmartDigraph;
-using Clock = std::chrono::steady_clock;
+// One day with all rows that the core's calls read and write. The quick plan and the card get it without jumps and limits.
+struct Desk {
+    Day day, plain;
+    uint64_t total = 0;
+    std::string sheet, buffer = std::string(MOST_BYTES, ' ');
+    std::vector<uint32_t> capacities = std::vector<uint32_t>(MOST_PERIODS), flights = std::vector<uint32_t>(FLIGHT_ROW), places;
 
-struct Day {
-    std::string sheet;
-    std::vector<uint32_t> capacities, flights, holds, prices;
-    size_t count() const { return flights.size() / 6; }
-    uint32_t field(size_t i, size_t j) const { return flights[i * 6 + j]; }
+    explicit Desk(const Day &given) : day(given), plain(given), sheet(given.sheet()), places(given.count())
+    {
+        for (size_t i = 0; i < plain.count(); i++) plain.field(i, JUMP) = 0, plain.field(i, LIMIT) = MISSING;
+        expect(full(), day.name + " has no plan");
+    }
+
+    // each call says whether it was accepted
+    bool read() { return hold_desk_read_sheet((const uint8_t *)sheet.data(), sheet.size(), capacities.data(), MOST_PERIODS, flights.data(), FLIGHT_ROW).number == 0; }
+    bool write() { return hold_desk_write_sheet(day.capacities.data(), day.periods(), day.flights.data(), day.flights.size(), (uint8_t *)buffer.data(), buffer.size(), 0).number == 0; }
+    bool quick() { return hold_desk_quick_plan(plain.capacities.data(), plain.periods(), plain.flights.data(), plain.flights.size(), plain.holds.data(), plain.holds.size()).number == 0; }
+    // of the last period, since a card plans all periods before its own
+    bool card() { return hold_desk_period_card(plain.capacities.data(), plain.periods(), plain.flights.data(), plain.flights.size(), uint32_t(plain.periods())).number == 0; }
+    bool full()
+    {
+        hold_desk_answer plan = day.plan();
+        total = plan.first;
+        return plan.number == 0;
+    }
+    bool check() { return hold_desk_price_check(day.capacities.data(), day.periods(), day.flights.data(), day.flights.size(), day.holds.data(), day.holds.size(), day.prices.data(), day.prices.size()); }
+    bool choice() { return hold_desk_choice(day.capacities.data(), day.periods(), day.flights.data(), day.flights.size(), day.holds.data(), day.holds.size(), day.holds.data(), day.holds.size()) == 1; }
+    bool board() { return hold_desk_board(day.capacities.data(), day.periods(), day.flights.data(), day.flights.size(), day.holds.data(), day.holds.size(), places.data(), places.size()).number == 0; }
+    bool text() { return hold_desk_plan_text(day.capacities.data(), day.periods(), day.flights.data(), day.flights.size(), day.holds.data(), day.holds.size(), (uint8_t *)buffer.data(), buffer.size(), 0).number == 0; }
 };
 
-// Flights to periods to a sink; the closing period takes everyone.
-struct Network {
-    Graph graph;
-    Graph::ArcMap<int> capacity{graph}, cost{graph};
-    Graph::NodeMap<int> supply{graph};
+constexpr int TURN = 10; // repeats of one turn
 
-    explicit Network(const Day &day)
-    {
-        size_t periods = day.capacities.size();
-        std::vector<Graph::Node> at(periods + 1);
-        Graph::Node sink = graph.addNode();
-        supply[sink] = -int(day.count());
-        for (size_t k = 0; k <= periods; k++) {
-            at[k] = graph.addNode();
-            supply[at[k]] = 0;
-            add(at[k], sink, k < periods ? int(day.capacities[k]) : int(day.count()), 0);
-        }
-        for (size_t i = 0; i < day.count(); i++) {
-            Graph::Node flight = graph.addNode();
-            supply[flight] = 1;
-            size_t due = day.field(i, 1), last = periods + 1;
-            if (day.field(i, 5) != 255) last = std::min(last, due + day.field(i, 5));
-            for (size_t k = due; k <= last; k++) {
-                int hold = int(k - due);
-                int jump = hold > int(day.field(i, 3)) ? int(day.field(i, 4)) : 0;
-                add(flight, at[k - 1], 1, int(day.field(i, 2)) * hold + jump);
-            }
-        }
-    }
+using Call = bool (Desk::*)();
+using Figures = std::map<std::string, double>;    // of one day in one round, by column
+using Rounds = std::vector<std::vector<Figures>>; // by round, then by day
+using Members = std::vector<size_t>;              // the days of a class
 
-    void add(Graph::Node a, Graph::Node b, int most, int each)
-    {
-        Graph::Arc arc = graph.addArc(a, b);
-        capacity[arc] = most;
-        cost[arc] = each;
-    }
-};
-
-static double seconds_since(Clock::time_point start) { return std::chrono::duration<double>(Clock::now() - start).count(); }
-
-static void expect(bool holds, const char *what)
+// Microseconds of each of the repeats, rising.
+static std::vector<double> times_of(Desk &desk, Call call, int repeats)
 {
-    if (!holds) {
-        std::fprintf(stderr, "bench: %s\n", what);
-        std::exit(1);
-    }
-}
-
-template <class Solver> static void solvers(const Day &day, int repeats, uint64_t total, double &solving, double &building)
-{
-    solving = building = 0;
-    for (int r = 0; r < repeats; r++) {
+    std::vector<double> times(repeats);
+    for (double &time : times) {
         Clock::time_point start = Clock::now();
-        Network network(day);
-        Solver solver(network.graph);
-        solver.upperMap(network.capacity).costMap(network.cost).supplyMap(network.supply);
-        Clock::time_point ready = Clock::now();
-        bool optimal = solver.run() == Solver::OPTIMAL;
-        solving += seconds_since(ready);
-        building += seconds_since(start);
-        expect(optimal && uint64_t(solver.totalCost()) == total, "a solver's total differs from the core's");
+        bool accepted = (desk.*call)();
+        time = seconds_since(start) * 1e6;
+        expect(accepted, desk.day.name + ": a call is refused");
+    }
+    std::sort(times.begin(), times.end());
+    return times;
+}
+
+// The full plan, measured before, as a share of a solver's time.
+template <class Solver> static void beside(const Desk &desk, int repeats, const std::string &column, Figures &row)
+{
+    Solved least{1e9, 1e9};
+    for (int r = 0; r < repeats; r++) {
+        Solved one = solve<Solver>(desk.day, desk.total);
+        least = {std::min(least.solving, one.solving), std::min(least.building, one.building)};
+    }
+    row[column] = row.at("full us") / (least.solving * 1e6);
+    row[column + "+build"] = row.at("full us") / (least.building * 1e6);
+}
+
+static void measure_plan(Desk &desk, int repeats, Figures &row)
+{
+    row["full us"] = times_of(desk, &Desk::full, repeats).front();
+    beside<Simplex>(desk, repeats, "simplex", row);
+}
+
+static void measure_all(Desk &desk, int repeats, Figures &row)
+{
+    measure_plan(desk, repeats, row);
+    beside<lemon::CapacityScaling<Graph>>(desk, repeats, "capacity", row);
+    beside<lemon::CostScaling<Graph>>(desk, repeats, "cost", row);
+    row["quick/full"] = times_of(desk, &Desk::quick, repeats).front() / row["full us"];
+    row["read/full"] = times_of(desk, &Desk::read, repeats).front() / row["full us"];
+    row["write/full"] = times_of(desk, &Desk::write, repeats).front() / row["full us"];
+}
+
+using Measure = void (*)(Desk &, int, Figures &);
+
+static double median_of(const std::vector<Figures> &rows, const std::string &column)
+{
+    std::vector<double> values;
+    for (auto &row : rows) values.push_back(row.at(column));
+    return median(values);
+}
+
+static Figures in_turns(Desk &desk, int repeats, Measure one)
+{
+    std::vector<Figures> turns;
+    for (int done = 0; done < repeats; done += TURN) one(desk, std::min(TURN, repeats - done), turns.emplace_back());
+    Figures row;
+    for (auto &[column, figure] : turns.front()) row[column] = median_of(turns, column);
+    return row;
+}
+
+static Rounds measure(std::vector<Desk> &desks, int repeats, int rounds, Measure one)
+{
+    Rounds measured(rounds);
+    for (auto &round : measured)
+        for (Desk &desk : desks) round.push_back(in_turns(desk, repeats, one));
+    return measured;
+}
+
+// The class's median in each round, rising.
+static std::vector<double> class_medians(const Rounds &rounds, const Members &members, const std::string &column)
+{
+    std::vector<double> medians;
+    for (auto &round : rounds) {
+        std::vector<Figures> rows;
+        for (size_t i : members) rows.push_back(round[i]);
+        medians.push_back(median_of(rows, column));
+    }
+    std::sort(medians.begin(), medians.end());
+    return medians;
+}
+
+static double day_median(const Rounds &rounds, size_t day, const std::string &column)
+{
+    std::vector<Figures> rows;
+    for (auto &round : rounds) rows.push_back(round[day]);
+    return median_of(rows, column);
+}
+
+static void print_heads(const std::vector<std::string> &heads)
+{
+    for (auto &head : heads) std::printf("| %s ", head.c_str());
+    std::printf("|\n");
+    for (size_t i = 0; i < heads.size(); i++) std::printf("|---");
+    std::printf("|\n");
+}
+
+// The columns of one class; behind NetworkSimplex its smallest and largest round, and the class's worst day.
+static void print_class(const std::vector<Desk> &desks, const Rounds &rounds, const Members &members, const std::vector<std::string> &columns)
+{
+    for (auto &column : columns) {
+        std::vector<double> medians = class_medians(rounds, members, column);
+        std::printf(" %.2f |", median(medians));
+        if (column != "simplex") continue;
+        size_t worst = *std::max_element(members.begin(), members.end(), [&](size_t a, size_t b) { return day_median(rounds, a, column) < day_median(rounds, b, column); });
+        std::printf(" %.2f to %.2f | %.2f | %s |", medians.front(), medians.back(), day_median(rounds, worst, column), desks[worst].day.name.c_str());
+    }
+    std::printf("\n");
+}
+
+// A line for each class; the class of a day is its name up to the first hyphen.
+static void print_classes(const std::vector<Desk> &desks, const Rounds &rounds, const std::vector<std::string> &columns)
+{
+    const std::map<std::string, std::string> titles{{"a", "report's day"}, {"b", "48 x 64"}, {"c", "tight 96 x 128"}, {"d", "typical 96 x 128"}, {"e", "bad days, handed over"}, {"f", "bad days, found"}};
+    std::map<std::string, Members> classes;
+    for (size_t i = 0; i < desks.size(); i++) classes[desks[i].day.name.substr(0, desks[i].day.name.find('-'))].push_back(i);
+    std::vector<std::string> heads{"class"};
+    for (auto &column : columns) {
+        heads.push_back(column);
+        if (column == "simplex") heads.insert(heads.end(), {"spread", "worst", "worst day"});
+    }
+    print_heads(heads);
+    for (auto &[key, members] : classes) {
+        std::printf("| %s |", titles.count(key) ? titles.at(key).c_str() : key.c_str());
+        print_class(desks, rounds, members, columns);
     }
 }
 
-static Day load(const std::filesystem::path &path)
+// Like class c: about as many landings as flights, all due in the first three quarters. What counts periods grows with the
+// day, so that a small day is no easier for its size.
+static Day tight_day(Random &random, uint32_t periods, uint32_t count)
 {
+    const uint32_t of_twenty[] = {0, 0, 0, 1, 1, 1, 1, 1, 1, 1, 1, 1, 1, 2, 2, 2, 2, 3, 3, 3};
     Day day;
-    std::ifstream file(path, std::ios::binary);
-    day.sheet.assign(std::istreambuf_iterator<char>(file), {});
-    day.capacities.resize(96);
-    day.flights.resize(768);
-    hold_desk_answer a = hold_desk_read_sheet((const uint8_t *)day.sheet.data(), day.sheet.size(), day.capacities.data(), 96, day.flights.data(), 768);
-    expect(a.number == 0, "a sheet is refused");
-    day.capacities.resize(a.first);
-    day.flights.resize(a.second * 6);
-    day.holds.resize(a.second);
-    day.prices.resize(a.first);
+    for (uint32_t k = 0; k < periods; k++) day.capacities.push_back(of_twenty[below(random, 20)]);
+    for (uint32_t i = 1; i <= count; i++) {
+        uint32_t due = 1 + below(random, periods * 3 / 4), rate = 1 + below(random, 10000), after = below(random, periods * 5 / 16 + 1);
+        uint32_t jump = below(random, 4) == 0 ? 0 : 1 + below(random, 1000000);
+        uint32_t limit = below(random, 2) == 0 ? MISSING : periods / 4 + below(random, 97 - periods / 4);
+        day.flights.insert(day.flights.end(), {i, due, rate, after, jump, limit});
+    }
+    day.fit();
     return day;
 }
 
-static double median(std::vector<double> values)
+static std::vector<Desk> growing_days()
 {
-    std::sort(values.begin(), values.end());
-    return values[values.size() / 2];
+    Random random(1);
+    std::vector<Desk> desks;
+    for (uint32_t periods = 12; periods <= MOST_PERIODS; periods *= 2)
+        for (int n = 0; n < 10; n++) {
+            uint32_t count = periods * 4 / 3;
+            Day day = tight_day(random, periods, count);
+            while (day.plan().number != 0) day = tight_day(random, periods, count);
+            day.name = std::to_string(periods) + " x " + std::to_string(count) + "-" + std::to_string(n);
+            desks.emplace_back(day);
+        }
+    return desks;
+}
+
+// Each call timed alone on every day: the least of a day's times is the call's own, the largest also has what else the
+// machine did.
+static void print_longest(std::vector<Desk> &desks, int repeats)
+{
+    const std::pair<const char *, Call> calls[] = {{"read_sheet", &Desk::read}, {"write_sheet", &Desk::write}, {"quick_plan", &Desk::quick}, {"period_card", &Desk::card}, {"full_plan", &Desk::full}, {"price_check", &Desk::check}, {"choice", &Desk::choice}, {"board", &Desk::board}, {"plan_text", &Desk::text}};
+    print_heads({"call", "longest us", "on day", "longest seen us"});
+    for (auto &[name, call] : calls) {
+        double longest = 0, seen = 0;
+        std::string on;
+        for (Desk &desk : desks) {
+            std::vector<double> times = times_of(desk, call, repeats);
+            seen = std::max(seen, times.back());
+            if (times.front() > longest) longest = times.front(), on = desk.day.name;
+        }
+        std::printf("| %s | %.2f | %s | %.2f |\n", name, longest, on.c_str(), seen);
+    }
 }
 
 int main(int argc, char **argv)
 {
-    expect(argc == 3, "usage: bench FOLDER REPEATS");
-    int repeats = std::atoi(argv[2]);
-    std::map<std::string, std::map<std::string, std::vector<double>>> table;
-    std::vector<std::filesystem::path> paths;
-    for (auto &entry : std::filesystem::directory_iterator(argv[1])) paths.push_back(entry.path());
-    std::sort(paths.begin(), paths.end());
-    for (auto &path : paths) {
-        Day day = load(path);
-        auto &row = table[path.filename().string().substr(0, 1)];
-        hold_desk_answer plan{};
-        Clock::time_point start = Clock::now();
-        for (int r = 0; r < repeats; r++)
-            plan = hold_desk_full_plan(day.capacities.data(), day.capacities.size(), day.flights.data(), day.flights.size(), day.holds.data(), day.holds.size(), day.prices.data(), day.prices.size());
-        double full = seconds_since(start);
-        expect(plan.number == 0, "a day has no plan");
-        row["full us"].push_back(full / repeats * 1e6);
-        double solving, building;
-        solvers<lemon::NetworkSimplex<Graph>>(day, repeats, plan.first, solving, building);
-        row["simplex"].push_back(full / solving);
-        row["simplex+build"].push_back(full / building);
-        solvers<lemon::CapacityScaling<Graph>>(day, repeats, plan.first, solving, building);
-        row["capacity"].push_back(full / solving);
-        row["capacity+build"].push_back(full / building);
-        solvers<lemon::CostScaling<Graph>>(day, repeats, plan.first, solving, building);
-        row["cost"].push_back(full / solving);
-        row["cost+build"].push_back(full / building);
-        // the same day without jumps and limits, for the quick plan
-        std::vector<uint32_t> plain = day.flights, holds(day.count());
-        for (size_t i = 0; i < day.count(); i++) plain[i * 6 + 4] = 0, plain[i * 6 + 5] = 255;
-        start = Clock::now();
-        for (int r = 0; r < repeats; r++)
-            plan = hold_desk_quick_plan(day.capacities.data(), day.capacities.size(), plain.data(), plain.size(), holds.data(), holds.size());
-        row["quick/full"].push_back(seconds_since(start) / full);
-        expect(plan.number == 0, "a quick plan is refused");
-        std::vector<uint32_t> capacities(96), flights(768);
-        start = Clock::now();
-        for (int r = 0; r < repeats; r++)
-            hold_desk_read_sheet((const uint8_t *)day.sheet.data(), day.sheet.size(), capacities.data(), 96, flights.data(), 768);
-        row["read/full"].push_back(seconds_since(start) / full);
-        std::vector<uint8_t> text(8192);
-        start = Clock::now();
-        for (int r = 0; r < repeats; r++)
-            hold_desk_write_sheet(day.capacities.data(), day.capacities.size(), day.flights.data(), day.flights.size(), text.data(), text.size(), 0);
-        row["write/full"].push_back(seconds_since(start) / full);
-    }
-    const char *columns[] = {"full us", "simplex", "simplex+build", "capacity", "capacity+build", "cost", "cost+build", "quick/full", "read/full", "write/full"};
-    std::map<std::string, const char *> names{{"a", "report's day"}, {"b", "48 x 64"}, {"c", "tight 96 x 128"}, {"d", "typical 96 x 128"}};
-    std::printf("| class |");
-    for (const char *column : columns) std::printf(" %s |", column);
-    std::printf("\n|---|");
-    for (size_t i = 0; i < std::size(columns); i++) std::printf("---|");
-    std::printf("\n");
-    for (auto &[key, row] : table) {
-        std::printf("| %s |", names.count(key) ? names[key] : key.c_str());
-        for (const char *column : columns) std::printf(" %.2f |", median(row[column]));
-        std::printf("\n");
-    }
+    expect(argc == 4 && std::atoi(argv[2]) > 0 && std::atoi(argv[3]) > 0, "usage: bench FOLDER REPEATS ROUNDS");
+    int repeats = std::atoi(argv[2]), rounds = std::atoi(argv[3]);
+    std::vector<Desk> desks, growing = growing_days();
+    for (Day &day : load(argv[1])) desks.emplace_back(day);
+    std::printf("The full plan as a share of the solvers' time, %d rounds of %d repeats; each figure is the median over the rounds of the class median:\n\n", rounds, repeats);
+    print_classes(desks, measure(desks, repeats, rounds, measure_all), {"full us", "simplex", "simplex+build", "capacity", "capacity+build", "cost", "cost+build", "quick/full", "read/full", "write/full"});
+    std::printf("\nGrowth, ten tight days of each size:\n\n");
+    print_classes(growing, measure(growing, repeats, rounds, measure_plan), {"full us", "simplex", "simplex+build"});
+    std::printf("\nThe longest time of a single call, over all days of the folder:\n\n");
+    print_longest(desks, repeats);
 }

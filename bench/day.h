@@ -1,0 +1,162 @@
+// What both programs of this folder use: days, the core's calls on them, and LEMON's solvers on the same days.
+#ifndef BENCH_DAY_H
+#define BENCH_DAY_H
+
+#include "../include/hold_desk.h"
+#include <lemon/network_simplex.h>
+#include <lemon/smart_graph.h>
+#include <algorithm>
+#include <chrono>
+#include <cstdio>
+#include <cstdlib>
+#include <filesystem>
+#include <fstream>
+#include <iterator>
+#include <random>
+#include <string>
+#include <vector>
+
+using Graph = lemon::SmartDigraph;
+using Clock = std::chrono::steady_clock;
+using Random = std::mt19937;
+
+constexpr size_t FIELDS = 6; // numbers of a flight
+constexpr size_t MOST_PERIODS = 96;
+constexpr size_t MOST_FLIGHTS = 128;
+constexpr size_t FLIGHT_ROW = 768; // numbers of a full table of flights
+constexpr size_t MOST_BYTES = 8192; // of a text
+constexpr uint32_t MISSING = 255; // in place of a limit
+static_assert(FLIGHT_ROW == MOST_FLIGHTS * FIELDS);
+
+enum Field { NUMBER, DUE, RATE, AFTER, JUMP, LIMIT };
+
+inline double seconds_since(Clock::time_point start) { return std::chrono::duration<double>(Clock::now() - start).count(); }
+
+inline void expect(bool holds, const std::string &what)
+{
+    if (!holds) {
+        std::fprintf(stderr, "bench: %s\n", what.c_str());
+        std::exit(1);
+    }
+}
+
+inline double median(std::vector<double> values)
+{
+    std::sort(values.begin(), values.end());
+    return values[values.size() / 2];
+}
+
+// Of 0 to bound - 1. A remainder and not the library's distribution, so that a seed gives the same days everywhere.
+inline uint32_t below(Random &random, uint32_t bound) { return uint32_t(random() % bound); }
+
+struct Day {
+    std::string name;
+    std::vector<uint32_t> capacities, flights, holds, prices;
+    size_t periods() const { return capacities.size(); }
+    size_t count() const { return flights.size() / FIELDS; }
+    uint32_t field(size_t i, Field j) const { return flights[i * FIELDS + j]; }
+    uint32_t &field(size_t i, Field j) { return flights[i * FIELDS + j]; }
+
+    // the rows to plan into, after a change of the day's size
+    void fit()
+    {
+        holds.resize(count());
+        prices.resize(periods());
+    }
+
+    hold_desk_answer plan()
+    {
+        return hold_desk_full_plan(capacities.data(), periods(), flights.data(), flights.size(), holds.data(), holds.size(), prices.data(), prices.size());
+    }
+
+    std::string sheet() const
+    {
+        std::string text(MOST_BYTES, ' ');
+        hold_desk_answer a = hold_desk_write_sheet(capacities.data(), periods(), flights.data(), flights.size(), (uint8_t *)text.data(), text.size(), 0);
+        expect(a.number == 0, name + " has no sheet");
+        return text.substr(0, a.first);
+    }
+};
+
+// The days of a folder, in order of their names.
+inline std::vector<Day> load(const std::filesystem::path &folder)
+{
+    std::vector<Day> days;
+    for (auto &entry : std::filesystem::directory_iterator(folder)) {
+        std::ifstream file(entry.path(), std::ios::binary);
+        std::string sheet(std::istreambuf_iterator<char>(file), {});
+        Day day;
+        day.name = entry.path().stem().string();
+        day.capacities.resize(MOST_PERIODS);
+        day.flights.resize(FLIGHT_ROW);
+        hold_desk_answer a = hold_desk_read_sheet((const uint8_t *)sheet.data(), sheet.size(), day.capacities.data(), MOST_PERIODS, day.flights.data(), FLIGHT_ROW);
+        expect(a.number == 0, day.name + " is refused");
+        day.capacities.resize(a.first);
+        day.flights.resize(a.second * FIELDS);
+        day.fit();
+        days.push_back(day);
+    }
+    std::sort(days.begin(), days.end(), [](const Day &a, const Day &b) { return a.name < b.name; });
+    return days;
+}
+
+// Flights to periods to a sink; the closing period takes everyone.
+struct Network {
+    Graph graph;
+    Graph::ArcMap<int> capacity{graph}, cost{graph};
+    Graph::NodeMap<int> supply{graph};
+
+    explicit Network(const Day &day)
+    {
+        size_t periods = day.periods();
+        std::vector<Graph::Node> at(periods + 1);
+        Graph::Node sink = graph.addNode();
+        supply[sink] = -int(day.count());
+        for (size_t k = 0; k <= periods; k++) {
+            at[k] = graph.addNode();
+            supply[at[k]] = 0;
+            add(at[k], sink, k < periods ? int(day.capacities[k]) : int(day.count()), 0);
+        }
+        for (size_t i = 0; i < day.count(); i++) {
+            Graph::Node flight = graph.addNode();
+            supply[flight] = 1;
+            size_t due = day.field(i, DUE), last = periods + 1;
+            if (day.field(i, LIMIT) != MISSING) last = std::min(last, due + day.field(i, LIMIT));
+            for (size_t k = due; k <= last; k++) {
+                int hold = int(k - due);
+                int jump = hold > int(day.field(i, AFTER)) ? int(day.field(i, JUMP)) : 0;
+                add(flight, at[k - 1], 1, int(day.field(i, RATE)) * hold + jump);
+            }
+        }
+    }
+
+    void add(Graph::Node a, Graph::Node b, int most, int each)
+    {
+        Graph::Arc arc = graph.addArc(a, b);
+        capacity[arc] = most;
+        cost[arc] = each;
+    }
+};
+
+struct Solved {
+    double solving, building; // seconds; building counts both
+};
+
+// One run of a solver on a network of its own. A total other than the core's ends the program, with the sheet.
+template <class Solver> Solved solve(const Day &day, uint64_t total)
+{
+    Clock::time_point start = Clock::now();
+    Network network(day);
+    Solver solver(network.graph);
+    solver.upperMap(network.capacity).costMap(network.cost).supplyMap(network.supply);
+    Clock::time_point ready = Clock::now();
+    bool optimal = solver.run() == Solver::OPTIMAL;
+    Solved times{seconds_since(ready), seconds_since(start)};
+    if (!optimal || uint64_t(solver.totalCost()) != total)
+        expect(false, day.name + ": a solver's total differs from the core's " + std::to_string(total) + " on\n" + day.sheet());
+    return times;
+}
+
+using Simplex = lemon::NetworkSimplex<Graph>;
+
+#endif
