@@ -1,5 +1,6 @@
 pub mod Tests
 pub mod Costs
+pub mod Chains
 pub mod Valid
 pub mod Instance
 pub mod Existence

@@ -55,14 +55,6 @@ all-not (suc n) f i l e = elim (eq? i n) [
   | inr o ↦ rw (all-not n f i (omega arith) e)
 ]
 
--- two tests of all indices, walked together
-module _ (n : ℕ) (f g : ℕ → Bool) (i : ℕ) (l : i < n) where
-  pub all-not-one : f i ≡ false → false ≡ (all n f && all n g)
-  all-not-one e = rw (all-not n f i l e)
-
-  pub all-not-other : g i ≡ false → false ≡ (all n f && all n g)
-  all-not-other e = rw (all-not n g i l e, and-false (all n f))
-
 -- ---- the first
 
 pub first-at : (n : ℕ) (f : ℕ → Bool) (i : ℕ) → i < n → ((j : ℕ) → j < i → f j ≡ false) → f i ≡ true → firstOf n f ≡ i

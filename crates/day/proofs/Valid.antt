@@ -1,31 +1,14 @@
--- The laws of the day check: one for each way through its loops, and what it says of a day that passes.
+-- The laws of the day check: one for each way through it, and what it says of a day that passes.
 -- Assumes nothing.
-use mathlib.Core.Path.{_≡_, refl, sym, _∙_}
+use mathlib.Core.Path.{_≡_, refl}
 use mathlib.Core.Logic.{_⊎_, _≢_, inl, inr}
-use mathlib.Core.Bool.{Bool, true, false, not, _&&_, _||_}
-use Prim.Native.Nat.{ℕ, _+_, _*_, _≤_, _<_}
+use mathlib.Core.Bool.{Bool, true, false, _&&_, _||_}
+use Prim.Native.Nat.{ℕ, _*_, _≤_, _<_}
 use lib.ListN.{length, getD}
-use lib.Dec.{leb, eqb}
+use lib.Dec.{leb}
 use borrow.Author.Tests.{le-leb, lt-leb, eq-eqb, ne-eqb, leb-true, eqb-true, eqb-false, not-true}
 use Rattle.day.specs.Day.{Day, P, N, number, due, rate, after, jump, limit, missing, all, inside, numbersFit, inRange, isNew, valid, width}
-use Rattle.day.proofs.Tests.{all-next, all-not, all-at, and-true, and-assoc}
-
--- ---- a number that stands at no lower place
-
-abbrev pub newTo : Day → ℕ → ℕ → Bool
-newTo d i j = all j (λ k. not (eqb (number d k) (number d i)))
-
-module _ (d : Day) (i j : ℕ) {a b : ℕ} (at-j : a ≡ number d j) (at-i : b ≡ number d i) where
-  pub new-next : (a ≡ b → ⊥) → newTo d i j ≡ true → newTo d i (j + 1) ≡ true
-  new-next other e = all-next j _ e (rw (ne-eqb (number d j) (number d i) (λ s. other (at-j ∙ s ∙ sym at-i))))
-
-  pub new-not : j < i → a ≡ b → false ≡ isNew d i
-  unfolding isNew
-  new-not l same = sym (all-not i _ j l (rw (eq-eqb (number d j) (number d i) (sym at-j ∙ same ∙ at-i))))
-
-pub new-end : (d : Day) (i j : ℕ) → j ≡ i → newTo d i j ≡ true → true ≡ isNew d i
-unfolding isNew
-new-end d i j e t = sym (rw e at t)
+use Rattle.day.proofs.Tests.{all-at, and-true, and-assoc}
 
 -- ---- the whole check, in its order
 

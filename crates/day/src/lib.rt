@@ -1,10 +1,11 @@
 // The day in two lent rows: its numbers, its check (refusal 6), and what a hold costs and where it lands.
 ghost use mathlib.Core.Path.{_≡_};
 ghost use mathlib.Core.Bool.{true, false, _&&_, _||_};
-ghost use Prim.Native.Nat.{_+_, _*_, _/_, _^_, _<_, _≤_};
+ghost use Prim.Native.Nat.{_+_, _*_, _/_, _%_, _^_, _<_, _≤_};
 ghost use lib.ListN.{getD, length};
 ghost use lib.Dec.{leb};
 ghost use Rattle.day.specs.Day.{day, column, width, ofPeriod, land, holdCost, cost, latest, all, inside, missing, numbersFit, inRange, isNew, valid};
+ghost use Rattle.day.specs.Chains.{chains, ownNumber, Chained, Passed};
 
 pub fn wide(x: u32) -> usize
     ensures { λ r. ⌜ r ≡ x ⌝ }
@@ -182,22 +183,6 @@ fn is_in_range(capacities: &[u32], flights: &[u32], i: usize) -> bool
     )
 }
 
-// No flight above the one at table place i has its number.
-fn is_new(capacities: &[u32], flights: &[u32], i: usize) -> bool
-    requires { ⌜ (i + 1) * width ≤ length (now flights) ⌝ }
-    ensures { λ r. ⌜ r ≡ isNew (day (now (capacities .entry)) (now (flights .entry))) i ⌝ }
-{
-    let number = number_of(flights, i);
-    let mut j = 0;
-    while j < i {
-        if number_of(flights, j) == number {
-            return false;
-        }
-        j += 1;
-    }
-    true
-}
-
 fn capacities_fit(capacities: &[u32]) -> bool
     ensures { λ r. ⌜ r ≡ all (length (now (capacities .entry))) (λ k. leb (getD (now (capacities .entry)) k 0) 255) ⌝ }
 {
@@ -211,22 +196,95 @@ fn capacities_fit(capacities: &[u32]) -> bool
     true
 }
 
-// Every flight is in range, and has a number of its own.
-fn flights_fit(capacities: &[u32], flights: &[u32], n: usize) -> bool
+fn flights_in_range(capacities: &[u32], flights: &[u32], n: usize) -> bool
     requires { ⌜ n * width ≤ length (now flights) ⌝ }
-    ensures { λ r. ⌜ r ≡ (all n (inRange (day (now (capacities .entry)) (now (flights .entry)))) && all n (isNew (day (now (capacities .entry)) (now (flights .entry))))) ⌝ }
+    ensures { λ r. ⌜ r ≡ all n (inRange (day (now (capacities .entry)) (now (flights .entry)))) ⌝ }
 {
     let mut i = 0;
     while i < n {
         if !is_in_range(capacities, flights, i) {
             return false;
         }
-        if !is_new(capacities, flights, i) {
-            return false;
-        }
         i += 1;
     }
     true
+}
+
+// A repeated number is found in one pass: the flights passed stand in chains by the residue of their number, and a flight is compared
+// with those of its own chain only. Of the numbers to 9,999 at most forty have the same residue. More chains would be shorter, but their
+// row is cleared for every day, also for one of ten flights.
+const CHAINS: usize = 256;
+
+// The chain in which the flight at table place i stands.
+fn chain_of(flights: &[u32], i: usize) -> usize
+    requires { ⌜ (i + 1) * width ≤ length (now flights) ⌝ }
+    ensures { λ r. ⌜ (r ≡ column 0 (now (flights .entry)) i % chains) × (r < chains) ⌝ }
+{
+    number_of(flights, i) % CHAINS
+}
+
+// A chain's entry: the table place of a flight plus one, or 0 at the chain's end. There are at most 128 flights, so that it fits a byte.
+fn entry_of(x: u8) -> usize
+    ensures { λ r. ⌜ r ≡ x ⌝ }
+{
+    x as usize
+}
+
+// No flight above the one at table place i has its number. The row `nearest` has for each chain its flight nearest above place i,
+// the row `above` for each flight the next above it in its chain.
+fn is_new(flights: &[u32], nearest: &[u8], above: &[u8], i: usize) -> bool
+    requires { ⌜ ((i + 1) * width ≤ length (now flights)) × Chained (now flights) (now nearest) (now above) i ⌝ }
+    ensures { λ r. ⌜ r ≡ ownNumber (now (flights .entry)) i ⌝ }
+{
+    let number = number_of(flights, i);
+    let chain = chain_of(flights, i);
+    let mut entry = entry_of(nearest[chain]);
+    while 0 < entry {
+        let at = entry - 1;
+        if number_of(flights, at) == number {
+            return false;
+        }
+        entry = entry_of(above[at]);
+    }
+    true
+}
+
+// Each of the n flights has a number of its own, with rows in which those passed are chained on the way.
+fn numbers_differ_in(flights: &[u32], n: usize, nearest: &mut [u8], above: &mut [u8]) -> bool
+    requires { ⌜ Passed (now flights) n (now nearest) (now above) 0 ⌝ }
+    ensures { λ r. ⌜ r ≡ all n (ownNumber (now (flights .entry))) ⌝ }
+{
+    let mut i = 0;
+    while i < n {
+        if !is_new(flights, nearest, above, i) {
+            return false;
+        }
+        let chain = chain_of(flights, i);
+        above[i] = nearest[chain];
+        i += 1;
+        nearest[chain] = i as u8;
+    }
+    true
+}
+
+fn numbers_differ(flights: &[u32], n: usize) -> bool
+    requires { ⌜ (n * width ≤ length (now flights)) × (n ≤ 128) ⌝ }
+    ensures { λ r. ⌜ r ≡ all n (ownNumber (now (flights .entry))) ⌝ }
+{
+    let mut nearest = [0u8; CHAINS];
+    let mut above = [0u8; 128];
+    numbers_differ_in(flights, n, &mut nearest, &mut above)
+}
+
+// Every flight is in range, and has a number of its own.
+fn flights_fit(capacities: &[u32], flights: &[u32], n: usize) -> bool
+    requires { ⌜ (n * width ≤ length (now flights)) × (n ≤ 128) ⌝ }
+    ensures { λ r. ⌜ r ≡ (all n (inRange (day (now (capacities .entry)) (now (flights .entry)))) && all n (isNew (day (now (capacities .entry)) (now (flights .entry))))) ⌝ }
+{
+    if !flights_in_range(capacities, flights, n) {
+        return false;
+    }
+    numbers_differ(flights, n)
 }
 
 // The day check: refusal 6 is given where it says no.
