@@ -10,3 +10,4 @@ pub mod Stuck
 pub mod Restricted
 pub mod Permuted
 pub mod Existence
+pub mod Closed

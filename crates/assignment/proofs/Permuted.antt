@@ -32,10 +32,10 @@ ordered d π n = record {
 }
 
 -- a place that is there stands somewhere
-record Stands (n : ℕ) (π : ℕ → ℕ) (i : ℕ) : Type 0 where
-  at : ℕ
-  in-row : at < n
-  is : π at ≡ i
+pub record Stands (n : ℕ) (π : ℕ → ℕ) (i : ℕ) : Type 0 where
+  pub at : ℕ
+  pub in-row : at < n
+  pub is : π at ≡ i
 
 stands : (n : ℕ) (π : ℕ → ℕ) (i : ℕ) → 1 ≤ count n π i → Stands n π i
 unfolding count sum
@@ -57,6 +57,9 @@ two (suc n) t s l less f = elim (eq? t n) [
 ]
 
 module _ {n : ℕ} {π : ℕ → ℕ} (q : Permuted n π) where
+  pub permuted-stands : (i : ℕ) → i < n → Stands n π i
+  permuted-stands i l = stands n π i (omega (arith, q .once i l))
+
   -- a sum over the flights, in either order
   pub permuted-sum : (g : ℕ → ℕ) → sum n (λ s. g (π s)) ≡ sum n g
   permuted-sum g = exchange-all n n π g (q .below) ∙ sum-ext n (λ i. g i * count n π i) g (λ i l. rw (q .once i l) (omega arith))
@@ -103,9 +106,6 @@ module _ (d : Instance) {π : ℕ → ℕ} (q : Permuted (d .n) π) where
   abbrev d′ : Instance
   d′ = ordered d π (d .n)
 
-  at-home : (i : ℕ) → i < d .n → Stands (d .n) π i
-  at-home i l = stands (d .n) π i (omega (arith, q .once i l))
-
   -- y says in the order π what x says in table order
   module _ (y x : ℕ → ℕ) (same : (s : ℕ) → s < d .n → y s ≡ x (π s)) where
     pub permuted-total : total d′ y ≡ total d x
@@ -121,13 +121,13 @@ module _ (d : Instance) {π : ℕ → ℕ} (q : Permuted (d .n) π) where
     permuted-accepted {p} said = record {
       legal = record {
         window = λ i l.
-            let h = at-home i l in
+            let h = permuted-stands q i l in
             rw (h .is) at (turn (h .at) (rw (same (h .at) (h .in-row)) at (said .legal .window (h .at) (h .in-row))));
         room = λ k. omega (arith, said .legal .room k, counts k);
       };
       unsold = λ k free. said .unsold k (omega (arith, counts k));
       best = λ i k l w.
-          let h = at-home i l in
+          let h = permuted-stands q i l in
           rw (h .is) at (pays (h .at) k (h .in-row) (rw (← (h .is)) at w));
     }
       where
@@ -232,7 +232,7 @@ module _ (d : Instance) {n : ℕ} {σ : ℕ → ℕ} (π π₂ x y : ℕ → ℕ
     rank = s .rank;
     held = λ k. elim (s .held k) [
       | inl none ↦ inl none
-      | inr a ↦ inr (linked a (stands n σ (a .by) (omega (arith, q .once (a .by) (a .who)))))
+      | inr a ↦ inr (linked a (permuted-stands q (a .by) (a .who)))
     ];
   }
     where

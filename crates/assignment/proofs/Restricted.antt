@@ -13,9 +13,9 @@ use Rattle.assignment.proofs.Tests.{lt?, gate-on, gate-le, and-T, T-and
 use Rattle.assignment.proofs.Sums.{sum-le}
 use Rattle.assignment.proofs.Insertion.{Sound}
 
--- a later landing costs more
+-- a later landing costs more than one in an open period
 pub record Rising (d : Instance) : Type 0 where
-  pub dearer : (i j k : ℕ) → i < d .n → In d i j → In d i k → j < k → d .cost i j < d .cost i k
+  pub dearer : (i j k : ℕ) → i < d .n → In d i j → In d i k → 0 < d .cap j → j < k → d .cost i j < d .cost i k
 
 -- the last period of a window, but f if it reaches beyond f from there or before
 unfoldable pub until : ℕ → ℕ → ℕ → ℕ
@@ -65,10 +65,10 @@ module _ (d : Instance) (f : ℕ) where
     ]
   ]
 
-  module _ {x p : ℕ → ℕ} (rise : Rising d) (free : p f ≡ 0) (s : Sound d x p) where
+  module _ {x p : ℕ → ℕ} (rise : Rising d) (some : 0 < d .cap f) (free : p f ≡ 0) (s : Sound d x p) where
     -- nobody pays as much as beyond f
     less : (i k : ℕ) → i < d .n → In d i k → In (restricted d f) i f → f < k → d .cost i (x i) + p (x i) < d .cost i k
-    less i k l w v b = omega (arith, s .accepted .best i f l (wider-in v), rise .dearer i f k l (wider-in v) w b)
+    less i k l w v b = omega (arith, s .accepted .best i f l (wider-in v), rise .dearer i f k l (wider-in v) w some b)
 
     fits : (i k : ℕ) → i < d .n → In d i k → d .cost i k + p k ≤ d .cost i (x i) + p (x i) → In (restricted d f) i k
     fits i k l w best = elim (stay-in w) [ inl a ↦ a | inr a ↦ absurd (omega (arith, less i k l w (a .0) (a .1))) ]
@@ -96,14 +96,14 @@ module _ (d : Instance) (f : ℕ) where
       ];
     }
 
-  pub widen : {x p : ℕ → ℕ} → Rising d → p f ≡ 0 → Sound (restricted d f) x p → Sound d x p
-  widen {x} {p} rise free s = record {
+  pub widen : {x p : ℕ → ℕ} → Rising d → 0 < d .cap f → p f ≡ 0 → Sound (restricted d f) x p → Sound d x p
+  widen {x} {p} rise some free s = record {
     accepted = record {
       legal = record { window = λ i l. wider-in (s .accepted .legal .window i l); room = s .accepted .legal .room };
       unsold = s .accepted .unsold;
       best = λ i k l w. elim (stay-in w) [
         | inl a ↦ s .accepted .best i k l a
-        | inr a ↦ omega (arith, s .accepted .best i f l (a .0), rise .dearer i f k l (wider-in (a .0)) w (a .1))
+        | inr a ↦ omega (arith, s .accepted .best i f l (a .0), rise .dearer i f k l (wider-in (a .0)) w some (a .1))
       ];
     };
     rank = s .rank;

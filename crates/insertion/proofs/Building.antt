@@ -1,22 +1,25 @@
 -- The loop of `insert_all`, and its end: the order only renames the flights.
 -- Assumes nothing.
 use mathlib.Core.Path.{_≡_, refl, sym, ap, _∙_}
-use mathlib.Core.Logic.{inl, inr}
+use mathlib.Core.Logic.{_⊎_, inl, inr, _≢_}
 use mathlib.Core.List.{List}
-use Prim.Native.Nat.{ℕ, _+_, _≤_, _<_}
+use Prim.Native.Nat.{ℕ, _+_, _-_, _≤_, _<_}
 use native.Mathlib.Omega.{arith}
 use lib.ListN.{length, replicate, length-replicate, getD-replicate, List·getD-eq-default}
 use Rattle.assignment.specs.Sum.{sum}
 use Rattle.assignment.specs.Assignment as A
-use Rattle.assignment.proofs.Tests.{lt?}
+use Rattle.assignment.proofs.Tests.{eq?, lt?}
 use Rattle.assignment.proofs.Sums.{count-zero}
 use Rattle.assignment.proofs.Insertion.{Sound, sound-start, price-le}
-use Rattle.assignment.proofs.Permuted.{permuted-accepted, permuted-total}
-use Rattle.day.specs.Day.{Day, N, ofPeriod, land, total}
-use Rattle.day.proofs.Instance.{instance, instance-accepted, total-instance}
+use Rattle.assignment.proofs.Closed.{Tied, priced, lands-open, opened-total}
+use Rattle.assignment.proofs.Permuted.{ordered, Stands, permuted-stands, permuted-accepted, permuted-total}
+use Rattle.day.specs.Day.{Day, P, N, ofPeriod, due, capacity, cost as cost-of, Window, hold, land, total}
+use Rattle.day.proofs.Costs.{period-out}
+use Rattle.day.proofs.Instance.{instance, last-to, places-in, places-closing, cost-le, window-in, in-window, instance-accepted, total-instance}
+use Rattle.closed_prices.specs.ClosedPrices.{paid, Sets, CanPrice, Priced}
 use Rattle.due_order.specs.DueOrder.{DueOrder, CanOrder}
-use Rattle.path.specs.Path.{el, far, away, landing}
-use Rattle.insertion.specs.Insertion.{begun, Placed, Kept, Inserted, cost-of-placed, Cleared, CanInsert, Planned}
+use Rattle.path.specs.Path.{el, far, away, dear, room-in, begun, landing}
+use Rattle.insertion.specs.Insertion.{Placed, Kept, Inserted, cost-of-placed, Cleared, CanInsert, Planned}
 use Rattle.insertion.proofs.Inserting.{placed-total}
 
 -- n flights are placed at the cost that was added up
@@ -98,16 +101,112 @@ module _ {d : Day} {places holds prices loads first-in next-in list dist rank vi
     sound : Sound (begun d places (N d)) (landing d places holds) (ofPeriod prices)
     sound = rw all-placed at (s .placed .sound)
 
+    -- all flights, at their table places
+    abbrev whole : A.Instance
+    whole = ordered (instance d) (el places) (N d)
+
     total-same : cost ≡ total d holds
     total-same =
         s .cost-is ∙ ap (cost-of-placed d places holds) all-placed
+        ∙ opened-total whole dear (landing d places holds) (sound .accepted .legal)
         ∙ permuted-total (instance d) (s .placed .table .permuted) (landing d places holds) (land d holds) (λ o l. refl)
         ∙ total-instance d holds
 
-    pub building-end : Planned d holds prices cost
-    building-end = record {
-      accepted = instance-accepted (s .placed .table .valid) (s .placed .holds-row) (s .placed .prices-row)
-          (permuted-accepted (instance d) (s .placed .table .permuted) (landing d places holds) (land d holds) (λ o l. refl) (sound .accepted));
-      low = λ k. omega (arith, price-le (s .placed .sound) k, s .cost-is, total-same);
-      is-total = total-same;
+    -- where the flight at table place i stands
+    at-place : (i : ℕ) → i < N d → Stands (N d) (el places) i
+    at-place i l = permuted-stands (s .placed .table .permuted) i l
+
+    few : (i : ℕ) → i < N d → land d holds i ≤ P d + 1
+    few i l =
+        let h = at-place i l in
+        omega (arith, ap (land d holds) (h .is), sound .accepted .legal .window (h .at) (h .in-row) .to, last-to d (el places (h .at)))
+
+    pub building-price : CanPrice d holds prices
+    building-price = record {
+      can = λ k to. record {
+        valid = s .placed .table .valid;
+        holds-row = s .placed .holds-row;
+        few = few;
+        low = λ i l. omega (
+          arith,
+          cost-le (s .placed .table .valid) i (hold holds i) l (omega (arith, few i l, s .placed .table .valid .flight i l .due-from, s .placed .table .valid .periods-to)),
+          price-le (s .placed .sound) (land d holds i),
+          placed-total (s .placed),
+        );
+        period = to;
+      };
+      prices-row = s .placed .prices-row;
+      lands = λ i l in-day.
+          let h = at-place i l in
+          omega (
+            arith,
+            ap (λ o. room-in d (land d holds o)) (h .is),
+            lands-open (sound .accepted .legal) (h .at) (h .in-row),
+            places-in d (land d holds i) in-day,
+          );
     }
+
+    module _ {prices₂ : List ℕ} (same-row : length prices₂ ≡ length prices) (c : Priced d holds prices prices₂) where
+      -- a closed period of a window is one of 1 .. P
+      in-day : {i k : ℕ} → Window d i k → i < N d → room-in d k ≡ 0 → (1 ≤ k) × (k ≤ P d) × (capacity d k ≡ 0)
+      in-day {i} {k} w l none =
+          let open-end : k ≢ P d + 1 = λ e. omega (arith, ap (room-in d) e, places-closing d) in
+          let to : k ≤ P d = omega (arith, w .closing) in
+          omega (arith, w .from, s .placed .table .valid .flight i l .due-from, to, places-in d k to)
+
+      held : (i : ℕ) → land d holds i - due d i ≡ hold holds i
+      held i = omega arith
+
+      pays : (o : ℕ) → whole .cost o (landing d places holds o) + ofPeriod prices (landing d places holds o) ≡ paid d holds prices (el places o)
+      pays o = ap (λ h. cost-of d (el places o) h + ofPeriod prices (land d holds (el places o))) (held (el places o))
+
+      high : (o k : ℕ) → o < N d → A.In whole o k → room-in d k ≡ 0
+          → whole .cost o (landing d places holds o) + ofPeriod prices (landing d places holds o) ≤ whole .cost o k + ofPeriod prices₂ k
+      high o k l v none =
+          let b = s .placed .table .permuted .below o l in
+          let w : Window d (el places o) k = in-window (record { from = v .from; to = v .to }) in
+          let t = in-day w b none in
+          omega (arith, pays o, c .least k (t .0) (t .1) (t .2) .high (el places o) b w)
+
+      low : (k : ℕ) → room-in d k ≡ 0 → (ofPeriod prices₂ k ≡ 0) ⊎ Tied whole (landing d places holds) (ofPeriod prices) (ofPeriod prices₂) k
+      low k none = elim (eq? k 0) [
+        | inl e ↦ inl (rw e refl)
+        | inr e ↦ elim (lt? (P d) k) [
+          | inl past ↦ inl (period-out prices₂ k (omega (arith, same-row, s .placed .prices-row)))
+          | inr in-row ↦ elim (c .least k (omega arith) in-row (omega (arith, places-in d k in-row)) .low) [
+            | inl free ↦ inl free
+            | inr a ↦ inr (tied a (at-place (a .by) (a .who)))
+          ]
+        ]
+      ]
+        where
+          tied : (a : Sets d holds prices (N d) k (ofPeriod prices₂ k)) → Stands (N d) (el places) (a .by)
+              → Tied whole (landing d places holds) (ofPeriod prices) (ofPeriod prices₂) k
+          tied a h =
+              let w = window-in (a .window) in
+              record {
+                by = h .at;
+                who = h .in-row;
+                fits = record { from = rw (h .is) (w .from); to = rw (h .is) (w .to) };
+                tie = rw (h .is) (a .tie) ∙ sym (pays (h .at));
+              }
+
+      all-priced : Sound whole (landing d places holds) (ofPeriod prices₂)
+      all-priced = priced whole dear sound (λ k some. elim (lt? (P d) k) [
+        | inr in-row ↦ c .same k (omega (arith, places-in d k in-row))
+        | inl past ↦
+            period-out prices₂ k (omega (arith, same-row, s .placed .prices-row)) ∙ sym (period-out prices k (omega (arith, s .placed .prices-row)))
+      ]) high low
+
+      pub building-end : Planned d holds prices₂ cost
+      building-end = record {
+        accepted = instance-accepted (s .placed .table .valid) (s .placed .holds-row) (same-row ∙ s .placed .prices-row)
+            (permuted-accepted (instance d) (s .placed .table .permuted) (landing d places holds) (land d holds) (λ o l. refl) (all-priced .accepted));
+        low = λ k. omega (
+          arith,
+          price-le all-priced k,
+          permuted-total (instance d) (s .placed .table .permuted) (landing d places holds) (land d holds) (λ o l. refl),
+          total-instance d holds,
+        );
+        is-total = total-same;
+      }

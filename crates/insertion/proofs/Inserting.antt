@@ -14,15 +14,16 @@ use Rattle.assignment.proofs.Sums.{sum-most, count-le}
 use Rattle.assignment.proofs.Moves.{Moved, put-moved}
 use Rattle.assignment.proofs.Near.{Step}
 use Rattle.assignment.proofs.Insertion.{Sound, Found, price-le, going, ground, order as reach-order, z-free, going-end, going-total}
-use Rattle.assignment.proofs.Permuted.{permuted-short, reordered-sound, reordered-total}
+use Rattle.assignment.proofs.Closed.{opened, open-cost, shut-cost, opened-short, lands-open}
+use Rattle.assignment.proofs.Permuted.{ordered, permuted-short, reordered-sound, reordered-total}
 use Rattle.assignment.proofs.Restricted.{Rising, until-near, until-le, restricted, restrict, widen, widen-short}
 use Rattle.day.specs.Day.{Day, width, P, N, ofPeriod, due, limit, cost}
 use Rattle.day.proofs.Costs.{latest-missing, latest-given, cost-grows}
 use Rattle.day.proofs.Instance.{instance, last, last-to, places as rooms, places-in, places-closing, cost-le, instance-short}
-use Rattle.path.specs.Path.{el, far, away, scope, landing, Table, Scene, CanSearch, Searched}
+use Rattle.path.specs.Path.{el, far, away, dear, begun, scope, landing, Table, Scene, CanSearch, Searched}
 use Rattle.path.proofs.Rows.{set-moved, as-read}
 use Rattle.path.proofs.Expanding.{stands}
-use Rattle.insertion.specs.Insertion.{begun, Placed, Kept, cost-of-placed, Added, CanFind, FirstRoom, Linked, CanWalk, Arrived, Walked, CanForget, Forgotten, CanRaise, Raised, Inserted}
+use Rattle.insertion.specs.Insertion.{Placed, Kept, cost-of-placed, Added, CanFind, FirstRoom, Linked, CanWalk, Arrived, Walked, CanForget, Forgotten, CanRaise, Raised, Inserted}
 use Rattle.insertion.proofs.Steps.{added-chained, added-loads}
 
 -- ---- the numbers of a day
@@ -54,8 +55,12 @@ module _ {d : Day} {places : List ℕ} (t : Table d places) where
 
   pub rising : (n : ℕ) → n ≤ N d → Rising (begun d places n)
   rising n l = record {
-    dearer = λ s j k b v w less. cost-grows d (el places s) _ _
-        (t .valid .flight (el places s) (in-table s (omega arith)) .rate-from) (omega (arith, v .from));
+    dearer = λ s j k b v w some less. omega (
+      arith,
+      open-cost (instance d) dear (el places s) j some,
+      cost-grows d (el places s) (j - due d (el places s)) (k - due d (el places s))
+          (t .valid .flight (el places s) (in-table s (omega arith)) .rate-from) (omega (arith, v .from)),
+    );
   }
 
   -- "never above 250,880,000"
@@ -64,7 +69,11 @@ module _ {d : Day} {places : List ℕ} (t : Table d places) where
   sound-total {n} {x} upto sound = omega (
     arith,
     t .valid .flights-to,
-    sum-most n 1960000 (λ o. cost d (el places o) (x o - due d (el places o))) (λ o l. place-cost o (x o) (omega arith) (sound .accepted .legal .window o l .to)),
+    sum-most n 1960000 (λ o. begun d places n .cost o (x o)) (λ o l. omega (
+      arith,
+      open-cost (instance d) dear (el places o) (x o) (lands-open (sound .accepted .legal) o l),
+      place-cost o (x o) (omega arith) (sound .accepted .legal .window o l .to),
+    )),
   )
 
 module _ {d : Day} {places holds prices : List ℕ} {n : ℕ} (s : Placed d places holds prices n) where
@@ -114,13 +123,15 @@ module _ {d : Day} {places holds prices : List ℕ} {n : ℕ} (s : Placed d plac
               let near : due d (el places n) ≤ target = omega (arith, first-at, room .from) in
               let f = s .table .valid .flight (el places n) (in-table (s .table) n l) in
               record {
-                sound = restrict (begun d places n) target (rising (s .table) n (s .upto)) (s .sound .accepted .unsold target free) (s .sound);
+                sound = restrict (begun d places n) target (rising (s .table) n (s .upto)) (omega (arith, free)) (s .sound .accepted .unsold target free) (s .sound);
                 periods = omega (arith, s .table .valid .periods-to);
-                pays = λ o k b w. omega (
+                pays = λ o k b w some. omega (
                   arith,
+                  open-cost (instance d) dear (el places o) k some,
                   place-cost (s .table) o k (omega arith) (omega (arith, w .to, until-le target (due d (el places o)) (last d (el places o)))),
                   placed-low k,
                 );
+                shut = λ o k none. shut-cost (instance d) dear (el places o) k none;
                 floor = λ o b. s .falling o n (omega arith) (omega arith) l;
                 ceiling = λ o b low. omega (arith, until-near (last d (el places o)) low);
                 from = f .due-from;
@@ -135,7 +146,8 @@ module _ {d : Day} {places holds prices : List ℕ} {n : ℕ} (s : Placed d plac
                 );
                 free = free;
                 none-short = λ a b from stretch less short. s .none-short a b (instance-short d a b (omega (arith, room .to)) from stretch
-                    (permuted-short (instance d) (s .table .permuted) l (widen-short (begun d places (suc n)) target less short)));
+                    (permuted-short (instance d) (s .table .permuted) l
+                    (opened-short (ordered (instance d) (el places) (suc n)) dear (widen-short (begun d places (suc n)) target less short))));
               }
 
           pub insert-search : CanSearch d places holds first-in next-in prices list dist₀ rank₀ via₀ n target
@@ -235,7 +247,7 @@ module _ {d : Day} {places holds prices : List ℕ} {n : ℕ} (s : Placed d plac
                 arrived = w .keeps (scope d places n target) q (reach-order f narrow rise) (away dist target) refl (going f narrow rise)
 
                 whole : Sound (begun d places (suc n)) (w .y) q
-                whole = widen (begun d places (suc n)) target (rising (s .table) (suc n) l) (z-free f narrow rise)
+                whole = widen (begun d places (suc n)) target (rising (s .table) (suc n) l) (omega (arith, free)) (z-free f narrow rise)
                     (going-end (arrived .going) (ground f narrow rise) (arrived .new) (arrived .last))
 
                 adds : A.total (begun d places (suc n)) (w .y) ≡ cost-of-placed d places holds n + away dist target
@@ -291,7 +303,7 @@ module _ {d : Day} {places holds prices : List ℕ} {n : ℕ} (s : Placed d plac
                     upto = omega arith;
                     holds-row = holds-same ∙ s .holds-row;
                     prices-row = prices-same ∙ s .prices-row;
-                    sound = rw next at (reordered-sound (instance d) (el places) (el places₂) (w .y) (landing d places₂ holds₂) (w .permuted) (w .moved) (w .lands-are) (whole (r .rise)));
+                    sound = rw next at (reordered-sound (opened (instance d) dear) (el places) (el places₂) (w .y) (landing d places₂ holds₂) (w .permuted) (w .moved) (w .lands-are) (whole (r .rise)));
                   };
                   adds = rw next at added-up;
                 }
@@ -299,7 +311,7 @@ module _ {d : Day} {places holds prices : List ℕ} {n : ℕ} (s : Placed d plac
                     added-up : cost-of-placed d places₂ holds₂ (suc n) ≡ cost-of-placed d places holds n + added
                     added-up = omega (
                       arith,
-                      reordered-total (instance d) (el places) (el places₂) (w .y) (landing d places₂ holds₂) (w .permuted) (w .moved) (w .lands-are),
+                      reordered-total (opened (instance d) dear) (el places) (el places₂) (w .y) (landing d places₂ holds₂) (w .permuted) (w .moved) (w .lands-are),
                       adds (r .rise),
                       as-read dist target (insert-rows .0),
                     )

@@ -16,6 +16,7 @@ use Rattle.assignment.proofs.Insertion.{Going, going-step}
 use Rattle.assignment.proofs.Permuted.{Permuted, permuted-other, permuted-same, Swapped, swapped}
 use Rattle.day.specs.Day.{Day, N, width, ofPeriod, due, land}
 use Rattle.day.proofs.Costs.{period-out}
+use Rattle.closed_prices.proofs.Pricing.{period-moved}
 use Rattle.path.specs.Path.{el, far, away, landing, Table, Newest, Chained}
 use Rattle.path.proofs.Rows.{set-moved, away-moved, as-read}
 use Rattle.path.proofs.Expanding.{stands as stands-in}
@@ -423,11 +424,6 @@ module _ {dist₀ dist rank₀ rank : List ℕ} {first target k : ℕ} (s : Forg
       ]
 
 -- ---- raise
-
--- an entry of a row that has one for each period
-pub period-moved : (row : List ℕ) (k v : ℕ) → 1 ≤ k → k ≤ length row → Moved (ofPeriod row) (ofPeriod (set row (k - 1) v)) k v
-period-moved row zero v some l = absurd (omega arith)
-period-moved row (suc k) v some l = let e : suc k - 1 ≡ k = omega arith in rw e (set-moved (0 ∷ row) (suc k) v (omega arith))
 
 -- the periods before k have their new prices
 pub record Raising (prices₀ prices dist : List ℕ) (first target goal k : ℕ) : Type 0 where

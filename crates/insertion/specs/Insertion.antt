@@ -9,16 +9,11 @@ use Rattle.assignment.specs.Sum.{count}
 use Rattle.assignment.specs.Assignment as A
 use Rattle.assignment.proofs.Moves.{Moved, put}
 use Rattle.assignment.proofs.Insertion.{Sound, Going}
-use Rattle.assignment.proofs.Permuted.{Permuted, ordered}
+use Rattle.assignment.proofs.Permuted.{Permuted}
 use Rattle.day.specs.Day.{Day, P, N, ofPeriod, due, total}
 use Rattle.day.specs.Plan.{Accepted, Short}
 use Rattle.day.proofs.Valid.{Valid}
-use Rattle.day.proofs.Instance.{instance}
-use Rattle.path.specs.Path.{el, far, away, landing, Table, Chained, Rows}
-
--- the flights at the first n places
-abbrev pub begun : Day → List ℕ → ℕ → A.Instance
-begun d places n = ordered (instance d) (el places) n
+use Rattle.path.specs.Path.{el, far, away, begun, landing, Table, Chained, Rows}
 
 -- the flights at the first n places are placed: the hold row has their holds, the price row their prices; the others follow, due falling,
 -- and their holds may be any numbers

@@ -9,6 +9,7 @@ ghost use lib.ListN.{length, set};
 ghost use Rattle.day.specs.Day.{day, width, column, N};
 ghost use Rattle.path.specs.Path.{el};
 ghost use Rattle.insertion.specs.Insertion.{Added, CanFind, FirstRoom, CanWalk, Walked, CanRaise, Raised, CanForget, Forgotten, Placed, Kept, Inserted, Cleared, CanInsert, Planned};
+use closed_prices::price_closed;
 use day::due_of;
 use day::land_of;
 use day::of_period;
@@ -224,5 +225,6 @@ pub fn insert_all(
         total += added;
         n += 1;
     }
+    price_closed(capacities, flights, holds, prices);
     total
 }

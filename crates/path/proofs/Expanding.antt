@@ -1,6 +1,6 @@
 -- The loops of `expand` and `find_path`.
 -- Assumes nothing.
-use mathlib.Core.Path.{_≡_, refl, ap, _∙_}
+use mathlib.Core.Path.{_≡_, refl, sym, ap, _∙_}
 use mathlib.Core.Logic.{inl, inr, _≢_}
 use mathlib.Core.List.{List}
 use Prim.Native.Nat.{ℕ, zero, suc, _+_, _-_, _*_, _^_, _≤_, _<_, min}
@@ -9,12 +9,13 @@ use native.Mathlib.Omega.{arith}
 use lib.ListN.{getD, length, set}
 use Rattle.assignment.specs.Assignment.{Instance, In}
 use Rattle.assignment.proofs.Tests.{eq?, lt?}
+use Rattle.assignment.proofs.Closed.{opened, open-cost, shut-cost}
 use Rattle.assignment.proofs.Restricted.{until, until-near}
 use Rattle.day.specs.Day.{Day, P, N, width, ofPeriod, due, latest, cost}
-use Rattle.day.proofs.Instance.{last}
-use Rattle.path.specs.Path.{el, far, away, dearest, scope, landing, Table, Newest, Chained, Scene, Search, Around, Gap, Listed, Filled, Removed, CanNear, NearestIn, Nearest, CanOffer, Offers, CanExpand, Expanded, CanSearch, Searched}
+use Rattle.day.proofs.Instance.{instance, last, places-in}
+use Rattle.path.specs.Path.{el, far, away, dearest, dear, room-in, scope, landing, Table, Newest, Chained, Scene, Search, Around, Gap, Listed, CanList, Filled, Removed, CanNear, NearestIn, Nearest, CanOffer, Offers, CanExpand, Expanded, CanSearch, Searched}
 use Rattle.path.proofs.Rows.{as-read, set-moved}
-use Rattle.path.proofs.Listing.{listed-start, listed-nearest, listed-last, listed-other, listed-out}
+use Rattle.path.proofs.Listing.{listed-start, listed-nearest, listed-some, listed-last, listed-other, listed-out}
 use Rattle.path.proofs.Reaching.{search-start, around-pass, around-kept, around-offered, search-near, reach-in, reach-next, search-end}
 
 -- a flight of the day stands in its row
@@ -53,8 +54,8 @@ module _ (d : Day) (places holds first-in next-in prices list : List ℕ) (n lef
     pub upto : next ≤ n
     pub there : 0 < next → landing d places holds (next - 1) ≡ k
     pub from-is : from ≡ away dist₀ k
-    pub most : away dist target ≤ far
-    pub passed : (j : ℕ) → Gap list left j → due d (el places n) ≤ j → away dist j ≤ from
+    pub most : (j : ℕ) → away dist j ≤ far
+    pub passed : (j : ℕ) → Gap list left j → due d (el places n) ≤ j → 0 < room-in d j → away dist j ≤ from
     pub keeps : (rank : List ℕ) (t : ℕ)
         → Around (scope d places n target) (landing d places holds) (ofPeriod prices) target dist₀ rank via₀ t k n
         → Around (scope d places n target) (landing d places holds) (ofPeriod prices) target dist rank via t k next × (from ≡ away dist k)
@@ -75,7 +76,7 @@ module _ {d : Day} {places holds first-in next-in prices list dist via : List �
         there = h .there;
         from-is = as-read dist k (expand-room .0);
         most = c .most;
-        passed = λ j g a. omega (arith, c .passed j g a, as-read dist k (expand-room .0));
+        passed = λ j g a some. omega (arith, c .passed j g a some, as-read dist k (expand-room .0));
         keeps = λ rank t a. (pass-to h a, as-read dist k (expand-room .0));
       }
 
@@ -132,10 +133,12 @@ module _ {d : Day} {places holds first-in next-in prices list dist₀ dist via�
 
         module _ {b q : ℕ} (b-is : b ≡ cost d i h) (q-is : q ≡ ofPeriod prices k) where
           base-is : b + q ≡ scope d places n target .cost who k + ofPeriod prices k
-          base-is = rw (b-is, held, i-is, q-is)
+          base-is =
+              let e : b ≡ scope d places n target .cost who k = rw (b-is, held, i-is) (sym (open-cost (instance d) dear (getD places who 0) k (s .can .here))) in
+              omega (arith, e, q-is)
 
           pub expanding-small : b + q ≤ dearest
-          expanding-small = omega (arith, base-is, s .can .scene .pays who k (omega arith) window)
+          expanding-small = omega (arith, base-is, s .can .scene .pays who k (omega arith) window (s .can .here))
 
           pub expanding-can : CanOffer d prices list dist via left target i from (b + q)
           expanding-can = record {
@@ -148,21 +151,30 @@ module _ {d : Day} {places holds first-in next-in prices list dist₀ dist via�
             vias = s .same-v ∙ s .can .vias;
             low = omega (arith, s .from-is, s .can .near);
             base-low = expanding-small;
-            most = s .most;
-            pays = λ j a e.
+            most = s .most target;
+            pays = λ j a e some.
                 let w : In (scope d places n target) who j = record { from = rw i-is at a; to = omega (arith, to, rw i-is at e) } in
                 let best = s .can .scene .sound .accepted .best who j l w in
-                let least = s .can .scene .pays who j (omega arith) w in
+                let least = s .can .scene .pays who j (omega arith) w some in
                 rw i-is (omega (arith, rw here at best, least, base-is));
             prices-row = s .can .prices-row;
             free = s .can .scene .sound .accepted .unsold target (s .can .scene .free);
             from-due = s .can .table .valid .flight i in-table .due-from;
             by-target = rw i-is (omega (arith, window .from, s .can .to));
             shape = s .can .shape;
-            passed = λ j g a e.
-                let w : In (scope d places n target) who j = record { from = rw i-is at a; to = omega (arith, to, rw i-is at e) } in
-                let best = s .can .scene .sound .accepted .best who j l w in
-                rw i-is (omega (arith, rw here at best, base-is, s .passed j g (omega (arith, w .from, s .can .scene .floor who l))));
+            some = s .can .some;
+            passed = λ j g a e. elim (eq? (room-in d j) 0) [
+              | inl none ↦ omega (arith, s .most j, expanding-small, shut-cost (instance d) dear i j none)
+              | inr some ↦
+                  let w : In (scope d places n target) who j = record { from = rw i-is at a; to = omega (arith, to, rw i-is at e) } in
+                  let best = s .can .scene .sound .accepted .best who j l w in
+                  rw i-is (omega (
+                    arith,
+                    rw here at best,
+                    base-is,
+                    s .passed j g (omega (arith, w .from, s .can .scene .floor who l)) (omega arith),
+                  ))
+            ];
           }
 
           pub expanding-offered : {dist₂ via₂ : List ℕ} → length dist₂ ≡ length dist → length via₂ ≡ length via
@@ -175,10 +187,10 @@ module _ {d : Day} {places holds first-in next-in prices list dist₀ dist via�
             upto = omega (arith, newest .before, l);
             there = λ b. newest .there b ∙ here;
             from-is = s .from-is;
-            most = elim (o target) [ inl c ↦ omega (arith, c .less, c .far, s .most) | inr c ↦ omega (arith, c .far, s .most) ];
-            passed = λ j g a. elim (o j) [
-              | inl c ↦ omega (arith, c .less, c .far, s .passed j g a)
-              | inr c ↦ omega (arith, c .far, s .passed j g a)
+            most = λ j. elim (o j) [ inl c ↦ omega (arith, c .less, c .far, s .most j) | inr c ↦ omega (arith, c .far, s .most j) ];
+            passed = λ j g a some. elim (o j) [
+              | inl c ↦ omega (arith, c .less, c .far, s .passed j g a some)
+              | inr c ↦ omega (arith, c .far, s .passed j g a some)
             ];
             keeps = λ rank t a.
                 let g = s .keeps rank t a in
@@ -200,7 +212,7 @@ pub record Finding (d : Day) (places holds first-in next-in prices list dist ran
   pub prices-row : target ≤ length prices + 1
   pub first-is : first ≡ due d (el places n)
   pub so-far : Search (scope d places n target) (landing d places holds) (ofPeriod prices) target dist rank via t 0
-  pub listed : Listed list rank left first target
+  pub listed : Listed (room-in d) list rank left first target
   pub nearest : NearestIn dist list left at
 
 module _ {d : Day} {places holds first-in next-in prices list₀ dist rank via : List ℕ} {n target : ℕ}
@@ -222,14 +234,18 @@ module _ {d : Day} {places holds first-in next-in prices list₀ dist rank via :
       first-at : first ≡ due d (getD places n 0)
       first-at = rw i-is at first-is
 
-      pub find-list : (first ≤ target) × (length list₀ ≡ 98) × (first + (target - first) < 98)
-      find-list = omega (arith, c .listed, first-at, c .scene .before, c .scene .within, c .scene .periods)
+      pub find-list : CanList list₀ first target
+      find-list = record {
+        row = c .listed;
+        before = omega (arith, first-at, c .scene .before);
+        within = omega (arith, c .scene .within, c .scene .periods);
+      }
 
-      module _ {list : List ℕ} (same-list : length list ≡ length list₀) (f : Filled list first (target - first)) where
-        listed : Listed list rank (target - first) first target
-        listed = listed-start rank (same-list ∙ c .listed) (c .no-ranks) (omega (arith, find-list)) (omega (arith, find-list)) f
+      module _ {list : List ℕ} {left : ℕ} (same-list : length list ≡ length list₀) (f : Filled (d .capacities) list first target left) where
+        listed : Listed (room-in d) list rank left first target
+        listed = listed-start rank (same-list ∙ c .listed) (c .no-ranks) (λ k b. places-in d k (omega (arith, c .scene .within))) f
 
-        pub find-offer : CanOffer d prices list dist via (target - first) target i 0 0
+        pub find-offer : CanOffer d prices list dist via left target i 0 0
         find-offer = record {
           few = c .table .valid .periods-to;
           room = find-stands;
@@ -241,15 +257,19 @@ module _ {d : Day} {places holds first-in next-in prices list₀ dist rank via :
           low = omega arith;
           base-low = omega arith;
           most = omega (arith, c .all-far target);
-          pays = λ k a b.
+          pays = λ k a b some.
               let w : In (scope d places n target) n k = record { from = rw i-is at a; to = omega (arith, window-to, rw i-is at b) } in
-              (omega arith, rw i-is (c .scene .pays n k (omega arith) w));
+              (omega arith, rw i-is (c .scene .pays n k (omega arith) w some));
           prices-row = c .prices-row;
           free = c .scene .sound .accepted .unsold target (c .scene .free);
           from-due = c .table .valid .flight i in-day .due-from;
-          by-target = omega (arith, first-is, find-list);
+          by-target = omega (arith, first-is, find-list .before);
           shape = listed .shape;
-          passed = λ j g a b. absurd (omega (arith, listed .gaps j g (omega (arith, first-is)), c .no-ranks j));
+          some = listed-some listed (omega (arith, c .scene .free));
+          passed = λ j g a b. elim (eq? (room-in d j) 0) [
+            | inl none ↦ omega (arith, c .all-far j, shut-cost (instance d) dear i j none)
+            | inr some ↦ absurd (omega (arith, listed .gaps j g (omega (arith, first-is)) (omega arith), c .no-ranks j))
+          ];
         }
 
         module _ (dist₁ via₁ : List ℕ) (same-d : length dist₁ ≡ length dist) (same-v : length via₁ ≡ length via)
@@ -258,11 +278,11 @@ module _ {d : Day} {places holds first-in next-in prices list₀ dist rank via :
           begun = search-start dist dist₁ rank via via₁ (c .scene) window-to (same-d ∙ c .rows .dists) (same-v ∙ c .rows .vias) (c .all-far) (c .no-ranks)
               (c .rows .ranks) (rw i-is at o)
 
-          pub finding-near : CanNear dist₁ list (target - first) target 0
+          pub finding-near : CanNear dist₁ list left target 0
           finding-near = search-near begun (c .scene) (listed .shape) (λ y _. omega arith)
 
-          pub finding-start : {at : ℕ} → NearestIn dist₁ list (target - first) at
-              → Finding d places holds first-in next-in prices list dist₁ rank via₁ n first (target - first) target 0 at
+          pub finding-start : {at : ℕ} → NearestIn dist₁ list left at
+              → Finding d places holds first-in next-in prices list dist₁ rank via₁ n first left target 0 at
           finding-start a = record {
             table = c .table;
             scene = c .scene;
@@ -278,7 +298,7 @@ module _ {d : Day} {places holds first-in next-in prices list₀ dist rank via :
 
 module _ {d : Day} {places holds first-in next-in prices list dist rank via : List ℕ} {n first left target t at : ℕ}
     (s : Finding d places holds first-in next-in prices list dist rank via n first left target t at) where
-  nearest-one : Nearest dist rank first target (el list at)
+  nearest-one : Nearest (room-in d) dist rank first target (el list at)
   nearest-one = listed-nearest (s .listed) (s .nearest)
 
   pub finding-end : left ≤ at → Searched (scope d places n target) (landing d places holds) (ofPeriod prices) target dist rank via
@@ -301,7 +321,7 @@ module _ {d : Day} {places holds first-in next-in prices list dist rank via : Li
     around = rw k-is (reach-next (s .so-far) (s .scene) (s .first-is) nearest-one e)
 
     module _ {list₂ : List ℕ} (same : length list₂ ≡ length list) (r : Removed list list₂ at left) where
-      listed₂ : Listed list₂ (set rank k (t + 1)) (left - 1) first target
+      listed₂ : Listed (room-in d) list₂ (set rank k (t + 1)) (left - 1) first target
       listed₂ = rw k-is (listed-out (s .listed) (set rank (el list at) (t + 1)) t l (set-moved rank (el list at) (t + 1) (reached .3)) same r)
 
       pub finding-expand : CanExpand d places holds first-in next-in prices list₂ dist via n (left - 1) target k
@@ -315,10 +335,12 @@ module _ {d : Day} {places holds first-in next-in prices list dist rank via : Li
         vias = s .so-far .rows .vias;
         to = omega (arith, k-is, reached .0);
         near = rw k-is (reached .4);
-        most = s .so-far .most target;
+        most = s .so-far .most;
         prices-row = s .prices-row;
         shape = listed₂ .shape;
-        passed = λ j g a. around .so-far .near .last j k (listed₂ .gaps j g (omega (arith, s .first-is))) (around .here);
+        here = rw k-is (nearest-one .some e);
+        some = listed-some listed₂ (omega (arith, s .scene .free));
+        passed = λ j g a some. around .so-far .near .last j k (listed₂ .gaps j g (omega (arith, s .first-is)) some) (around .here);
       }
 
       module _ {dist₂ via₂ : List ℕ} (h : Expanded (scope d places n target) (landing d places holds) (ofPeriod prices) target dist dist₂ via via₂ k) where

@@ -8,37 +8,125 @@ use native.Mathlib.Omega.{arith}
 use lib.ListN.{length, set, length-set}
 use Rattle.assignment.proofs.Tests.{eq?, lt?}
 use Rattle.assignment.proofs.Moves.{Moved}
-use Rattle.path.specs.Path.{el, away, InList, Gap, Listed, Filled, Removed, NearestIn, Nearest}
+use Rattle.day.specs.Day.{ofPeriod}
+use Rattle.path.specs.Path.{el, away, InList, Gap, Listed, CanList, Filled, Removed, NearestIn, Nearest}
 use Rattle.path.proofs.Rows.{set-moved}
 
 -- ---- list_periods
 
-pub record Filling (list₀ list : List ℕ) (first left z : ℕ) : Type 0 where
-  pub row : length list₀ ≡ 98
+-- period j stands at a place before `left`
+pub record At (list : List ℕ) (left j : ℕ) : Type 0 where
+  pub place : ℕ
+  pub to : place < left
+  pub is : el list place ≡ j
+
+-- the open periods before k are listed
+pub record Filling (capacities list₀ list : List ℕ) (first target left k : ℕ) : Type 0 where
+  pub can : CanList list₀ first target
   pub same : length list ≡ length list₀
-  pub small : first + left < 98
-  pub done : (y : ℕ) → y < z → el list y ≡ first + y
+  pub from : first + left ≤ k
+  pub to : k ≤ target
+  pub low : (y : ℕ) → y < left → (first ≤ el list y) × (el list y < k)
+  pub rising : (y z : ℕ) → y < z → z < left → el list y < el list z
+  pub some : (y : ℕ) → y < left → 0 < ofPeriod capacities (el list y)
+  pub all : (j : ℕ) → first ≤ j → j < k → 0 < ofPeriod capacities j → At list left j
 
-pub filling-start : {list : List ℕ} {first left : ℕ} → (length list ≡ 98) × (first + left < 98) → Filling list list first left 0
-filling-start c = record { row = c .0; same = refl; small = c .1; done = λ y l. absurd (omega arith) }
+pub filling-start : {capacities list : List ℕ} {first target : ℕ} → CanList list first target → Filling capacities list list first target 0 first
+filling-start c = record {
+  can = c;
+  same = refl;
+  from = omega arith;
+  to = c .before;
+  low = λ y l. absurd (omega arith);
+  rising = λ y z a l. absurd (omega arith);
+  some = λ y l. absurd (omega arith);
+  all = λ j a b _. absurd (omega arith);
+}
 
-module _ {list₀ list : List ℕ} {first left z : ℕ} (s : Filling list₀ list first left z) where
-  pub filling-end : left < z → Filled list first left
-  filling-end l = record { periods = λ y b. s .done y (omega arith) }
+module _ {capacities list₀ list : List ℕ} {first target left k : ℕ} (s : Filling capacities list₀ list first target left k) where
+  pub filling-room : (left < length list) × (left < 98)
+  filling-room = omega (arith, s .from, s .to, s .same, s .can .row, s .can .within)
 
-  module _ (l : z ≤ left) where
-    pub filling-room : (z < length list) × (first + z < 98)
-    filling-room = omega (arith, s .row, s .same, s .small)
+  -- k is stored behind those
+  module _ (v : ℕ) where
+    put-last : Moved (el list) (el (set list left v)) left v
+    put-last = set-moved list left v (filling-room .0)
 
-    pub filling-next : Filling list₀ (set list z (first + z)) first left (z + 1)
-    filling-next =
-        let v = set-moved list z (first + z) (filling-room .0) in
-        record {
-          row = s .row;
-          same = length-set list z (first + z) ∙ s .same;
-          small = s .small;
-          done = λ y b. elim (eq? y z) [ inl e ↦ rw e (v .here) | inr e ↦ v .others y e ∙ s .done y (omega arith) ];
-        }
+    before : (y : ℕ) → y < left → el (set list left v) y ≡ el list y
+    before y l = put-last .others y (omega arith)
+
+    rises : (e : k ≤ v) (y z : ℕ) → y < z → z < left + 1 → el (set list left v) y < el (set list left v) z
+    rises e y z a l = elim (eq? z left) [
+      | inl f ↦ rw (f, put-last .here, before y (omega arith)) (omega (arith, s .low y (omega arith)))
+      | inr f ↦ rw (before y (omega arith), before z (omega arith)) (s .rising y z a (omega arith))
+    ]
+
+  module _ (l : k < target) {c : ℕ} (c-is : c ≡ ofPeriod capacities k) where
+    pub filling-pass : c ≤ 0 → Filling capacities list₀ list first target left (k + 1)
+    filling-pass none = record {
+      can = s .can;
+      same = s .same;
+      from = omega (arith, s .from);
+      to = omega arith;
+      low = λ y b. omega (arith, s .low y b);
+      rising = s .rising;
+      some = s .some;
+      all = λ j a b some. elim (eq? j k) [
+        | inl e ↦ absurd (omega (arith, ap (ofPeriod capacities) e))
+        | inr e ↦ s .all j a (omega arith) some
+      ];
+    }
+
+    pub filling-next : 0 < c → Filling capacities list₀ (set list left k) first target (left + 1) (k + 1)
+    filling-next some = record {
+      can = s .can;
+      same = length-set list left k ∙ s .same;
+      from = omega (arith, s .from);
+      to = omega arith;
+      low = λ y b. elim (eq? y left) [
+        | inl e ↦ rw (e, put-last k .here) (omega (arith, s .from))
+        | inr e ↦ rw (before k y (omega arith)) (omega (arith, s .low y (omega arith)))
+      ];
+      rising = rises k (omega arith);
+      some = λ y b. elim (eq? y left) [
+        | inl e ↦ rw (e, put-last k .here) (omega arith)
+        | inr e ↦ rw (before k y (omega arith)) (s .some y (omega arith))
+      ];
+      all = λ j a b open-j. elim (eq? j k) [
+        | inl e ↦ record { place = left; to = omega arith; is = put-last k .here ∙ sym e }
+        | inr e ↦
+            let p = s .all j a (omega arith) open-j in
+            record { place = p .place; to = omega (arith, p .to); is = before k (p .place) (p .to) ∙ p .is }
+      ];
+    }
+
+  pub filling-end : target ≤ k → Filled capacities (set list left target) first target left
+  filling-end l = record {
+    short = filling-room .1;
+    ends = put-last target .here;
+    rising = λ y z a b. rises target (s .to) y z a (omega arith);
+    low = λ y b. elim (eq? y left) [
+      | inl e ↦ rw (e, put-last target .here) (s .can .before)
+      | inr e ↦ rw (before target y (omega arith)) (s .low y (omega arith) .0)
+    ];
+    some = λ y b. rw (before target y b) (s .some y b);
+    gaps = λ j g from. elim (eq? (ofPeriod capacities j) 0) [
+      | inl none ↦ none
+      | inr some ↦ absurd (not-in j g (s .all j from (below j g) (omega arith)))
+    ];
+  }
+    where
+      up : (y z : ℕ) → y ≤ z → z ≤ left → el (set list left target) y ≤ el (set list left target) z
+      up y z a b = elim (eq? y z) [ inl e ↦ rw e (omega arith) | inr e ↦ omega (arith, rises target (s .to) y z (omega arith) (omega arith)) ]
+
+      below : (j : ℕ) → Gap (set list left target) left j → j < k
+      below j g = omega (arith, g .below, up (g .place) left (g .to) (omega arith), put-last target .here, l)
+
+      not-in : (j : ℕ) → Gap (set list left target) left j → At list left j → ⊥
+      not-in j g p = elim (lt? (p .place) (g .place)) [
+        | inl a ↦ omega (arith, g .above (p .place) a, before target (p .place) (p .to), p .is)
+        | inr a ↦ omega (arith, g .below, up (g .place) (p .place) a (omega (arith, p .to)), before target (p .place) (p .to), p .is)
+      ]
 
 -- ---- take_out
 
@@ -130,23 +218,27 @@ module _ {list : List ℕ} {left target : ℕ} (o : InList list left target) whe
     | inr q ↦ elim q [ inl g ↦ inr g | inr up ↦ absurd (omega (arith, up left (omega arith), o .ends)) ]
   ]
 
-module _ {list rank : List ℕ} {left first target : ℕ} (s : Listed list rank left first target) where
+module _ {cap : ℕ → ℕ} {list rank : List ℕ} {left first target : ℕ} (s : Listed cap list rank left first target) where
   -- the nearest of the list is the nearest of all that are not reached
-  pub listed-nearest : {dist : List ℕ} {at : ℕ} → NearestIn dist list left at → Nearest dist rank first target (el list at)
+  pub listed-nearest : {dist : List ℕ} {at : ℕ} → NearestIn dist list left at → Nearest cap dist rank first target (el list at)
   listed-nearest {dist} {at} h = record {
     from = s .low at (h .to);
     to = list-to (s .shape) at (h .to);
     fresh = λ e. s .fresh at (before e);
     nearer = λ e. rw (s .shape .ends) at (h .nearer (before e));
-    least = λ j a b none. elim (place-or-gap (s .shape) j (omega arith)) [
+    some = λ e. s .some at (before e);
+    least = λ j a b open-j none. elim (place-or-gap (s .shape) j (omega arith)) [
       | inl p ↦ rw (p .is) at (h .least (p .place) (p .to))
-      | inr g ↦ absurd (omega (arith, s .gaps j g a))
+      | inr g ↦ absurd (omega (arith, s .gaps j g a open-j))
     ];
     target-least = rw (s .shape .ends) at (h .least left (omega arith));
   }
     where
       before : el list at ≢ target → at < left
       before e = elim (eq? at left) [ inl f ↦ absurd (e (ap (el list) f ∙ s .shape .ends)) | inr f ↦ omega (arith, h .to) ]
+
+  pub listed-some : 0 < cap target → (y : ℕ) → y ≤ left → 0 < cap (el list y)
+  listed-some free y l = elim (eq? y left) [ inl e ↦ rw (e, s .shape .ends) free | inr e ↦ s .some y (omega arith) ]
 
   pub listed-last : {at : ℕ} → at ≤ left → left ≤ at → el list at ≡ target
   listed-last {at} a b = let e : at ≡ left = omega arith in ap (el list) e ∙ s .shape .ends
@@ -219,7 +311,7 @@ module _ {list rank : List ℕ} {left first target : ℕ} (s : Listed list rank 
             back : (z : ℕ) → 0 < z → (z - 1) + 1 ≡ z
             back z pos = omega arith
 
-    pub listed-out : Listed list₂ rank₂ (left - 1) first target
+    pub listed-out : Listed cap list₂ rank₂ (left - 1) first target
     listed-out = record {
       shape = out-shape;
       low = λ y b. elim (lt? y at) [
@@ -230,33 +322,27 @@ module _ {list rank : List ℕ} {left first target : ℕ} (s : Listed list rank 
         | inl c ↦ rw (h .before y c) (still y (omega arith) (omega arith))
         | inr c ↦ rw (h .behind y c (omega arith)) (still (y + 1) (omega arith) (omega arith))
       ];
-      gaps = λ j g from. elim (eq? j (el list at)) [
+      some = λ y b. elim (lt? y at) [
+        | inl c ↦ rw (h .before y c) (s .some y (omega arith))
+        | inr c ↦ rw (h .behind y c (omega arith)) (s .some (y + 1) (omega arith))
+      ];
+      gaps = λ j g from open-j. elim (eq? j (el list at)) [
         | inl e ↦ rw e (omega (arith, v .here))
-        | inr e ↦ omega (arith, v .others j e, s .gaps j (gap j g e) from)
+        | inr e ↦ omega (arith, v .others j e, s .gaps j (gap j g e) from open-j)
       ];
     }
 
--- the list at the start has every period
-module _ {list : List ℕ} (rank : List ℕ) {left first target : ℕ} (row : length list ≡ 98) (none : (k : ℕ) → el rank k ≡ 0) (is : first + left ≡ target)
-    (within : target < 98) (h : Filled list first left) where
-  start-shape : InList list left target
-  start-shape = record {
-    row = row;
-    short = omega arith;
-    ends = h .periods left (omega arith) ∙ is;
-    rising = λ y z a b. omega (arith, h .periods y (omega arith), h .periods z b);
-  }
-
-  pub no-gap : (j : ℕ) → Gap list left j → first ≤ j → ⊥
-  no-gap j g from = elim (lt? 0 (g .place)) [
-    | inr b ↦ omega (arith, g .below, h .periods (g .place) (g .to))
-    | inl b ↦ omega (arith, g .below, h .periods (g .place) (g .to), g .above (g .place - 1) (omega arith), h .periods (g .place - 1) (omega (arith, g .to)))
-  ]
-
-  pub listed-start : Listed list rank left first target
-  listed-start = record {
-    shape = start-shape;
-    low = λ y b. omega (arith, h .periods y b);
-    fresh = λ y _. none (el list y);
-    gaps = λ j g from. absurd (no-gap j g from);
-  }
+-- the list at the start has every open period
+pub listed-start : {cap : ℕ → ℕ} {capacities list : List ℕ} (rank : List ℕ) {left first target : ℕ} → length list ≡ 98
+    → ((k : ℕ) → el rank k ≡ 0) → ((k : ℕ) → k < target → cap k ≡ ofPeriod capacities k) → Filled capacities list first target left
+    → Listed cap list rank left first target
+listed-start {cap} {capacities} {list} rank {left} {first} {target} row none same h = record {
+  shape = shape;
+  low = h .low;
+  fresh = λ y _. none (el list y);
+  some = λ y b. omega (arith, h .some y b, same (el list y) (list-before shape y b));
+  gaps = λ j g from some. absurd (omega (arith, h .gaps j g from, same j (omega (arith, g .below, list-to shape (g .place) (g .to)))));
+}
+  where
+    shape : InList list left target
+    shape = record { row = row; short = h .short; ends = h .ends; rising = h .rising }

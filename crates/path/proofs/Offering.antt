@@ -11,8 +11,10 @@ use Rattle.assignment.proofs.Tests.{lt?, eq?}
 use Rattle.assignment.proofs.Moves.{Moved}
 use Rattle.assignment.proofs.Near.{Took, Kept}
 use Rattle.day.specs.Day.{Day, due, rate, after, jump, latest, ofPeriod, holdCost, cost}
+use Rattle.assignment.proofs.Closed.{opened, open-cost}
 use Rattle.day.proofs.Costs.{cost-rises, period-in}
-use Rattle.path.specs.Path.{el, far, away, dearest, payment, Nearer, CanOffer, Offers}
+use Rattle.day.proofs.Instance.{instance}
+use Rattle.path.specs.Path.{el, far, away, dearest, dear, payment, Nearer, CanOffer, Offers}
 use Rattle.path.proofs.Rows.{set-moved, away-moved, as-read}
 use Rattle.path.proofs.Listing.{list-to, list-before}
 
@@ -136,6 +138,10 @@ module _ {d : Day} {prices list dist₀ dist via₀ via : List ℕ} {left target
       due-by : due d i ≤ el list z
       due-by = omega (arith, n .due-is)
 
+      -- the period is open
+      at-cost : opened (instance d) dear .cost i (el list z) ≡ cost d i (el list z - due d i)
+      at-cost = open-cost (instance d) dear i (el list z) (s .can .some z l)
+
       in-window : el list z ≤ min (latest d i) target
       in-window = omega (arith, n .last-is, list-to (s .can .shape) z l)
 
@@ -159,7 +165,7 @@ module _ {d : Day} {prices list dist₀ dist via₀ via : List ℕ} {left target
 
       module _ {r : ℕ} (r-is : r ≡ cost d i (el list z - due d i)) where
         pub offering-reach : from + r ≤ 99 * dearest
-        offering-reach = omega (arith, r-is, s .can .pays (el list z) due-by in-window, s .can .low)
+        offering-reach = omega (arith, r-is, s .can .pays (el list z) due-by in-window (s .can .some z l), at-cost, s .can .low)
 
         -- costs rise
         pub offering-stop : goal ≤ from + r → Offers d prices target i who from base dist₀ dist via₀ via
@@ -167,11 +173,11 @@ module _ {d : Day} {prices list dist₀ dist via₀ via : List ℕ} {left target
 
         module _ {q : ℕ} (q-is : q ≡ ofPeriod prices (el list z)) where
           pub offering-small : (base ≤ (from + r) + q) × ((from + r) + q ≤ 99 * dearest)
-          offering-small = omega (arith, r-is, q-is, s .can .pays (el list z) due-by in-window, s .can .low)
+          offering-small = omega (arith, r-is, q-is, s .can .pays (el list z) due-by in-window (s .can .some z l), at-cost, s .can .low)
 
           module _ {v : ℕ} (v-is : v ≡ ((from + r) + q) - base) where
             keeps : away dist (el list z) ≤ v → Offering d prices list dist₀ dist via₀ via left target i who from base goal (z + 1)
-            keeps h = kept (λ _ _. omega (arith, here-rest .0, v-is, r-is, q-is, offering-small))
+            keeps h = kept (λ _ _. omega (arith, here-rest .0, v-is, r-is, q-is, at-cost, offering-small))
 
             takes : v < away dist (el list z)
                 → Offering d prices list dist₀ (set dist (el list z) v) via₀ (set via (el list z) who) left target i who from base goal (z + 1)
@@ -184,8 +190,8 @@ module _ {d : Day} {prices list dist₀ dist via₀ via : List ℕ} {left target
                 | inl e ↦ rw e (inl (record {
                   from-lo = due-by;
                   to-hi = in-window;
-                  less = omega (arith, here-rest .0, v-is, r-is, q-is, offering-small);
-                  far = omega (arith, m .here, v-is, r-is, q-is, offering-small);
+                  less = omega (arith, here-rest .0, v-is, r-is, q-is, at-cost, offering-small);
+                  far = omega (arith, m .here, v-is, r-is, q-is, at-cost, offering-small);
                   by = u .here;
                 }))
                 | inr e ↦ elim (others-done j e b) [

@@ -1,22 +1,35 @@
 -- The steps of the search: it starts with what the new flight offers, reaches the nearest period, hears the flights that land there, and ends
 -- at the target. Where the target were far, a stretch before it would be short.
 -- Assumes nothing.
-use mathlib.Core.Path.{_≡_, refl, _∙_}
-use mathlib.Core.Logic.{inl, inr, _≢_}
-use mathlib.Core.Bool.{Bool}
+use mathlib.Core.Path.{_≡_, refl, ap, _∙_}
+use mathlib.Core.Logic.{_⊎_, inl, inr, _≢_}
+use mathlib.Core.Bool.{Bool, true, false, _&&_, _||_}
 use mathlib.Core.List.{List}
 use Prim.Native.Nat.{ℕ, _+_, _*_, _≤_, _<_}
 use native.Mathlib.Omega.{arith}
-use lib.Dec.{T, ltb, ltb→lt, lt→ltb}
+use lib.Dec.{T, leb, ltb, eqb, leb→le, le→leb, ltb→lt, lt→ltb, eqb→eq, eqb-refl}
 use lib.ListN.{length, set, length-set}
 use Rattle.assignment.specs.Assignment.{Instance, In}
-use Rattle.assignment.proofs.Tests.{eq?, lt?, gate-eq, gate-ne}
+use Rattle.assignment.proofs.Tests.{eq?, lt?, gate-eq, gate-ne, and-T, T-and}
 use Rattle.assignment.proofs.Sums.{count-move, count-member, count-all}
 use Rattle.assignment.proofs.Moves.{Moved}
-use Rattle.assignment.proofs.Near.{Offered, near-start, near-reach, near-pass, near-offer, offer-kept, offer-falls}
+use Rattle.assignment.proofs.Closed.{lands-open}
+use Rattle.assignment.proofs.Near.{Took, Offered, near-start, near-reach, near-pass, near-offer, offer-kept, offer-falls}
 use Rattle.assignment.proofs.Stuck.{Stuck, stuck-is-short}
 use Rattle.path.specs.Path.{el, far, away, dearest, InList, Scene, Search, Around, CanNear, Nearest, Searched}
 use Rattle.path.proofs.Rows.{set-moved}
+
+or-left : (a b : Bool) → T a → T (a || b)
+or-left true b t = t
+or-left false b t = absurd t
+
+or-right : (a b : Bool) → T b → T (a || b)
+or-right true b t = tt
+or-right false b t = t
+
+or-T : (a b : Bool) → T (a || b) → T a ⊎ T b
+or-T true b t = inl t
+or-T false b t = inr t
 
 -- ---- the start
 
@@ -27,14 +40,30 @@ module _ {d : Instance} {x p : ℕ → ℕ} {target : ℕ} (dist₀ dist rank vi
   fits : (k : ℕ) → d .lo (d .n) ≤ k → k ≤ hi → In d (d .n) k
   fits k a b = record { from = a; to = omega arith }
 
-  small : (k : ℕ) → In d (d .n) k → d .cost (d .n) k + p k ≤ dearest
-  small k w = scene .pays (d .n) k (omega arith) w
+  small : (k : ℕ) → In d (d .n) k → 0 < d .cap k → d .cost (d .n) k + p k ≤ dearest
+  small k w some = scene .pays (d .n) k (omega arith) w some
 
-  -- a period of the window is no longer far
-  heard : (k : ℕ) → In d (d .n) k → (away dist k ≡ d .cost (d .n) k + p k) × (el via k ≡ d .n)
-  heard k w = elim (o k) [
+  -- an open period of the window is no longer far
+  heard : (k : ℕ) → In d (d .n) k → 0 < d .cap k → (away dist k ≡ d .cost (d .n) k + p k) × (el via k ≡ d .n)
+  heard k w some = elim (o k) [
     | inl c ↦ (omega (arith, c .far), c .by)
-    | inr e ↦ absurd (omega (arith, e .no-nearer (w .from) (omega (arith, w .to)), small k w, far-first k, far-first target))
+    | inr e ↦ absurd (omega (arith, e .no-nearer (w .from) (omega (arith, w .to)), small k w some, far-first k, far-first target))
+  ]
+
+  most : (k : ℕ) → away dist k ≤ far
+  most k = elim (o k) [
+    | inl c ↦ omega (arith, c .less, c .far, far-first k)
+    | inr e ↦ omega (arith, e .far, far-first k)
+  ]
+
+  -- what is near was heard, and is open
+  near-open : (k : ℕ) → away dist k < far → 0 < d .cap k
+  near-open k near = elim (eq? (d .cap k) 0) [
+    | inr some ↦ omega arith
+    | inl none ↦ absurd (elim (o k) [
+      | inl c ↦ omega (arith, c .far, scene .shut (d .n) k none)
+      | inr e ↦ omega (arith, e .far, far-first k)
+    ])
   ]
 
   near-in : (k : ℕ) → away dist k < far → In d (d .n) k
@@ -47,17 +76,21 @@ module _ {d : Instance} {x p : ℕ → ℕ} {target : ℕ} (dist₀ dist rank vi
   search-start = record {
     rows = record { dists = dists; ranks = ranks; vias = vias };
     root = away dist;
-    rooted = λ k near. let w = near-in k near in (w, heard k w .0);
-    reach = λ k w. omega (arith, heard k w .0);
-    near = near-start (record { window = scene .sound .accepted .legal .window; best = scene .sound .accepted .best }) (λ _. refl)
-        (λ k w _. heard k w .1) fresh;
-    most = λ k. elim (o k) [
-      | inl c ↦ omega (arith, c .less, c .far, far-first k)
-      | inr e ↦ omega (arith, e .far, far-first k)
+    rooted = λ k near. let w = near-in k near in (w, heard k w (near-open k near) .0);
+    reach = λ k w. elim (eq? (d .cap k) 0) [
+      | inl none ↦ omega (arith, most k, scene .shut (d .n) k none)
+      | inr some ↦ omega (arith, heard k w (omega arith) .0)
     ];
+    near = near-start (record { window = scene .sound .accepted .legal .window; best = scene .sound .accepted .best }) (λ _. refl)
+        (λ k w pays. elim (eq? (d .cap k) 0) [
+          | inl none ↦ absurd (omega (arith, most k, pays, scene .shut (d .n) k none))
+          | inr some ↦ heard k w (omega arith) .1
+        ]) fresh;
+    most = most;
     inside = λ k near.
         let w = near-in k near in
-        omega (arith, w .from, w .to, scene .ceiling (d .n) (omega arith) (scene .before), heard k w .0, small k w);
+        let some = near-open k near in
+        omega (arith, w .from, w .to, scene .ceiling (d .n) (omega arith) (scene .before), heard k w some .0, small k w some, some);
     reached = λ k some. absurd (omega (arith, fresh k));
     zeros = omega (arith, count-all 98 0 (el rank) fresh);
   }
@@ -70,14 +103,14 @@ module _ {d : Instance} {x p : ℕ → ℕ} {target : ℕ} {dist rank via : List
       → CanNear dist list left target level
   search-near o low = record { dists = s .rows .dists; shape = o; within = omega (arith, scene .within, scene .periods); low = low }
 
-  module _ {first k : ℕ} (first-is : first ≡ d .lo (d .n)) (a : Nearest dist rank first target k) where
+  module _ {first k : ℕ} (first-is : first ≡ d .lo (d .n)) (a : Nearest (d .cap) dist rank first target k) where
     -- nothing that is not reached is nearer
     nearest-least : (j : ℕ) → el rank j ≡ 0 → away dist k ≤ away dist j
     nearest-least j none = elim (lt? (away dist j) far) [
       | inr out ↦ omega (arith, a .target-least, s .most target)
       | inl near ↦ elim (eq? j target) [
         | inl e ↦ rw e (a .target-least)
-        | inr e ↦ a .least j (omega (arith, s .inside j near)) (omega (arith, s .inside j near)) none
+        | inr e ↦ a .least j (omega (arith, s .inside j near)) (omega (arith, s .inside j near)) (s .inside j near .3) none
       ]
     ]
 
@@ -97,7 +130,7 @@ module _ {d : Instance} {x p : ℕ → ℕ} {target : ℕ} {dist rank via : List
           reach = s .reach;
           near = near-reach (s .near) refl (a .fresh e) nearest-least v;
           most = s .most;
-          inside = λ j near. omega (arith, s .inside j near);
+          inside = λ j near. let b = s .inside j near in omega (arith, b);
           reached = λ j some. elim (eq? j k) [
             | inl f ↦ rw f (omega (arith, reach-in .0, a .from, s .inside k (omega (arith, a .nearer e, s .most target))))
             | inr f ↦ omega (arith, s .reached j (omega (arith, v .others j f)))
@@ -124,37 +157,79 @@ module _ {d : Instance} {x p : ℕ → ℕ} {target : ℕ} {dist rank via : List
       least : (j : ℕ) → el rank j ≡ 0 → away dist target ≤ away dist j
       least j none = rw e at (nearest-least j none)
 
+      -- reached, or closed
       r : ℕ → Bool
-      r j = ltb 0 (el rank j)
+      r j = ltb 0 (el rank j) || (eqb (d .cap j) 0 && (leb (d .lo (d .n)) j && ltb j target))
 
-      -- with the target far, whatever is near is reached
-      near-is-reached : far ≤ away dist target → (j : ℕ) → away dist j < far → T (r j)
+      reached-in : (j : ℕ) → 0 < el rank j → T (r j)
       unfolding r
-      near-is-reached out j near = elim (lt? 0 (el rank j)) [
-        | inl some ↦ lt→ltb 0 (el rank j) some
-        | inr none ↦ absurd (omega (arith, least j (omega arith)))
+      reached-in j some = or-left (ltb 0 (el rank j)) _ (lt→ltb 0 (el rank j) some)
+
+      closed-in : (j : ℕ) → d .cap j ≡ 0 → d .lo (d .n) ≤ j → j < target → T (r j)
+      unfolding r
+      closed-in j none a b = or-right (ltb 0 (el rank j)) _
+          (T-and (eqb (d .cap j) 0) _ (rw none (eqb-refl 0)) (T-and (leb (d .lo (d .n)) j) _ (le→leb (d .lo (d .n)) j a) (lt→ltb j target b)))
+
+      -- both lie before the target and are full
+      in-range : (j : ℕ) → T (r j) → (d .lo (d .n) ≤ j) × (j < target) × ((0 < el rank j) ⊎ (d .cap j ≡ 0))
+      unfolding r
+      in-range j t = elim (or-T (ltb 0 (el rank j)) _ t) [
+        | inl some ↦ let b = s .reached j (ltb→lt 0 (el rank j) some) in (b .0, b .1, inl (ltb→lt 0 (el rank j) some))
+        | inr shut ↦
+            let c = and-T (eqb (d .cap j) 0) _ shut in
+            let b = and-T (leb (d .lo (d .n)) j) _ (c .1) in
+            (leb→le (d .lo (d .n)) j (b .0), ltb→lt j target (b .1), inr (eqb→eq (d .cap j) 0 (c .0)))
       ]
 
+      -- with the target far, whatever of a window is open and near is reached
+      in-window : far ≤ away dist target → (i j : ℕ) → i ≤ d .n → In d i j → d .lo i ≤ target → (0 < d .cap j → away dist j < far) → T (r j)
+      in-window out i j l w low near = elim (eq? (d .cap j) 0) [
+        | inl none ↦ closed-in j none (omega (arith, w .from, floor)) (before none)
+        | inr some ↦ elim (lt? 0 (el rank j)) [
+          | inl done ↦ reached-in j done
+          | inr fresh ↦ absurd (omega (arith, least j (omega arith), near (omega arith)))
+        ]
+      ]
+        where
+          floor : d .lo (d .n) ≤ d .lo i
+          floor = elim (eq? i (d .n)) [ inl e ↦ rw e (omega arith) | inr e ↦ scene .floor i (omega arith) ]
+
+          before : d .cap j ≡ 0 → j < target
+          before none = elim (eq? j target) [
+            | inl e ↦ absurd (omega (arith, scene .free, ap (d .cap) e))
+            | inr e ↦ omega (arith, w .to, scene .ceiling i l low)
+          ]
+
       stuck : far ≤ away dist target → Stuck d x r
-      unfolding r
       stuck out = record {
         window = scene .sound .accepted .legal .window;
-        within = λ j t. omega (arith, s .reached j (ltb→lt 0 (el rank j) t), scene .from, scene .within);
-        full = λ j t. let b = s .reached j (ltb→lt 0 (el rank j) t) in scene .full j (b .0) (b .1);
+        within = λ j t. omega (arith, in-range j t, scene .from, scene .within);
+        full = λ j t. let b = in-range j t in scene .full j (b .0) (b .1);
         closed = λ i j l t w.
-            let some = ltb→lt 0 (el rank (x i)) t in
-            near-is-reached out j (omega (arith, out, s .near .near i j l w some (inr (omega arith)), s .reached (x i) some, scene .pays i j (omega arith) w, s .zeros));
-        new = λ j w. near-is-reached out j (omega (arith, s .near .low j, s .reach j w, scene .pays (d .n) j (omega arith) w));
+            let b = in-range (x i) t in
+            let low = scene .sound .accepted .legal .window i l .from in
+            elim (b .2) [
+              | inr none ↦ absurd (omega (arith, none, lands-open (scene .sound .accepted .legal) i l))
+              | inl some ↦ in-window out i j (omega arith) w (omega (arith, low, b .1)) (λ open-j. omega (
+                arith,
+                out,
+                s .near .near i j l w some (inr (omega arith)),
+                s .reached (x i) some,
+                scene .pays i j (omega arith) w open-j,
+                s .zeros,
+              ))
+            ];
+        new = λ j w. in-window out (d .n) j (omega arith) w (scene .before)
+            (λ open-j. omega (arith, s .near .low j, s .reach j w, scene .pays (d .n) j (omega arith) w open-j));
         some = scene .some;
       }
 
       not-far : away dist target < far
-      unfolding r
       not-far = elim (lt? (away dist target) far) [
         | inl near ↦ near
         | inr out ↦
             let h = stuck-is-short (stuck out) in
-            let last = s .reached (h .b) (ltb→lt 0 (el rank (h .b)) (h .inside (h .b) (h .stretch) (omega arith))) in
+            let last = in-range (h .b) (h .inside (h .b) (h .stretch) (omega arith)) in
             absurd (scene .none-short (h .a) (h .b) (h .from) (h .stretch) (last .1) (h .short))
       ]
 
@@ -203,6 +278,20 @@ module _ {d : Instance} {x p : ℕ → ℕ} {target : ℕ} {dist rank via : List
     at-home : (d .lo m ≤ k) × (k < target)
     at-home = (rw lands at (scene .sound .accepted .legal .window m l .from), s .so-far .reached k (omega (arith, s .here, s .some)) .1)
 
+    -- nobody goes to a closed period
+    taken-open : (j : ℕ) → Took (d .lo m) hi (λ k. d .cost m k + p k) m from base (away dist) (away dist₂) (el via₂) j → 0 < d .cap j
+    taken-open j c = elim (eq? (d .cap j) 0) [
+      | inr some ↦ omega arith
+      | inl none ↦ absurd (omega (
+        arith,
+        c .less,
+        scene .shut m j none,
+        s .so-far .most j,
+        base-x,
+        scene .pays m (x m) (omega arith) (scene .sound .accepted .legal .window m l) (lands-open (scene .sound .accepted .legal) m l),
+      ))
+    ]
+
     pub around-offered : Around d x p target dist₂ rank via₂ t k m
     around-offered = record {
       so-far = record {
@@ -213,8 +302,8 @@ module _ {d : Instance} {x p : ℕ → ℕ} {target : ℕ} {dist rank via : List
         near = near-offer (s .so-far .near) l (s .some) here to from-x base-x o;
         most = λ j. omega (arith, offer-falls (s .so-far .near) l (s .some) here to from-x base-x o j, s .so-far .most j);
         inside = λ j near. elim (o j) [
-          | inr f ↦ omega (arith, f .far, s .so-far .inside j (omega (arith, f .far)))
-          | inl c ↦ omega (
+          | inr f ↦ let b = s .so-far .inside j (omega (arith, f .far)) in omega (arith, f .far, b)
+          | inl c ↦ let some = taken-open j c in omega (
             arith,
             c .from-lo,
             c .to-hi,
@@ -222,7 +311,8 @@ module _ {d : Instance} {x p : ℕ → ℕ} {target : ℕ} {dist rank via : List
             scene .floor m l,
             scene .ceiling m (omega arith) (omega (arith, at-home)),
             c .far,
-            scene .pays m j (omega arith) (record { from = c .from-lo; to = omega (arith, c .to-hi) }),
+            scene .pays m j (omega arith) (record { from = c .from-lo; to = omega (arith, c .to-hi) }) some,
+            some,
             from-is,
             s .so-far .reached k (omega (arith, s .here, s .some)),
           )

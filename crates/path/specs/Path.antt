@@ -10,6 +10,7 @@ use Rattle.assignment.specs.Assignment.{Instance, In, Short}
 use Rattle.assignment.proofs.Near.{Near, Offered}
 use Rattle.assignment.proofs.Insertion.{Sound, grown}
 use Rattle.assignment.proofs.Permuted.{Permuted, ordered}
+use Rattle.assignment.proofs.Closed.{opened}
 use Rattle.assignment.proofs.Restricted.{restricted}
 use Rattle.day.specs.Day.{Day, width, P, N, ofPeriod, due, rate, jump, cost, latest, land}
 use Rattle.day.proofs.Valid.{Valid}
@@ -29,9 +30,21 @@ away dist k = getD dist k far
 abbrev pub dearest : ℕ
 dearest = 5000000000
 
--- the flights at the first n places, none of which is to land beyond the target
+-- what a landing in a closed period costs more in a search, which leaves such periods out
+abbrev pub dear : ℕ
+dear = far + dearest
+
+-- how many may land in period k
+abbrev pub room-in : Day → ℕ → ℕ
+room-in d k = instance d .cap k
+
+-- the flights at the first n places
+abbrev pub begun : Day → List ℕ → ℕ → Instance
+begun d places n = opened (ordered (instance d) (el places) n) dear
+
+-- none of them is to land beyond the target
 abbrev pub scope : Day → List ℕ → ℕ → ℕ → Instance
-scope d places n target = restricted (ordered (instance d) (el places) n) target
+scope d places n target = restricted (begun d places n) target
 
 -- where the flight at place s lands
 abbrev pub landing : Day → List ℕ → List ℕ → ℕ → ℕ
@@ -39,7 +52,7 @@ landing d places holds s = land d holds (el places s)
 
 -- what a flight pays in period k
 abbrev pub payment : Day → List ℕ → ℕ → ℕ → ℕ
-payment d prices i k = cost d i (k - due d i) + ofPeriod prices k
+payment d prices i k = opened (instance d) dear .cost i k + ofPeriod prices k
 
 -- a day that passes the check, and a row in which each of its table places stands once
 pub record Table (d : Day) (places : List ℕ) : Type 0 where
@@ -65,7 +78,8 @@ pub record Chained (x : ℕ → ℕ) (first-in next-in : List ℕ) (n : ℕ) : T
 pub record Scene (d : Instance) (x p : ℕ → ℕ) (target : ℕ) : Type 0 where
   pub sound : Sound d x p
   pub periods : d .m ≤ 98
-  pub pays : (i k : ℕ) → i ≤ d .n → In d i k → d .cost i k + p k ≤ dearest
+  pub pays : (i k : ℕ) → i ≤ d .n → In d i k → 0 < d .cap k → d .cost i k + p k ≤ dearest
+  pub shut : (i k : ℕ) → d .cap k ≡ 0 → dear ≤ d .cost i k
   pub floor : (i : ℕ) → i < d .n → d .lo (d .n) ≤ d .lo i
   pub ceiling : (i : ℕ) → i ≤ d .n → d .lo i ≤ target → d .hi i ≤ target
   pub from : 1 ≤ d .lo (d .n)
@@ -90,7 +104,7 @@ pub record Search (d : Instance) (x p : ℕ → ℕ) (target : ℕ) (dist rank v
   pub reach : (k : ℕ) → In d (d .n) k → root k ≤ d .cost (d .n) k + p k
   pub near : Near d x p root (away dist) (el rank) (el via) target t m
   pub most : (k : ℕ) → away dist k ≤ far
-  pub inside : (k : ℕ) → away dist k < far → (d .lo (d .n) ≤ k) × (k ≤ target) × (away dist k ≤ (t + 1) * dearest)
+  pub inside : (k : ℕ) → away dist k < far → (d .lo (d .n) ≤ k) × (k ≤ target) × (away dist k ≤ (t + 1) * dearest) × (0 < d .cap k)
   pub reached : (k : ℕ) → 0 < el rank k → (d .lo (d .n) ≤ k) × (k < target) × (away dist k ≤ t * dearest)
   pub zeros : t + count 98 (el rank) 0 ≡ 98
 
@@ -117,16 +131,27 @@ pub record Gap (list : List ℕ) (left j : ℕ) : Type 0 where
   pub below : j < el list place
   pub above : (z : ℕ) → z < place → el list z < j
 
--- from the first period on, the list has the target and what is not reached
-pub record Listed (list rank : List ℕ) (left first target : ℕ) : Type 0 where
+-- from the first period on, the list has the target and what is open and not reached
+pub record Listed (cap : ℕ → ℕ) (list rank : List ℕ) (left first target : ℕ) : Type 0 where
   pub shape : InList list left target
   pub low : (y : ℕ) → y ≤ left → first ≤ el list y
   pub fresh : (y : ℕ) → y < left → el rank (el list y) ≡ 0
-  pub gaps : (j : ℕ) → Gap list left j → first ≤ j → 0 < el rank j
+  pub some : (y : ℕ) → y < left → 0 < cap (el list y)
+  pub gaps : (j : ℕ) → Gap list left j → first ≤ j → 0 < cap j → 0 < el rank j
 
--- all periods from first to the target
-pub record Filled (list : List ℕ) (first left : ℕ) : Type 0 where
-  pub periods : (z : ℕ) → z ≤ left → el list z ≡ first + z
+pub record CanList (list : List ℕ) (first target : ℕ) : Type 0 where
+  pub row : length list ≡ 98
+  pub before : first ≤ target
+  pub within : target < 98
+
+-- the open periods from first on, and the target
+pub record Filled (capacities list : List ℕ) (first target left : ℕ) : Type 0 where
+  pub short : left < 98
+  pub ends : el list left ≡ target
+  pub rising : (y z : ℕ) → y < z → z ≤ left → el list y < el list z
+  pub low : (y : ℕ) → y ≤ left → first ≤ el list y
+  pub some : (y : ℕ) → y < left → 0 < ofPeriod capacities (el list y)
+  pub gaps : (j : ℕ) → Gap list left j → first ≤ j → ofPeriod capacities j ≡ 0
 
 -- the period at place `at` is taken out, and those behind it move up
 pub record Removed (list list₂ : List ℕ) (at left : ℕ) : Type 0 where
@@ -148,13 +173,14 @@ pub record NearestIn (dist list : List ℕ) (left at : ℕ) : Type 0 where
   pub nearer : at < left → away dist (el list at) < away dist (el list left)
   pub least : (y : ℕ) → y ≤ left → away dist (el list at) ≤ away dist (el list y)
 
--- k is the nearest period of first .. target that is not reached
-pub record Nearest (dist rank : List ℕ) (first target k : ℕ) : Type 0 where
+-- k is the nearest open period of first .. target that is not reached
+pub record Nearest (cap : ℕ → ℕ) (dist rank : List ℕ) (first target k : ℕ) : Type 0 where
   pub from : first ≤ k
   pub to : k ≤ target
   pub fresh : k ≢ target → el rank k ≡ 0
   pub nearer : k ≢ target → away dist k < away dist target
-  pub least : (j : ℕ) → first ≤ j → j < target → el rank j ≡ 0 → away dist k ≤ away dist j
+  pub some : k ≢ target → 0 < cap k
+  pub least : (j : ℕ) → first ≤ j → j < target → 0 < cap j → el rank j ≡ 0 → away dist k ≤ away dist j
   pub target-least : away dist k ≤ away dist target
 
 -- period k comes to the distance v by way of `who`, if that is nearer
@@ -174,12 +200,14 @@ pub record CanOffer (d : Day) (prices list dist via : List ℕ) (left target i f
   pub low : from ≤ 98 * dearest
   pub base-low : base ≤ dearest
   pub most : away dist target ≤ far
-  pub pays : (k : ℕ) → due d i ≤ k → k ≤ min (latest d i) target → (base ≤ from + payment d prices i k) × (payment d prices i k ≤ dearest)
+  pub pays : (k : ℕ) → due d i ≤ k → k ≤ min (latest d i) target → 0 < room-in d k
+      → (base ≤ from + payment d prices i k) × (payment d prices i k ≤ dearest)
   pub prices-row : target ≤ length prices + 1
   pub free : ofPeriod prices target ≡ 0
   pub from-due : 1 ≤ due d i
   pub by-target : due d i ≤ target
   pub shape : InList list left target
+  pub some : (y : ℕ) → y ≤ left → 0 < room-in d (el list y)
   pub passed : (j : ℕ) → Gap list left j → due d i ≤ j → j ≤ min (latest d i) target → away dist j + base ≤ from + payment d prices i j
 
 abbrev pub Offers : (d : Day) (prices : List ℕ) (target i who from base : ℕ) (dist dist₂ via via₂ : List ℕ) → Type 0
@@ -196,10 +224,12 @@ pub record CanExpand (d : Day) (places holds first-in next-in prices list dist v
   pub vias : length via ≡ 98
   pub to : k < target
   pub near : away dist k ≤ 98 * dearest
-  pub most : away dist target ≤ far
+  pub most : (j : ℕ) → away dist j ≤ far
   pub prices-row : target ≤ length prices + 1
   pub shape : InList list left target
-  pub passed : (j : ℕ) → Gap list left j → due d (el places n) ≤ j → away dist j ≤ away dist k
+  pub here : 0 < room-in d k
+  pub some : (y : ℕ) → y ≤ left → 0 < room-in d (el list y)
+  pub passed : (j : ℕ) → Gap list left j → due d (el places n) ≤ j → 0 < room-in d j → away dist j ≤ away dist k
 
 -- the flights that land in k have offered
 pub record Expanded (d : Instance) (x p : ℕ → ℕ) (target : ℕ) (dist dist₂ via via₂ : List ℕ) (k : ℕ) : Type 0 where

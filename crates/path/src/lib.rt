@@ -1,9 +1,9 @@
 // The search for the cheapest chain of moves that makes room for a new flight: periods are reached in the order of their distances.
 ghost use mathlib.Core.Path.{_≡_};
-ghost use Prim.Native.Nat.{_+_, _<_};
+ghost use Prim.Native.Nat.{_<_};
 ghost use lib.ListN.{length};
 ghost use Rattle.day.specs.Day.{day, ofPeriod};
-ghost use Rattle.path.specs.Path.{landing, scope, Filled, Removed, CanNear, NearestIn, Nearer, CanOffer, Offers, CanExpand, Expanded, CanSearch, Searched};
+ghost use Rattle.path.specs.Path.{landing, scope, CanList, Filled, Removed, CanNear, NearestIn, Nearer, CanOffer, Offers, CanExpand, Expanded, CanSearch, Searched};
 use day::after_of;
 use day::cost_of;
 use day::due_of;
@@ -17,16 +17,23 @@ use day::wide;
 // A distance that no chain of moves has.
 pub const FAR: usize = 4611686018427387904;
 
-// Lists the periods from first on, rising, at places 0 .. left.
-fn list_periods(list: &mut [usize], first: usize, left: usize)
-    requires { ⌜ (length (now list) ≡ 98) × (first + left < 98) ⌝ }
-    ensures { λ _. ⌜ Filled (now (list .exit)) first left ⌝ }
+// Lists the open periods from first on, rising, and behind them the target; the target's place.
+fn list_periods(capacities: &[u32], list: &mut [usize], first: usize, target: usize) -> usize
+    requires { ⌜ CanList (now list) first target ⌝ }
+    ensures { λ left. ⌜ Filled (now (capacities .entry)) (now (list .exit)) first target left ⌝ }
 {
-    let mut z = 0;
-    while z <= left {
-        list[z] = first + z;
-        z += 1;
+    let mut left = 0;
+    let mut k = first;
+    while k < target {
+        let here = k;
+        k += 1;
+        if 0 < of_period(capacities, here) {
+            list[left] = here;
+            left += 1;
+        }
     }
+    list[left] = target;
+    left
 }
 
 // Takes the period at place `at` out of a list whose last place is `left`.
@@ -192,8 +199,7 @@ pub fn find_path(
 {
     let i = wide(places[n]);
     let first = due_of(flights, i);
-    let mut left = target - first;
-    list_periods(list, first, left);
+    let mut left = list_periods(capacities, list, first, target);
     offer(
         capacities,
         flights,

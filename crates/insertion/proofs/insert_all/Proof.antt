@@ -5,7 +5,7 @@ use Prim.Native.Nat.{_-_}
 use lib.ListN.{length}
 use borrow.Author.Needs.{needs}
 use Rattle.day.specs.Day.{day}
-use Rattle.insertion.proofs.Building.{Building, building-order, building-start, building-more, building-small, building-next, building-end}
+use Rattle.insertion.proofs.Building.{Building, building-order, building-start, building-more, building-small, building-next, building-price, building-end}
 use Rattle.insertion.proofs.insert_all.Statement.{statement}
 use Rattle.insertion.proofs.insert_all.Tie as tie
 
@@ -66,14 +66,17 @@ loop-less c = omega (arith, c .before .before .before .before .before .before .b
 loop-again : tie.Need-loop-again Inv-loop μ-loop
 loop-again c = (building-next (c .before .before .before .before .before .before .before .before .before .before .before .before .before .before .before .before .before .before .before .before .before .before .before .before .loop .inv .0) (c .before .before .before .before .before .before .before .before .before .before .before .before .insert .ensures .0) (c .before .before .before .before .before .before .before .before .before .before .before .before .insert .kept .1 .1 .0) (c .before .before .before .before .before .before .before .before .before .before .before .before .insert .ensures .1), c .before .before .before .before .before .before .before .before .before .before .before .before .insert .kept .1 .1 .1 .0 ∙ c .before .before .before .before .before .before .before .before .before .before .before .before .before .before .before .before .before .before .before .before .before .before .before .before .loop .inv .1, c .before .before .before .before .before .before .before .before .before .before .before .before .insert .kept .1 .1 .1 .1 .0 ∙ c .before .before .before .before .before .before .before .before .before .before .before .before .before .before .before .before .before .before .before .before .before .before .before .before .loop .inv .2)
 
+price-closed-requires : tie.Need-price-closed-requires Inv-loop μ-loop
+price-closed-requires c κs = building-price (c .before .before .before .loop .inv .0) (c .before .before .loop-test .left)
+
 same-length : tie.Need-same-length Inv-loop μ-loop
-same-length c = c .before .loop .inv .1
+same-length c = c .before .before .before .before .before .before .loop .inv .1
 
 same-length-2 : tie.Need-same-length-2 Inv-loop μ-loop
-same-length-2 c = c .before .loop .inv .2 ∙ c .before .before .before .before .clear .kept .0
+same-length-2 c = c .before .before .price-closed .kept .1 .1 .1 .0 ∙ c .before .before .before .before .before .before .loop .inv .2 ∙ c .before .before .before .before .before .before .before .before .before .clear .kept .0
 
 returns : tie.Need-returns Inv-loop μ-loop
-returns c = building-end (c .before .loop .inv .0) (c .loop-test .left)
+returns c = building-end (c .before .before .before .before .before .before .loop .inv .0) (c .before .before .before .before .before .loop-test .left) (c .before .before .price-closed .kept .1 .1 .1 .0) (c .before .before .price-closed .ensures)
 
 pub insert-all-spec : {M : Type 1} → statement M
 insert-all-spec =
@@ -98,6 +101,7 @@ insert-all-spec =
     add-n
     loop-less
     loop-again
+    price-closed-requires
     same-length
     same-length-2
     returns)

@@ -25,20 +25,17 @@ wide-requires c κs = tt
 due-of-requires : tie.Need-due-of-requires Inv-loop μ-loop
 due-of-requires c κs = find-stands (c .before .before .before .before .before .before .before .before .before .before .before .before .before .pre) (c .wide .ensures)
 
-sub-left : tie.Need-sub-left Inv-loop μ-loop
-sub-left c = find-list (c .before .before .before .before .before .before .before .before .before .before .before .before .before .before .pre) (c .before .wide .ensures) (c .due-of .ensures .0) .0
-
 list-periods-requires : tie.Need-list-periods-requires Inv-loop μ-loop
-list-periods-requires c κs = let l = find-list (c .before .before .before .before .before .before .before .before .before .before .before .before .before .before .before .pre) (c .before .before .wide .ensures) (c .before .due-of .ensures .0) in (l .1, l .2)
+list-periods-requires c κs = find-list (c .before .before .before .before .before .before .before .before .before .before .before .before .before .before .before .pre) (c .before .before .wide .ensures) (c .before .due-of .ensures .0)
 
 offer-requires : tie.Need-offer-requires Inv-loop μ-loop
-offer-requires c κs = find-offer (c .before .before .before .before .before .before .before .before .before .before .before .before .before .before .before .before .before .before .before .before .before .pre) (c .before .before .before .before .before .before .before .before .wide .ensures) (c .before .before .before .before .before .before .before .due-of .ensures .0) (c .before .before .before .before .before .list-periods .kept .0) (c .before .before .before .before .before .list-periods .ensures)
+offer-requires c κs = find-offer (c .before .before .before .before .before .before .before .before .before .before .before .before .before .before .before .before .before .before .before .before .before .pre) (c .before .before .before .before .before .before .before .before .wide .ensures) (c .before .before .before .before .before .before .before .due-of .ensures .0) (c .before .before .before .before .before .list-periods .kept .1 .0) (c .before .before .before .before .before .list-periods .ensures)
 
 nearest-requires : tie.Need-nearest-requires Inv-loop μ-loop
-nearest-requires c κs = finding-near (c .before .before .before .before .before .before .before .before .before .before .before .before .before .before .before .before .before .before .before .before .before .before .before .before .before .before .before .before .pre) (c .before .before .before .before .before .before .before .before .before .before .before .before .before .before .before .wide .ensures) (c .before .before .before .before .before .before .before .before .before .before .before .before .before .before .due-of .ensures .0) (c .before .before .before .before .before .before .before .before .before .before .before .before .list-periods .kept .0) (c .before .before .before .before .before .before .before .before .before .before .before .before .list-periods .ensures) (c .before .before .before .before .before .before .offer .last .1 .1 .1 .1 .0) (c .before .before .before .before .before .before .offer .last .1 .1 .1 .1 .1 .0) (c .before .before .before .before .before .before .offer .kept .1 .1 .1 .1 .0) (c .before .before .before .before .before .before .offer .kept .1 .1 .1 .1 .1 .0) (c .before .before .before .before .before .before .offer .ensures)
+nearest-requires c κs = finding-near (c .before .before .before .before .before .before .before .before .before .before .before .before .before .before .before .before .before .before .before .before .before .before .before .before .before .before .before .before .pre) (c .before .before .before .before .before .before .before .before .before .before .before .before .before .before .before .wide .ensures) (c .before .before .before .before .before .before .before .before .before .before .before .before .before .before .due-of .ensures .0) (c .before .before .before .before .before .before .before .before .before .before .before .before .list-periods .kept .1 .0) (c .before .before .before .before .before .before .before .before .before .before .before .before .list-periods .ensures) (c .before .before .before .before .before .before .offer .last .1 .1 .1 .1 .0) (c .before .before .before .before .before .before .offer .last .1 .1 .1 .1 .1 .0) (c .before .before .before .before .before .before .offer .kept .1 .1 .1 .1 .0) (c .before .before .before .before .before .before .offer .kept .1 .1 .1 .1 .1 .0) (c .before .before .before .before .before .before .offer .ensures)
 
 loop-holds : tie.Need-loop-holds Inv-loop μ-loop
-loop-holds c = finding-start (c .before .before .before .before .before .before .before .before .before .before .before .before .before .before .before .before .before .before .before .before .before .before .before .before .before .before .before .before .before .pre) (c .before .before .before .before .before .before .before .before .before .before .before .before .before .before .before .before .wide .ensures) (c .before .before .before .before .before .before .before .before .before .before .before .before .before .before .before .due-of .ensures .0) (c .before .before .before .before .before .before .before .before .before .before .before .before .before .list-periods .kept .0) (c .before .before .before .before .before .before .before .before .before .before .before .before .before .list-periods .ensures) (c .before .before .before .before .before .before .before .offer .last .1 .1 .1 .1 .0) (c .before .before .before .before .before .before .before .offer .last .1 .1 .1 .1 .1 .0) (c .before .before .before .before .before .before .before .offer .kept .1 .1 .1 .1 .0) (c .before .before .before .before .before .before .before .offer .kept .1 .1 .1 .1 .1 .0) (c .before .before .before .before .before .before .before .offer .ensures) (c .nearest .ensures)
+loop-holds c = finding-start (c .before .before .before .before .before .before .before .before .before .before .before .before .before .before .before .before .before .before .before .before .before .before .before .before .before .before .before .before .before .pre) (c .before .before .before .before .before .before .before .before .before .before .before .before .before .before .before .before .wide .ensures) (c .before .before .before .before .before .before .before .before .before .before .before .before .before .before .before .due-of .ensures .0) (c .before .before .before .before .before .before .before .before .before .before .before .before .before .list-periods .kept .1 .0) (c .before .before .before .before .before .before .before .before .before .before .before .before .before .list-periods .ensures) (c .before .before .before .before .before .before .before .offer .last .1 .1 .1 .1 .0) (c .before .before .before .before .before .before .before .offer .last .1 .1 .1 .1 .1 .0) (c .before .before .before .before .before .before .before .offer .kept .1 .1 .1 .1 .0) (c .before .before .before .before .before .before .before .offer .kept .1 .1 .1 .1 .1 .0) (c .before .before .before .before .before .before .before .offer .ensures) (c .nearest .ensures)
 
 mul-k : tie.Need-mul-k Inv-loop μ-loop
 mul-k c = omega (arith, finding-in (c .before .loop .inv) (c .loop-test .taken) refl)
@@ -58,8 +55,8 @@ slice-write-rank c = finding-in (c .before .before .loop .inv) (c .before .loop-
 take-out-requires : tie.Need-take-out-requires Inv-loop μ-loop
 take-out-requires c κs = finding-out (c .before .before .before .loop .inv) (c .before .before .loop-test .taken) refl
 
-sub-left-2 : tie.Need-sub-left-2 Inv-loop μ-loop
-sub-left-2 c = omega (arith, c .before .before .before .before .before .loop-test .taken)
+sub-left : tie.Need-sub-left Inv-loop μ-loop
+sub-left c = omega (arith, c .before .before .before .before .before .loop-test .taken)
 
 expand-requires : tie.Need-expand-requires Inv-loop μ-loop
 expand-requires c κs = finding-expand (c .before .before .before .before .before .before .before .before .before .loop .inv) (c .before .before .before .before .before .before .before .before .loop-test .taken) refl (c .before .before .before .before .before .take-out .kept .0) (c .before .before .before .before .before .take-out .ensures)
@@ -104,7 +101,6 @@ find-path-spec =
     shared-slice-read-wide
     wide-requires
     due-of-requires
-    sub-left
     list-periods-requires
     offer-requires
     nearest-requires
@@ -115,7 +111,7 @@ find-path-spec =
     mul-rank
     slice-write-rank
     take-out-requires
-    sub-left-2
+    sub-left
     expand-requires
     mul-nearest
     slice-reshared-read-nearest

@@ -1,0 +1,123 @@
+-- Closed periods, those of capacity 0, can be left out of a search: as if a landing there cost so much that nobody would go there. No plan
+-- lands in them, so plans and totals are the same; at the end each gets the least price that keeps every flight where it lands.
+-- Assumes nothing.
+use mathlib.Core.Path.{_≡_, refl, sym, ap, _∙_}
+use mathlib.Core.Logic.{_⊎_, inl, inr, _≢_}
+use Prim.Native.Nat.{ℕ, suc, _+_, _≤_, _<_}
+use native.Mathlib.Omega.{arith}
+use lib.Dec.{eqb}
+use Rattle.assignment.specs.Sum.{gate, sum, count}
+use Rattle.assignment.specs.Assignment.{Instance, In, Legal, total, Accepted, mustLand, room, Short}
+use Rattle.assignment.proofs.Tests.{eq?, gate-eq, gate-ne}
+use Rattle.assignment.proofs.Sums.{sum-ext, sum-member, count-member}
+use Rattle.assignment.proofs.Saving.{Link}
+use Rattle.assignment.proofs.Insertion.{Sound}
+
+-- a landing in a closed period costs so much more
+abbrev pub opened : Instance → ℕ → Instance
+opened d more = record {
+  n = d .n;
+  m = d .m;
+  lo = d .lo;
+  hi = d .hi;
+  cost = λ i k. d .cost i k + gate (eqb (d .cap k) 0) more;
+  cap = d .cap;
+  within = d .within;
+}
+
+module _ (d : Instance) (more : ℕ) where
+  pub open-cost : (i k : ℕ) → 0 < d .cap k → opened d more .cost i k ≡ d .cost i k
+  open-cost i k some = omega (arith, gate-ne (d .cap k) 0 more (omega arith))
+
+  pub shut-cost : (i k : ℕ) → d .cap k ≡ 0 → more ≤ opened d more .cost i k
+  shut-cost i k none = omega (arith, gate-eq (d .cap k) 0 more none)
+
+  pub opened-short : {a b : ℕ} → Short (opened d more) a b → Short d a b
+  unfolding mustLand room
+  opened-short s = record { short = s .short }
+
+-- whoever lands, lands in an open period
+pub lands-open : {d : Instance} {x : ℕ → ℕ} → Legal d x → (i : ℕ) → i < d .n → 0 < d .cap (x i)
+lands-open {d} {x} legal i l = omega (arith, legal .room (x i), count-member (d .n) i (x i) x l refl)
+
+pub opened-total : (d : Instance) (more : ℕ) (x : ℕ → ℕ) → Legal (opened d more) x → total (opened d more) x ≡ total d x
+unfolding total
+opened-total d more x legal =
+    sum-ext (d .n) (λ i. opened d more .cost i (x i)) (λ i. d .cost i (x i)) (λ i l. open-cost d more i (x i) (lands-open legal i l))
+
+-- some flight may as well land in k
+pub record Tied (d : Instance) (x p q : ℕ → ℕ) (k : ℕ) : Type 0 where
+  pub by : ℕ
+  pub who : by < d .n
+  pub fits : In d by k
+  pub tie : d .cost by k + q k ≡ d .cost by (x by) + p (x by)
+
+-- q has the prices p of the open periods; a closed one has a price that is high enough for every flight, and 0 or no higher than for one
+module _ (d : Instance) (more : ℕ) {x p q : ℕ → ℕ} (s : Sound (opened d more) x p) (same : (k : ℕ) → 0 < d .cap k → q k ≡ p k)
+    (high : (i k : ℕ) → i < d .n → In d i k → d .cap k ≡ 0 → d .cost i (x i) + p (x i) ≤ d .cost i k + q k)
+    (low : (k : ℕ) → d .cap k ≡ 0 → (q k ≡ 0) ⊎ Tied d x p q k) where
+  lands : (i : ℕ) → i < d .n → 0 < d .cap (x i)
+  lands = lands-open (s .accepted .legal)
+
+  here : (i : ℕ) → i < d .n → opened d more .cost i (x i) + p (x i) ≡ d .cost i (x i) + q (x i)
+  here i l = omega (arith, open-cost d more i (x i) (lands i l), same (x i) (lands i l))
+
+  -- closed periods rank above all others
+  rank : ℕ → ℕ
+  rank k = s .rank k + gate (eqb (d .cap k) 0) (suc (sum (d .n) (λ i. s .rank (x i))))
+
+  rank-open : (k : ℕ) → 0 < d .cap k → rank k ≡ s .rank k
+  unfolding rank
+  rank-open k some = omega (arith, gate-ne (d .cap k) 0 (suc (sum (d .n) (λ i. s .rank (x i)))) (omega arith))
+
+  rank-shut : (i k : ℕ) → i < d .n → d .cap k ≡ 0 → s .rank (x i) < rank k
+  unfolding rank
+  rank-shut i k l none = omega (
+    arith,
+    gate-eq (d .cap k) 0 (suc (sum (d .n) (λ i. s .rank (x i)))) none,
+    sum-member (d .n) i (λ i. s .rank (x i)) l,
+  )
+
+  pub priced : Sound d x q
+  priced = record {
+    accepted = record {
+      legal = record {
+        window = λ i l. let w = s .accepted .legal .window i l in record { from = w .from; to = w .to };
+        room = s .accepted .legal .room;
+      };
+      unsold = λ k free. same k (omega arith) ∙ s .accepted .unsold k free;
+      best = λ i k l w. elim (eq? (d .cap k) 0) [
+        | inl none ↦ omega (arith, here i l, open-cost d more i (x i) (lands i l), high i k l w none)
+        | inr some ↦ omega (
+          arith,
+          here i l,
+          open-cost d more i k (omega arith),
+          same k (omega arith),
+          s .accepted .best i k l (record { from = w .from; to = w .to }),
+        )
+      ];
+    };
+    rank = rank;
+    held = λ k. elim (eq? (d .cap k) 0) [
+      | inl none ↦ elim (low k none) [
+        | inl free ↦ inl free
+        | inr t ↦ inr (record {
+          by = t .by;
+          who = t .who;
+          fits = t .fits;
+          lower = omega (arith, rank-open (x (t .by)) (lands (t .by) (t .who)), rank-shut (t .by) k (t .who) none);
+          tie = omega (arith, t .tie, same (x (t .by)) (lands (t .by) (t .who)));
+        })
+      ]
+      | inr some ↦ elim (s .held k) [
+        | inl free ↦ inl (same k (omega arith) ∙ free)
+        | inr a ↦ inr (record {
+          by = a .by;
+          who = a .who;
+          fits = record { from = a .fits .from; to = a .fits .to };
+          lower = omega (arith, a .lower, rank-open k (omega arith), rank-open (x (a .by)) (lands (a .by) (a .who)));
+          tie = omega (arith, a .tie, here (a .by) (a .who), open-cost d more (a .by) k (omega arith), same k (omega arith));
+        })
+      ]
+    ];
+  }

@@ -1,0 +1,80 @@
+// The prices of the closed periods, those of capacity 0, for a plan whose other prices are known: a search leaves such periods out.
+ghost use Prim.Native.Nat.{_+_, _*_, _^_, _<_, _≤_};
+ghost use lib.ListN.{length};
+ghost use Rattle.day.specs.Day.{day, width, N};
+ghost use Rattle.closed_prices.specs.ClosedPrices.{CanPay, Shortfall, LeastPrice, CanPrice, Priced};
+use day::cost_of;
+use day::due_of;
+use day::flight_count;
+use day::latest_of;
+use day::of_period;
+use day::wide;
+
+// How much the price of period k must be for the flight at table place i, that it gains nothing by landing there.
+fn shortfall(
+    capacities: &[u32],
+    flights: &[u32],
+    holds: &[u32],
+    prices: &[u32],
+    i: usize,
+    k: usize,
+) -> usize
+    requires { ⌜ CanPay (day (now capacities) (now flights)) (now holds) (now prices) k ⌝ }
+    requires { ⌜ i < N (day (now capacities) (now flights)) ⌝ }
+    ensures { λ r. ⌜ Shortfall (day (now (capacities .entry)) (now (flights .entry))) (now (holds .entry)) (now (prices .entry)) i k r ⌝ }
+{
+    let due = due_of(flights, i);
+    if k < due {
+        return 0;
+    }
+    if latest_of(capacities, flights, i) < k {
+        return 0;
+    }
+    let hold = wide(holds[i]);
+    let pays = cost_of(capacities, flights, i, hold) + of_period(prices, due + hold);
+    let costs = cost_of(capacities, flights, i, k - due);
+    if pays <= costs {
+        return 0;
+    }
+    pays - costs
+}
+
+// The least price of period k that keeps every flight where it lands.
+fn least_price(
+    capacities: &[u32],
+    flights: &[u32],
+    holds: &[u32],
+    prices: &[u32],
+    k: usize,
+) -> usize
+    requires { ⌜ CanPay (day (now capacities) (now flights)) (now holds) (now prices) k ⌝ }
+    ensures { λ r. ⌜ LeastPrice (day (now (capacities .entry)) (now (flights .entry))) (now (holds .entry)) (now (prices .entry)) k r ⌝ }
+{
+    let count = flight_count(flights);
+    let mut price = 0;
+    let mut i = 0;
+    while i < count {
+        let needed = shortfall(capacities, flights, holds, prices, i, k);
+        i += 1;
+        if price < needed {
+            price = needed;
+        }
+    }
+    price
+}
+
+// Gives each closed period the least price that keeps every flight where it lands. Nobody lands in a closed period, so that no price that
+// is read here is stored here.
+pub fn price_closed(capacities: &[u32], flights: &[u32], holds: &[u32], prices: &mut [u32])
+    requires { ⌜ CanPrice (day (now capacities) (now flights)) (now holds) (now prices) ⌝ }
+    ensures { λ _. ⌜ Priced (day (now (capacities .entry)) (now (flights .entry))) (now (holds .entry)) (now (prices .entry)) (now (prices .exit)) ⌝ }
+{
+    let mut at = 0;
+    while at < capacities.len() {
+        let here = at;
+        at += 1;
+        if capacities[here] == 0 {
+            prices[here] = least_price(capacities, flights, holds, prices, at) as u32;
+        }
+    }
+}
