@@ -11,3 +11,4 @@ pub mod Restricted
 pub mod Permuted
 pub mod Existence
 pub mod Closed
+pub mod Chains
