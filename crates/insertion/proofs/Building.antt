@@ -11,6 +11,7 @@ use Rattle.assignment.specs.Assignment as A
 use Rattle.assignment.proofs.Tests.{eq?, lt?}
 use Rattle.assignment.proofs.Sums.{count-zero}
 use Rattle.assignment.proofs.Insertion.{Sound, sound-start, price-le}
+use Rattle.assignment.proofs.Chains.{chained-start}
 use Rattle.assignment.proofs.Closed.{Tied, priced, lands-open, opened-total}
 use Rattle.assignment.proofs.Permuted.{ordered, Stands, permuted-stands, permuted-accepted, permuted-total}
 use Rattle.day.specs.Day.{Day, P, N, ofPeriod, due, capacity, cost as cost-of, Window, hold, land, total}
@@ -69,8 +70,7 @@ module _ {d : Day} {holds prices : List ℕ} (c : CanInsert d holds prices) wher
       chained = record {
         firsts = length-replicate {A = ℕ} 98 0;
         nexts = length-replicate {A = ℕ} 128 0;
-        first = λ k _. rw (blank 98 k) (record { before = omega arith; none = λ s _ b. absurd (omega arith); there = λ b. absurd (omega arith) });
-        next = λ s b. absurd (omega arith);
+        chains = chained-start (λ k _. blank 98 k);
       };
       listed = length-replicate {A = ℕ} 98 0;
       rows = record { dists = length-replicate {A = ℕ} 98 far; ranks = length-replicate {A = ℕ} 98 0; vias = length-replicate {A = ℕ} 98 0 };

@@ -12,62 +12,31 @@ use Rattle.assignment.specs.Assignment.{Instance}
 use Rattle.assignment.proofs.Tests.{eq?, lt?, gate-eq, gate-ne}
 use Rattle.assignment.proofs.Sums.{count-suc, count-ext}
 use Rattle.assignment.proofs.Moves.{Moved, put, put-moved}
+use Rattle.assignment.proofs.Chains.{chained-add}
 use Rattle.assignment.proofs.Insertion.{Going, going-step}
 use Rattle.assignment.proofs.Permuted.{Permuted, permuted-other, permuted-same, Swapped, swapped}
 use Rattle.day.specs.Day.{Day, N, width, ofPeriod, due, land}
 use Rattle.day.proofs.Costs.{period-out}
 use Rattle.closed_prices.proofs.Pricing.{period-moved}
-use Rattle.path.specs.Path.{el, far, away, landing, Table, Newest, Chained}
+use Rattle.path.specs.Path.{el, far, away, landing, Table, Chained}
 use Rattle.path.proofs.Rows.{set-moved, away-moved, as-read}
 use Rattle.path.proofs.Expanding.{stands as stands-in}
 use Rattle.insertion.specs.Insertion.{home, Added, CanFind, FirstRoom, Hop, Linked, CanWalk, Walked, CanForget, Forgotten, CanRaise, Raised, Cleared}
 
 -- ---- add_place
 
-newest-ext : {x y : ℕ → ℕ} {k from r : ℕ} → ((s : ℕ) → s < from → y s ≡ x s) → Newest x k from r → Newest y k from r
-newest-ext same h = record {
-  before = h .before;
-  none = λ s a b e. h .none s a b (sym (same s b) ∙ e);
-  there = λ some. same _ (omega (arith, h .before)) ∙ h .there some;
-}
-
 -- place n is the newest of those in k
 module _ {x y : ℕ → ℕ} {loads loads₂ first-in first-in₂ next-in next-in₂ : List ℕ} {n k : ℕ} (c : Chained x first-in next-in n)
     (in-day : k < 98) (in-row : n < 128) (same : (s : ℕ) → s < n → y s ≡ x s) (here : y n ≡ k)
     (a : Added loads loads₂ first-in first-in₂ next-in next-in₂ n k) where
-  heads : Moved (el first-in) (el first-in₂) k (n + 1)
-  heads = rw (a .first) (set-moved first-in k (n + 1) (omega (arith, c .firsts)))
-
-  tails : Moved (el next-in) (el next-in₂) n (el first-in k)
-  tails = rw (a .next) (set-moved next-in n (el first-in k) (omega (arith, c .nexts)))
-
   pub added-chained : Chained y first-in₂ next-in₂ (n + 1)
   added-chained = record {
     firsts = ap length (a .first) ∙ length-set first-in k (n + 1) ∙ c .firsts;
     nexts = ap length (a .next) ∙ length-set next-in n (el first-in k) ∙ c .nexts;
-    first = λ j b. elim (eq? j k) [
-      | inl e ↦ rw (e, heads .here) (record {
-        before = omega arith;
-        none = λ s from less. absurd (omega arith);
-        there = λ _. let back : n ≡ (n + 1) - 1 = omega arith in rw back at here;
-      })
-      | inr e ↦ rw (heads .others j e) (later j e (newest-ext same (c .first j b)))
-    ];
-    next = λ s b. elim (eq? s n) [
-      | inl e ↦ rw (e, here, tails .here) (newest-ext same (c .first k in-day))
-      | inr e ↦ rw (tails .others s e, same s (omega arith)) (newest-ext (λ o l. same o (omega arith)) (c .next s (omega arith)))
-    ];
+    chains = chained-add (c .chains) in-day same here
+        (rw (a .first) (set-moved first-in k (n + 1) (omega (arith, c .firsts))))
+        (rw (a .next) (set-moved next-in n (el first-in k) (omega (arith, c .nexts))));
   }
-    where
-      later : (j : ℕ) → j ≢ k → {r : ℕ} → Newest y j n r → Newest y j (n + 1) r
-      later j e h = record {
-        before = omega (arith, h .before);
-        none = λ s from less. elim (eq? s n) [
-          | inl g ↦ λ z. e (sym z ∙ ap y g ∙ here)
-          | inr g ↦ h .none s from (omega arith)
-        ];
-        there = h .there;
-      }
 
   pub added-loads : length loads ≡ 98 → ((j : ℕ) → j < 98 → el loads j ≡ count n x j) → (j : ℕ) → j < 98 → el loads₂ j ≡ count (n + 1) y j
   added-loads row are j b = elim (eq? j k) [

@@ -9,11 +9,12 @@ use native.Mathlib.Omega.{arith}
 use lib.ListN.{getD, length, set}
 use Rattle路assignment.specs.Assignment.{Instance, In}
 use Rattle路assignment.proofs.Tests.{eq?, lt?}
+use Rattle路assignment.proofs.Chains.{Newest}
 use Rattle路assignment.proofs.Closed.{opened, open-cost, shut-cost}
 use Rattle路assignment.proofs.Restricted.{until, until-near}
 use Rattle路day.specs.Day.{Day, P, N, width, ofPeriod, due, latest, cost}
 use Rattle路day.proofs.Instance.{instance, last, places-in}
-use Rattle路path路specs.specs.Path.{el, far, away, dearest, dear, room-in, scope, landing, Table, Newest, Chained, Scene, Search, Around, Gap, Listed, CanList, Filled, Removed, CanNear, NearestIn, Nearest, CanOffer, Offers, CanExpand, Expanded, CanSearch, Searched}
+use Rattle路path路specs.specs.Path.{el, far, away, dearest, dear, room-in, scope, landing, Table, Chained, Scene, Search, Around, Gap, Listed, CanList, Filled, Removed, CanNear, NearestIn, Nearest, CanOffer, Offers, CanExpand, Expanded, CanSearch, Searched}
 use Rattle路path路proofs.proofs.Rows.{as-read, set-moved}
 use Rattle路path路proofs.proofs.Listing.{listed-start, listed-nearest, listed-some, listed-last, listed-other, listed-out}
 use Rattle路path路proofs.proofs.Reaching.{search-start, around-pass, around-kept, around-offered, search-near, reach-in, reach-next, search-end}
@@ -67,7 +68,7 @@ module _ {d : Day} {places holds first-in next-in prices list dist via : List 鈩
 
   pub expanding-start : Expanding d places holds first-in next-in prices list n left target dist dist via via k (getD dist k 0) (getD first-in k 0)
   expanding-start =
-      let h = c .chained .first k (expand-room .2) in
+      let h = c .chained .chains .heads k (expand-room .2) in
       record {
         can = c;
         same-d = refl;
@@ -96,7 +97,7 @@ module _ {d : Day} {places holds first-in next-in prices list dist鈧� dist via鈧
     expanding-room = omega (arith, l, s .can .table .row, s .can .upto, s .can .table .valid .flights-to, s .can .chained .nexts)
 
     newest : Newest (landing d places holds) (landing d places holds who) who (el next-in who)
-    newest = s .can .chained .next who l
+    newest = s .can .chained .chains .links who l
 
     pub expanding-less : getD next-in who 0 < next
     expanding-less = omega (arith, newest .before)

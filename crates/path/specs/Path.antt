@@ -10,6 +10,7 @@ use Rattle.assignment.specs.Assignment.{Instance, In, Short}
 use Rattle.assignment.proofs.Near.{Near, Offered}
 use Rattle.assignment.proofs.Insertion.{Sound, grown}
 use Rattle.assignment.proofs.Permuted.{Permuted, ordered}
+use Rattle.assignment.proofs.Chains as chains
 use Rattle.assignment.proofs.Closed.{opened}
 use Rattle.assignment.proofs.Restricted.{restricted}
 use Rattle.day.specs.Day.{Day, width, P, N, ofPeriod, due, rate, jump, cost, latest, land}
@@ -60,19 +61,11 @@ pub record Table (d : Day) (places : List ℕ) : Type 0 where
   pub row : N d ≤ length places
   pub permuted : Permuted (N d) (el places)
 
--- r - 1 is the last place before `from` whose flight lands in k; r is 0 where there is none
-pub record Newest (x : ℕ → ℕ) (k from r : ℕ) : Type 0 where
-  pub before : r ≤ from
-  pub none : (s : ℕ) → r ≤ s → s < from → x s ≢ k
-  pub there : 0 < r → x (r - 1) ≡ k
-
--- the places whose flights land in the same period are chained, the newest first: one row has the first of each period, the other the next
--- behind each place
+-- the places whose flights land in the same period are chained: one row has the newest of each period, the other the one before each place
 pub record Chained (x : ℕ → ℕ) (first-in next-in : List ℕ) (n : ℕ) : Type 0 where
   pub firsts : length first-in ≡ 98
   pub nexts : length next-in ≡ 128
-  pub first : (k : ℕ) → k < 98 → Newest x k n (el first-in k)
-  pub next : (s : ℕ) → s < n → Newest x (x s) s (el next-in s)
+  pub chains : chains.Chained x 98 (el first-in) (el next-in) n
 
 -- a plan x of n flights with prices p, and a new flight; from its due period on, the target is the first period with room
 pub record Scene (d : Instance) (x p : ℕ → ℕ) (target : ℕ) : Type 0 where
