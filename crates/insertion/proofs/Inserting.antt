@@ -83,7 +83,7 @@ module _ {d : Day} {places holds prices : List ℕ} {n : ℕ} (s : Placed d plac
   placed-low : (k : ℕ) → ofPeriod prices k ≤ 250880000
   placed-low k = omega (arith, placed-total, price-le (s .sound) k)
 
-  module _ {loads first-in next-in list dist₀ rank₀ via₀ : List ℕ} (kept : Kept d places holds loads first-in next-in list dist₀ rank₀ via₀ n)
+  module _ {loads first-in next-in list queue dist₀ rank₀ via₀ : List ℕ} (kept : Kept d places holds loads first-in next-in list queue dist₀ rank₀ via₀ n)
       (l : n < N d) where
     pub insert-room : (n < length places) × (n < 128)
     insert-room = omega (arith, s .table .row, s .table .valid .flights-to)
@@ -150,7 +150,7 @@ module _ {d : Day} {places holds prices : List ℕ} {n : ℕ} (s : Placed d plac
                     (opened-short (ordered (instance d) (el places) (suc n)) dear (widen-short (begun d places (suc n)) target less short))));
               }
 
-          pub insert-search : CanSearch d places holds first-in next-in prices list dist₀ rank₀ via₀ n target
+          pub insert-search : CanSearch d places holds first-in next-in prices list queue dist₀ rank₀ via₀ n target
           insert-search = record {
             table = s .table;
             scene = insert-scene;
@@ -159,6 +159,7 @@ module _ {d : Day} {places holds prices : List ℕ} {n : ℕ} (s : Placed d plac
             chained = kept .chained;
             prices-row = omega (arith, s .prices-row, room .to);
             listed = kept .listed;
+            queue-row = kept .queue-row;
             rows = kept .rows;
             all-far = kept .all-far;
             no-ranks = kept .no-ranks;
@@ -362,15 +363,16 @@ module _ {d : Day} {places holds prices : List ℕ} {n : ℕ} (s : Placed d plac
                 count-le n (landing d places holds) target,
               )
 
-              module _ {loads₂ first-in₂ next-in₂ list₂ dist₂ rank₂ : List ℕ} (a : Added loads loads₂ first-in first-in₂ next-in next-in₂ n target)
+              module _ {loads₂ first-in₂ next-in₂ list₂ queue₂ dist₂ rank₂ : List ℕ} (a : Added loads loads₂ first-in first-in₂ next-in next-in₂ n target)
                   (f : Forgotten dist₂ rank₂) where
-                pub insert-kept : length list₂ ≡ length list → length dist₂ ≡ length dist → length rank₂ ≡ length (set rank target 99)
-                    → Kept d places₂ holds₂ loads₂ first-in₂ next-in₂ list₂ dist₂ rank₂ via (n + 1)
-                insert-kept same-l same-d same-r = record {
+                pub insert-kept : length list₂ ≡ length list → length queue₂ ≡ length queue → length dist₂ ≡ length dist → length rank₂ ≡ length (set rank target 99)
+                    → Kept d places₂ holds₂ loads₂ first-in₂ next-in₂ list₂ queue₂ dist₂ rank₂ via (n + 1)
+                insert-kept same-l same-q same-d same-r = record {
                   loads-row = ap length (a .counted) ∙ length-set loads target (el loads target + 1) ∙ kept .loads-row;
                   loads-are = added-loads (kept .chained) insert-within (insert-room .1) stays here a (kept .loads-row) (kept .loads-are);
                   chained = added-chained (kept .chained) insert-within (insert-room .1) stays here a;
                   listed = same-l ∙ kept .listed;
+                  queue-row = same-q ∙ kept .queue-row;
                   rows = record {
                     dists = same-d ∙ h .so-far .rows .dists;
                     ranks = same-r ∙ length-set rank target 99 ∙ h .so-far .rows .ranks;

@@ -33,11 +33,12 @@ cost-of-placed d places holds n = A.total (begun d places n) (landing d places h
 -- ---- what is kept beside the plan
 
 -- how many of the n flights land in each period, the chains of those that land in the same, and the rows of a search, before the next
-pub record Kept (d : Day) (places holds loads first-in next-in list dist rank via : List ℕ) (n : ℕ) : Type 0 where
+pub record Kept (d : Day) (places holds loads first-in next-in list queue dist rank via : List ℕ) (n : ℕ) : Type 0 where
   pub loads-row : length loads ≡ 98
   pub loads-are : (k : ℕ) → k < 98 → el loads k ≡ count n (landing d places holds) k
   pub chained : Chained (landing d places holds) first-in next-in n
   pub listed : length list ≡ 98
+  pub queue-row : length queue ≡ 98
   pub rows : Rows dist rank via
   pub all-far : (k : ℕ) → away dist k ≡ far
   pub no-ranks : (k : ℕ) → el rank k ≡ 0

@@ -136,16 +136,17 @@ fn insert(
     first_in: &mut [usize],
     next_in: &mut [usize],
     list: &mut [usize],
+    queue: &mut [usize],
     dist: &mut [usize],
     rank: &mut [usize],
     via: &mut [usize],
     n: usize,
 ) -> usize
     requires { ⌜ Placed (day (now capacities) (now flights)) (now places) (now holds) (now prices) n ⌝ }
-    requires { ⌜ Kept (day (now capacities) (now flights)) (now places) (now holds) (now loads) (now first_in) (now next_in) (now list) (now dist) (now rank) (now via) n ⌝ }
+    requires { ⌜ Kept (day (now capacities) (now flights)) (now places) (now holds) (now loads) (now first_in) (now next_in) (now list) (now queue) (now dist) (now rank) (now via) n ⌝ }
     requires { ⌜ n < N (day (now capacities) (now flights)) ⌝ }
     ensures { λ r. ⌜ Inserted (day (now (capacities .entry)) (now (flights .entry))) (now (places .entry)) (now (places .exit)) (now (holds .entry)) (now (holds .exit)) (now (prices .exit)) n r ⌝ }
-    ensures { λ _. ⌜ Kept (day (now (capacities .entry)) (now (flights .entry))) (now (places .exit)) (now (holds .exit)) (now (loads .exit)) (now (first_in .exit)) (now (next_in .exit)) (now (list .exit)) (now (dist .exit)) (now (rank .exit)) (now (via .exit)) (n + 1) ⌝ }
+    ensures { λ _. ⌜ Kept (day (now (capacities .entry)) (now (flights .entry))) (now (places .exit)) (now (holds .exit)) (now (loads .exit)) (now (first_in .exit)) (now (next_in .exit)) (now (list .exit)) (now (queue .exit)) (now (dist .exit)) (now (rank .exit)) (now (via .exit)) (n + 1) ⌝ }
 {
     let first = due_of(flights, wide(places[n]));
     let target = first_with_room(capacities, loads, first);
@@ -158,6 +159,7 @@ fn insert(
         next_in,
         prices,
         list,
+        queue,
         dist,
         rank,
         via,
@@ -201,6 +203,7 @@ pub fn insert_all(
     let mut first_in = [0; 98];
     let mut next_in = [0; 128];
     let mut list = [0; 98];
+    let mut queue = [0; 98];
     let mut dist = [FAR; 98];
     let mut rank = [0; 98];
     let mut via = [0; 98];
@@ -217,6 +220,7 @@ pub fn insert_all(
             &mut first_in,
             &mut next_in,
             &mut list,
+            &mut queue,
             &mut dist,
             &mut rank,
             &mut via,

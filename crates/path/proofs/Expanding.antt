@@ -14,9 +14,9 @@ use Rattle.assignment.proofs.Closed.{opened, open-cost, shut-cost}
 use Rattle.assignment.proofs.Restricted.{until, until-near}
 use Rattle.day.specs.Day.{Day, P, N, width, ofPeriod, due, latest, cost}
 use Rattle.day.proofs.Instance.{instance, last, places-in}
-use Rattle.path.specs.Path.{el, far, away, dearest, dear, room-in, scope, landing, Table, Chained, Scene, Search, Around, Gap, Listed, CanList, Filled, Removed, CanNear, NearestIn, Nearest, CanOffer, Offers, CanExpand, Expanded, CanSearch, Searched}
+use Rattle.path.specs.Path.{el, far, away, dearest, dear, room-in, scope, landing, Table, Chained, Scene, Search, Around, Gap, Lined, CanList, Filled, CanNear, NextLevel, Nearest, CanOffer, Offers, CanExpand, Expanded, CanSearch, Searched}
 use Rattle.path.proofs.Rows.{as-read, set-moved}
-use Rattle.path.proofs.Listing.{listed-start, listed-nearest, listed-some, listed-last, listed-other, listed-out}
+use Rattle.path.proofs.Listing.{lined-start, lined-some, lined-least, lined-nearest, lined-other, lined-level, lined-open, lined-passed, lined-reach, lined-next}
 use Rattle.path.proofs.Reaching.{search-start, around-pass, around-kept, around-offered, search-near, reach-in, reach-next, search-end}
 
 -- a flight of the day stands in its row
@@ -55,6 +55,7 @@ module _ (d : Day) (places holds first-in next-in prices list : List ℕ) (n lef
     pub upto : next ≤ n
     pub there : 0 < next → landing d places holds (next - 1) ≡ k
     pub from-is : from ≡ away dist₀ k
+    pub falls : (j : ℕ) → away dist j ≤ away dist₀ j
     pub most : (j : ℕ) → away dist j ≤ far
     pub passed : (j : ℕ) → Gap list left j → due d (el places n) ≤ j → 0 < room-in d j → away dist j ≤ from
     pub keeps : (rank : List ℕ) (t : ℕ)
@@ -76,6 +77,7 @@ module _ {d : Day} {places holds first-in next-in prices list dist via : List �
         upto = h .before;
         there = h .there;
         from-is = as-read dist k (expand-room .0);
+        falls = λ j. omega arith;
         most = c .most;
         passed = λ j g a some. omega (arith, c .passed j g a some, as-read dist k (expand-room .0));
         keeps = λ rank t a. (pass-to h a, as-read dist k (expand-room .0));
@@ -84,7 +86,9 @@ module _ {d : Day} {places holds first-in next-in prices list dist via : List �
 module _ {d : Day} {places holds first-in next-in prices list dist₀ dist via₀ via : List ℕ} {n left target k from next : ℕ}
     (s : Expanding d places holds first-in next-in prices list n left target dist₀ dist via₀ via k from next) where
   pub expanding-end : next ≤ 0 → Expanded (scope d places n target) (landing d places holds) (ofPeriod prices) target dist₀ dist via₀ via k
-  expanding-end l = let e : next ≡ 0 = omega arith in record { keeps = λ rank t a. rw e at (s .keeps rank t a .0) }
+  expanding-end l =
+      let e : next ≡ 0 = omega arith in
+      record { keeps = λ rank t a. (rw e at (s .keeps rank t a .0), sym (s .keeps rank t a .1) ∙ s .from-is); falls = s .falls }
 
   module _ (some : 0 < next) where
     abbrev who : ℕ
@@ -188,6 +192,7 @@ module _ {d : Day} {places holds first-in next-in prices list dist₀ dist via�
             upto = omega (arith, newest .before, l);
             there = λ b. newest .there b ∙ here;
             from-is = s .from-is;
+            falls = λ j. elim (o j) [ inl c ↦ omega (arith, c .less, c .far, s .falls j) | inr c ↦ omega (arith, c .far, s .falls j) ];
             most = λ j. elim (o j) [ inl c ↦ omega (arith, c .less, c .far, s .most j) | inr c ↦ omega (arith, c .far, s .most j) ];
             passed = λ j g a some. elim (o j) [
               | inl c ↦ omega (arith, c .less, c .far, s .passed j g a some)
@@ -203,8 +208,9 @@ module _ {d : Day} {places holds first-in next-in prices list dist₀ dist via�
 
 -- ---- find_path
 
--- t periods are reached, the others stand in the list, and the one at place `at` is the nearest of them
-pub record Finding (d : Day) (places holds first-in next-in prices list dist rank via : List ℕ) (n first left target t at : ℕ) : Type 0 where
+-- t periods are reached; the other open ones stand in the queue, at distance `level`, or in the list, where none is nearer. Where the queue
+-- is done, the target is as near as any
+pub record Finding (d : Day) (places holds first-in next-in prices list queue dist rank via : List ℕ) (n first all left target t : ℕ) : Type 0 where
   pub table : Table d places
   pub scene : Scene (scope d places n target) (landing d places holds) (ofPeriod prices) target
   pub upto : n < N d
@@ -213,11 +219,14 @@ pub record Finding (d : Day) (places holds first-in next-in prices list dist ran
   pub prices-row : target ≤ length prices + 1
   pub first-is : first ≡ due d (el places n)
   pub so-far : Search (scope d places n target) (landing d places holds) (ofPeriod prices) target dist rank via t 0
-  pub listed : Listed (room-in d) list rank left first target
-  pub nearest : NearestIn dist list left at
+  pub whole : left ≤ all
+  pub level : ℕ
+  pub lined : Lined (room-in d) dist rank list queue left first target level t (all - left)
+  pub near : t < all - left → level < far
+  pub ended : all - left ≤ t → away dist target ≤ level
 
-module _ {d : Day} {places holds first-in next-in prices list₀ dist rank via : List ℕ} {n target : ℕ}
-    (c : CanSearch d places holds first-in next-in prices list₀ dist rank via n target) where
+module _ {d : Day} {places holds first-in next-in prices list₀ queue dist rank via : List ℕ} {n target : ℕ}
+    (c : CanSearch d places holds first-in next-in prices list₀ queue dist rank via n target) where
   pub find-room : (n < length places) × (n < 128)
   find-room = omega (arith, c .upto, c .table .row, c .table .valid .flights-to)
 
@@ -242,11 +251,11 @@ module _ {d : Day} {places holds first-in next-in prices list₀ dist rank via :
         within = omega (arith, c .scene .within, c .scene .periods);
       }
 
-      module _ {list : List ℕ} {left : ℕ} (same-list : length list ≡ length list₀) (f : Filled (d .capacities) list first target left) where
-        listed : Listed (room-in d) list rank left first target
-        listed = listed-start rank (same-list ∙ c .listed) (c .no-ranks) (λ k b. places-in d k (omega (arith, c .scene .within))) f
+      module _ {list : List ℕ} {all : ℕ} (same-list : length list ≡ length list₀) (f : Filled (d .capacities) list first target all) where
+        lined-first : (dist₁ : List ℕ) → Lined (room-in d) dist₁ rank list queue all first target 0 0 0
+        lined-first dist₁ = lined-start dist₁ rank queue (same-list ∙ c .listed) (c .queue-row) (c .no-ranks) (λ k b. places-in d k (omega (arith, c .scene .within))) f
 
-        pub find-offer : CanOffer d prices list dist via left target i 0 0
+        pub find-offer : CanOffer d prices list dist via all target i 0 0
         find-offer = record {
           few = c .table .valid .periods-to;
           room = find-stands;
@@ -265,11 +274,14 @@ module _ {d : Day} {places holds first-in next-in prices list₀ dist rank via :
           free = c .scene .sound .accepted .unsold target (c .scene .free);
           from-due = c .table .valid .flight i in-day .due-from;
           by-target = omega (arith, first-is, find-list .before);
-          shape = listed .shape;
-          some = listed-some listed (omega (arith, c .scene .free));
+          shape = lined-first dist .listed .shape;
+          some = lined-some (lined-first dist) (omega (arith, c .scene .free));
           passed = λ j g a b. elim (eq? (room-in d j) 0) [
             | inl none ↦ omega (arith, c .all-far j, shut-cost (instance d) dear i j none)
-            | inr some ↦ absurd (omega (arith, listed .gaps j g (omega (arith, first-is)) (omega arith), c .no-ranks j))
+            | inr some ↦ elim (lined-first dist .listed .gaps j g (omega (arith, first-is)) (omega arith)) [
+              | inl reached ↦ absurd (omega (arith, c .no-ranks j))
+              | inr w ↦ absurd (omega (arith, w .to))
+            ]
           ];
         }
 
@@ -279,12 +291,16 @@ module _ {d : Day} {places holds first-in next-in prices list₀ dist rank via :
           begun = search-start dist dist₁ rank via via₁ (c .scene) window-to (same-d ∙ c .rows .dists) (same-v ∙ c .rows .vias) (c .all-far) (c .no-ranks)
               (c .rows .ranks) (rw i-is at o)
 
-          pub finding-near : CanNear dist₁ list left target 0
-          finding-near = search-near begun (c .scene) (listed .shape) (λ y _. omega arith)
+          pub finding-near : CanNear dist₁ list all target 0
+          finding-near = search-near begun (c .scene) (lined-first dist₁ .listed .shape) (λ y _. omega arith)
 
-          pub finding-start : {at : ℕ} → NearestIn dist₁ list left at
-              → Finding d places holds first-in next-in prices list dist₁ rank via₁ n first left target 0 at
-          finding-start a = record {
+          pub finding-room : (length queue ≡ 98) × (all < 98)
+          finding-room = (c .queue-row, f .short)
+
+          pub finding-start : {list₂ queue₂ : List ℕ} {left : ℕ} → length list₂ ≡ length list → length queue₂ ≡ length queue
+              → NextLevel dist₁ list list₂ queue queue₂ all left 0 target
+              → Finding d places holds first-in next-in prices list₂ queue₂ dist₁ rank via₁ n first all left target 0
+          finding-start same-l same-q h = record {
             table = c .table;
             scene = c .scene;
             upto = c .upto;
@@ -293,83 +309,131 @@ module _ {d : Day} {places holds first-in next-in prices list₀ dist rank via :
             prices-row = c .prices-row;
             first-is = first-at;
             so-far = begun;
-            listed = listed;
-            nearest = a;
+            whole = h .levelled .short;
+            level = h .level;
+            lined = lined-next (lined-first dist₁) (omega arith) same-l same-q h (omega arith);
+            near = λ b. omega (arith, h .more (omega arith), begun .most target);
+            ended = λ b. h .none (omega (arith, h .levelled .short));
           }
 
-module _ {d : Day} {places holds first-in next-in prices list dist rank via : List ℕ} {n first left target t at : ℕ}
-    (s : Finding d places holds first-in next-in prices list dist rank via n first left target t at) where
-  nearest-one : Nearest (room-in d) dist rank first target (el list at)
-  nearest-one = listed-nearest (s .listed) (s .nearest)
+module _ {d : Day} {places holds first-in next-in prices list queue dist rank via : List ℕ} {n first all left target t : ℕ}
+    (s : Finding d places holds first-in next-in prices list queue dist rank via n first all left target t) where
+  free : 0 < room-in d target
+  free = omega (arith, s .scene .free)
 
-  pub finding-end : left ≤ at → Searched (scope d places n target) (landing d places holds) (ofPeriod prices) target dist rank via
-  finding-end e = search-end (s .so-far) (s .scene) (s .first-is) nearest-one (listed-last (s .listed) (s .nearest .to) e)
+  target-fresh : el rank target ≡ 0
+  target-fresh = elim (lt? 0 (el rank target)) [ inl some ↦ absurd (omega (arith, s .so-far .reached target some)) | inr none ↦ omega arith ]
 
-  module _ (l : at < left) {k : ℕ} (k-is : k ≡ el list at) where
-    e : el list at ≢ target
-    e = listed-other (s .listed) l
+  pub finding-end : all - left ≤ t → Searched (scope d places n target) (landing d places holds) (ofPeriod prices) target dist rank via
+  finding-end e = search-end (s .so-far) (s .scene) (s .first-is) (record {
+    from = omega (arith, s .first-is, s .scene .before);
+    to = omega arith;
+    fresh = λ f. absurd (f refl);
+    near = λ f. absurd (f refl);
+    some = λ f. absurd (f refl);
+    least = λ j a b some none. omega (arith, s .ended e, lined-least (s .lined) j a (omega arith) some none);
+    target-least = omega arith;
+  }) refl
 
-    reached : (el list at < target) × (el list at < 98) × (t < 98) × (el list at < length rank) × (away dist (el list at) ≤ 98 * dearest)
-    reached = reach-in (s .so-far) (s .scene) (s .first-is) nearest-one e
+  module _ (l : t < all - left) {k : ℕ} (k-is : k ≡ getD queue t 0) where
+    nearest-one : Nearest (room-in d) dist rank first target k
+    nearest-one = lined-nearest (s .lined) l k-is free target-fresh (s .near l)
 
-    pub finding-in : (at < 98) × (at < length list) × (t < 98) × (k < length rank) × (k < 98)
-    finding-in = omega (arith, k-is, s .listed .shape .row, s .listed .shape .short, reached .1, reached .2, reached .3)
+    other : k ≢ target
+    other = lined-other (s .lined) l k-is
 
-    pub finding-out : (length list ≡ 98) × (at < left) × (left < 98)
-    finding-out = (s .listed .shape .row, l, s .listed .shape .short)
+    reached : (k < target) × (k < 98) × (t < 98) × (k < length rank) × (away dist k ≤ 98 * dearest)
+    reached = reach-in (s .so-far) (s .scene) (s .first-is) nearest-one other
+
+    pub finding-in : (t < length queue) × (t < 98) × (k < length rank) × (k < 98) × (left ≤ all)
+    finding-in = omega (arith, s .lined .row, reached .1, reached .2, reached .3, s .whole)
 
     around : Around (scope d places n target) (landing d places holds) (ofPeriod prices) target dist (set rank k (t + 1)) via (t + 1) k n
-    around = rw k-is (reach-next (s .so-far) (s .scene) (s .first-is) nearest-one e)
+    around = reach-next (s .so-far) (s .scene) (s .first-is) nearest-one other
 
-    module _ {list₂ : List ℕ} (same : length list₂ ≡ length list) (r : Removed list list₂ at left) where
-      listed₂ : Listed (room-in d) list₂ (set rank k (t + 1)) (left - 1) first target
-      listed₂ = rw k-is (listed-out (s .listed) (set rank (el list at) (t + 1)) t l (set-moved rank (el list at) (t + 1) (reached .3)) same r)
+    pub finding-expand : CanExpand d places holds first-in next-in prices list dist via n left target k
+    finding-expand = record {
+      table = s .table;
+      scene = s .scene;
+      upto = s .upto;
+      holds-row = s .holds-row;
+      chained = s .chained;
+      dists = s .so-far .rows .dists;
+      vias = s .so-far .rows .vias;
+      to = reached .0;
+      near = reached .4;
+      most = s .so-far .most;
+      prices-row = s .prices-row;
+      shape = s .lined .listed .shape;
+      here = lined-open (s .lined) l k-is;
+      some = lined-some (s .lined) free;
+      passed = λ j g a some. lined-passed (s .lined) l k-is (λ o done. s .so-far .near .order o k done (nearest-one .fresh other)) j g (omega (arith, s .first-is)) some;
+    }
 
-      pub finding-expand : CanExpand d places holds first-in next-in prices list₂ dist via n (left - 1) target k
-      finding-expand = record {
+    module _ {dist₂ via₂ : List ℕ} (h : Expanded (scope d places n target) (landing d places holds) (ofPeriod prices) target dist dist₂ via via₂ k) where
+      after : Around (scope d places n target) (landing d places holds) (ofPeriod prices) target dist₂ (set rank k (t + 1)) via₂ (t + 1) k 0
+      after = h .keeps (set rank k (t + 1)) (t + 1) around .0
+
+      level-is : away dist₂ k ≡ s .level
+      level-is = h .keeps (set rank k (t + 1)) (t + 1) around .1 ∙ lined-level (s .lined) l k-is
+
+      pub finding-level : (k < length dist₂) × (target < length dist₂) × (target < 98)
+      finding-level = omega (arith, finding-in .3, after .so-far .rows .dists, s .scene .within, s .scene .periods)
+
+      read : getD dist₂ k 0 ≡ s .level
+      read = as-read dist₂ k (finding-level .0) ∙ level-is
+
+      -- what is not reached is no nearer than what was reached last
+      least : (j : ℕ) → el (set rank k (t + 1)) j ≡ 0 → s .level ≤ away dist₂ j
+      least j none = omega (arith, level-is, after .so-far .near .order k j (omega (arith, after .here)) none)
+
+      unreached : el (set rank k (t + 1)) target ≡ 0
+      unreached = set-moved rank k (t + 1) (reached .3) .others target (λ f. other (sym f)) ∙ target-fresh
+
+      -- the target is as near
+      pub finding-stop : getD dist₂ target 0 ≤ getD dist₂ k 0
+          → Searched (scope d places n target) (landing d places holds) (ofPeriod prices) target dist₂ (set rank k (t + 1)) via₂
+      finding-stop e =
+          let at-target = as-read dist₂ target (finding-level .1) in
+          record {
+            t = t + 1;
+            so-far = after .so-far;
+            least = λ j none. omega (arith, least j none, read, at-target);
+            near = omega (arith, read, at-target, s .near l);
+          }
+
+      lined₂ : Lined (room-in d) dist₂ (set rank k (t + 1)) list queue left first target (s .level) (t + 1) (all - left)
+      lined₂ = lined-reach (s .lined) l k-is (set-moved rank k (t + 1) (reached .3)) (omega arith) (h .falls) least unreached
+
+      pub finding-on : t + 1 ≢ all - left
+          → Finding d places holds first-in next-in prices list queue dist₂ (set rank k (t + 1)) via₂ n first all left target (t + 1)
+      finding-on e = record {
         table = s .table;
         scene = s .scene;
         upto = s .upto;
         holds-row = s .holds-row;
         chained = s .chained;
-        dists = s .so-far .rows .dists;
-        vias = s .so-far .rows .vias;
-        to = omega (arith, k-is, reached .0);
-        near = rw k-is (reached .4);
-        most = s .so-far .most;
         prices-row = s .prices-row;
-        shape = listed₂ .shape;
-        here = rw k-is (nearest-one .some e);
-        some = listed-some listed₂ (omega (arith, s .scene .free));
-        passed = λ j g a some. around .so-far .near .last j k (listed₂ .gaps j g (omega (arith, s .first-is)) some) (around .here);
+        first-is = s .first-is;
+        so-far = after .so-far;
+        whole = s .whole;
+        level = s .level;
+        lined = lined₂;
+        near = λ _. s .near l;
+        ended = λ b. absurd (omega arith);
       }
 
-      module _ {dist₂ via₂ : List ℕ} (h : Expanded (scope d places n target) (landing d places holds) (ofPeriod prices) target dist dist₂ via via₂ k) where
-        after : Around (scope d places n target) (landing d places holds) (ofPeriod prices) target dist₂ (set rank k (t + 1)) via₂ (t + 1) k 0
-        after = h .keeps (set rank k (t + 1)) (t + 1) around
+      module _ (e : t + 1 ≡ all - left) where
+        pub finding-again : CanNear dist₂ list left target (getD dist₂ k 0) × ((length queue ≡ 98) × ((t + 1) + left < 98))
+        finding-again = (
+          search-near (after .so-far) (s .scene) (s .lined .listed .shape) (λ y b. omega (arith, lined₂ .low y b, read)),
+          (s .lined .row, omega (arith, s .lined .room)),
+        )
 
-        pub finding-level : k < length dist₂
-        finding-level = omega (arith, finding-in .4, after .so-far .rows .dists)
-
-        -- what is not reached is no nearer than what was reached last
-        low : (y : ℕ) → y ≤ left - 1 → away dist₂ k ≤ away dist₂ (el list₂ y)
-        low y b = after .so-far .near .order k (el list₂ y) (omega (arith, after .here)) (fresh y b)
-          where
-            fresh : (y : ℕ) → y ≤ left - 1 → el (set rank k (t + 1)) (el list₂ y) ≡ 0
-            fresh y b = elim (eq? y (left - 1)) [
-              | inr f ↦ listed₂ .fresh y (omega arith)
-              | inl f ↦ elim (lt? 0 (el (set rank k (t + 1)) (el list₂ y))) [
-                | inr none ↦ omega arith
-                | inl some ↦ absurd (omega (arith, after .so-far .reached (el list₂ y) some, ap (el list₂) f, listed₂ .shape .ends))
-              ]
-            ]
-
-        pub finding-again : CanNear dist₂ list₂ (left - 1) target (getD dist₂ k 0)
-        finding-again = search-near (after .so-far) (s .scene) (listed₂ .shape) (λ y b. omega (arith, low y b, as-read dist₂ k finding-level))
-
-        pub finding-next : {at₂ : ℕ} → NearestIn dist₂ list₂ (left - 1) at₂
-            → Finding d places holds first-in next-in prices list₂ dist₂ (set rank k (t + 1)) via₂ n first (left - 1) target (t + 1) at₂
-        finding-next a = record {
+        pub finding-next : {list₂ queue₂ : List ℕ} {left₂ : ℕ} → length list₂ ≡ length list → length queue₂ ≡ length queue
+            → NextLevel dist₂ list list₂ queue queue₂ left left₂ (t + 1) target
+            → Finding d places holds first-in next-in prices list₂ queue₂ dist₂ (set rank k (t + 1)) via₂ n first all left₂ target (t + 1)
+        finding-next same-l same-q g = record {
           table = s .table;
           scene = s .scene;
           upto = s .upto;
@@ -378,6 +442,9 @@ module _ {d : Day} {places holds first-in next-in prices list dist rank via : Li
           prices-row = s .prices-row;
           first-is = s .first-is;
           so-far = after .so-far;
-          listed = listed₂;
-          nearest = a;
+          whole = omega (arith, g .levelled .short, s .whole);
+          level = g .level;
+          lined = lined-next (rw (← e) at lined₂) (omega arith) same-l same-q g (omega (arith, g .levelled .short, s .whole));
+          near = λ b. omega (arith, g .more (omega (arith, g .levelled .short, s .whole)), after .so-far .most target);
+          ended = λ b. g .none (omega (arith, g .levelled .short, s .whole));
         }

@@ -1,24 +1,59 @@
--- The list of the periods that are not reached: how it is filled, what is taken out of it, and that it has all of them.
+-- The list of the periods that are not reached and the queue of those that are equally near: how the list is filled, what goes from it to the
+-- queue, and that together they have all of them.
 -- Assumes nothing.
 use mathlib.Core.Path.{_≡_, refl, sym, ap, _∙_}
 use mathlib.Core.Logic.{_⊎_, inl, inr, _≢_}
 use mathlib.Core.List.{List}
 use Prim.Native.Nat.{ℕ, zero, suc, _+_, _-_, _≤_, _<_}
 use native.Mathlib.Omega.{arith}
-use lib.ListN.{length, set, length-set}
+use lib.ListN.{getD, length, set, length-set}
 use Rattle.assignment.proofs.Tests.{eq?, lt?}
 use Rattle.assignment.proofs.Moves.{Moved}
 use Rattle.day.specs.Day.{ofPeriod}
-use Rattle.path.specs.Path.{el, away, InList, Gap, Listed, CanList, Filled, Removed, NearestIn, Nearest}
-use Rattle.path.proofs.Rows.{set-moved}
+use Rattle.path.specs.Path.{el, far, away, InList, Gap, At, Waits, Listed, Waiting, Lined, CanList, Filled, CanNear, NearestIn, Levelled, CanLevel, NextLevel, Nearest}
+use Rattle.path.proofs.Rows.{set-moved, as-read}
+
+-- ---- what stands in the list
+
+module _ {list : List ℕ} {left target : ℕ} (o : InList list left target) where
+  pub list-to : (y : ℕ) → y ≤ left → el list y ≤ target
+  list-to y l = elim (eq? y left) [
+    | inl e ↦ omega (arith, ap (el list) e, o .ends)
+    | inr e ↦ omega (arith, o .rising y left (omega arith) (omega arith), o .ends)
+  ]
+
+  pub list-before : (y : ℕ) → y < left → el list y < target
+  list-before y l = omega (arith, o .rising y left l (omega arith), o .ends)
+
+  -- a period up to the target stands at a place, or in a gap
+  record Place (j : ℕ) : Type 0 where
+    place : ℕ
+    to : place ≤ left
+    is : el list place ≡ j
+
+  seek : (j m : ℕ) → m ≤ left + 1 → Place j ⊎ (Gap list left j ⊎ ((z : ℕ) → z < m → el list z < j))
+  seek j zero l = inr (inr (λ z b. absurd (omega arith)))
+  seek j (suc m) l = elim (seek j m (omega arith)) [
+    | inl a ↦ inl a
+    | inr q ↦ elim q [
+      | inl g ↦ inr (inl g)
+      | inr up ↦ elim (eq? (el list m) j) [
+        | inl e ↦ inl (record { place = m; to = omega arith; is = e })
+        | inr e ↦ elim (lt? j (el list m)) [
+          | inl b ↦ inr (inl (record { place = m; to = omega arith; below = b; above = up }))
+          | inr b ↦ inr (inr (λ z c. elim (eq? z m) [ inl f ↦ rw f (omega arith) | inr f ↦ up z (omega arith) ]))
+        ]
+      ]
+    ]
+  ]
+
+  place-or-gap : (j : ℕ) → j ≤ target → Place j ⊎ Gap list left j
+  place-or-gap j l = elim (seek j (left + 1) (omega arith)) [
+    | inl a ↦ inl a
+    | inr q ↦ elim q [ inl g ↦ inr g | inr up ↦ absurd (omega (arith, up left (omega arith), o .ends)) ]
+  ]
 
 -- ---- list_periods
-
--- period j stands at a place before `left`
-pub record At (list : List ℕ) (left j : ℕ) : Type 0 where
-  pub place : ℕ
-  pub to : place < left
-  pub is : el list place ≡ j
 
 -- the open periods before k are listed
 pub record Filling (capacities list₀ list : List ℕ) (first target left k : ℕ) : Type 0 where
@@ -128,220 +163,442 @@ module _ {capacities list₀ list : List ℕ} {first target left k : ℕ} (s : F
         | inr a ↦ omega (arith, g .below, up (g .place) (p .place) a (omega (arith, p .to)), before target (p .place) (p .to), p .is)
       ]
 
--- ---- take_out
+-- ---- take_level
 
--- the places before z have what is to stand there
-pub record Taking (list₀ list : List ℕ) (at left z : ℕ) : Type 0 where
-  pub row : length list₀ ≡ 98
-  pub same : length list ≡ length list₀
-  pub small : left < 98
-  pub lower : at ≤ z
-  pub upper : z ≤ left
-  pub before : (y : ℕ) → y < at → el list y ≡ el list₀ y
-  pub done : (y : ℕ) → at ≤ y → y < z → el list y ≡ el list₀ (y + 1)
+-- of the places before z, those that stay stand before `kept`, and those that go before `end` in the queue
+pub record Levelling (dist list₀ list queue₀ queue : List ℕ) (at left target queued level kept end z : ℕ) : Type 0 where
+  pub can : CanLevel dist list₀ queue₀ at left target queued
+  pub level-is : level ≡ away dist (el list₀ at)
+  pub same-l : length list ≡ length list₀
+  pub same-q : length queue ≡ length queue₀
+  pub upto : z ≤ left
+  pub from : at ≤ kept
+  pub counts : end + kept ≡ queued + z
+  pub room : kept ≤ z
+  pub more : at < z → kept < z
   pub rest : (y : ℕ) → z ≤ y → el list y ≡ el list₀ y
+  pub rising : (y x : ℕ) → y < x → x < kept → el list y < el list x
+  pub stays : (y : ℕ) → y < kept → At list₀ z (el list y)
+  pub goes : (y : ℕ) → queued ≤ y → y < end → At list₀ z (el queue y) × (away dist (el queue y) ≡ level)
+  pub apart : (y x : ℕ) → queued ≤ y → y < x → x < end → el queue y ≢ el queue x
+  pub out : (y x : ℕ) → queued ≤ y → y < end → x < kept → el queue y ≢ el list x
+  pub all : (j : ℕ) → At list₀ z j → At list kept j ⊎ Waits queue queued end j
 
-pub taking-start : {list : List ℕ} {at left : ℕ} → (length list ≡ 98) × (at < left) × (left < 98) → Taking list list at left at
-taking-start c = record {
-  row = c .0;
-  same = refl;
-  small = c .2;
-  lower = omega arith;
-  upper = omega (arith, c .1);
-  before = λ y _. refl;
-  done = λ y a b. absurd (omega arith);
-  rest = λ y _. refl;
-}
+module _ {dist list queue : List ℕ} {at left target queued : ℕ} (c : CanLevel dist list queue at left target queued) where
+  pub level-room : (at < length list) × (el list at < length dist) × (at < 98) × (el list at < 98)
+  level-room = omega (arith, c .shape .row, c .shape .short, c .before, c .dists, c .within, list-to (c .shape) at (omega (arith, c .before)))
 
-module _ {list₀ list : List ℕ} {at left z : ℕ} (s : Taking list₀ list at left z) where
-  pub taking-end : left ≤ z → Removed list₀ list at left
-  taking-end l = record { before = s .before; behind = λ y a b. s .done y a (omega arith) }
+  pub levelling-start : Levelling dist list list queue queue at left target queued (getD dist (el list at) 0) at queued at
+  levelling-start = record {
+    can = c;
+    level-is = as-read dist (el list at) (level-room .1);
+    same-l = refl;
+    same-q = refl;
+    upto = omega (arith, c .before);
+    from = omega arith;
+    counts = refl;
+    room = omega arith;
+    more = λ b. absurd (omega arith);
+    rest = λ y _. refl;
+    rising = λ y x a b. c .shape .rising y x a (omega (arith, c .before));
+    stays = λ y b. record { place = y; to = b; is = refl };
+    goes = λ y a b. absurd (omega arith);
+    apart = λ y x a b e. absurd (omega arith);
+    out = λ y x a b. absurd (omega arith);
+    all = λ j p. inl p;
+  }
+
+module _ {dist list₀ list queue₀ queue : List ℕ} {at left target queued level kept end z : ℕ}
+    (s : Levelling dist list₀ list queue₀ queue at left target queued level kept end z) where
+  -- what stands before place z is less than what stands there
+  before-less : z ≤ left → {j : ℕ} → At list₀ z j → j < el list₀ z
+  before-less l p = omega (arith, p .is, s .can .shape .rising (p .place) z (p .to) l)
+
+  at-more : {j : ℕ} → At list₀ z j → At list₀ (z + 1) j
+  at-more p = record { place = p .place; to = omega (arith, p .to); is = p .is }
+
+  pub last-room : (kept < length list) × (kept < 98)
+  last-room = omega (arith, s .room, s .upto, s .same-l, s .can .shape .row, s .can .shape .short)
 
   module _ (l : z < left) where
-    pub taking-room : (z < length list) × (z + 1 < length list) × (z + 1 < 98)
-    taking-room = omega (arith, s .row, s .same, s .small)
+    pub levelling-room : (z < length list) × (z < 98) × (kept < length list) × (end < length queue) × (end < 98)
+    levelling-room = omega (
+      arith,
+      s .room,
+      s .counts,
+      s .same-l,
+      s .same-q,
+      s .can .shape .row,
+      s .can .shape .short,
+      s .can .queue-row,
+      s .can .room,
+      s .from,
+    )
 
-    pub taking-next : Taking list₀ (set list z (el list (z + 1))) at left (z + 1)
-    taking-next =
-        let v = set-moved list z (el list (z + 1)) (taking-room .0) in
-        record {
-          row = s .row;
-          same = length-set list z (el list (z + 1)) ∙ s .same;
-          small = s .small;
-          lower = omega (arith, s .lower);
-          upper = omega arith;
-          before = λ y b. v .others y (omega (arith, s .lower)) ∙ s .before y b;
-          done = λ y a b. elim (eq? y z) [
-            | inl e ↦ rw e (v .here ∙ s .rest (z + 1) (omega arith))
-            | inr e ↦ v .others y e ∙ s .done y a (omega arith)
-          ];
-          rest = λ y b. v .others y (omega arith) ∙ s .rest y (omega arith);
-        }
+    module _ {k : ℕ} (k-is : k ≡ getD list z 0) where
+      k-at : k ≡ el list₀ z
+      k-at = k-is ∙ s .rest z (omega arith)
 
--- ---- what stands in the list
+      pub levelling-read : (k < length dist) × (k < 98)
+      levelling-read = omega (arith, k-at, list-to (s .can .shape) z (omega arith), s .can .within, s .can .dists)
 
-module _ {list : List ℕ} {left target : ℕ} (o : InList list left target) where
-  pub list-to : (y : ℕ) → y ≤ left → el list y ≤ target
-  list-to y l = elim (eq? y left) [
-    | inl e ↦ omega (arith, ap (el list) e, o .ends)
-    | inr e ↦ omega (arith, o .rising y left (omega arith) (omega arith), o .ends)
-  ]
+      same : getD dist k 0 ≡ away dist k
+      same = as-read dist k (levelling-read .0)
 
-  pub list-before : (y : ℕ) → y < left → el list y < target
-  list-before y l = omega (arith, o .rising y left l (omega arith), o .ends)
+      here : At list₀ (z + 1) k
+      here = record { place = z; to = omega arith; is = sym k-at }
 
-  -- a period up to the target stands at a place, or in a gap
-  record Place (j : ℕ) : Type 0 where
-    place : ℕ
-    to : place ≤ left
-    is : el list place ≡ j
+      other : {j : ℕ} → At list₀ z j → j ≢ k
+      other p e = omega (arith, before-less (omega arith) p, k-at)
 
-  seek : (j m : ℕ) → m ≤ left + 1 → Place j ⊎ (Gap list left j ⊎ ((z : ℕ) → z < m → el list z < j))
-  seek j zero l = inr (inr (λ z b. absurd (omega arith)))
-  seek j (suc m) l = elim (seek j m (omega arith)) [
-    | inl a ↦ inl a
-    | inr q ↦ elim q [
-      | inl g ↦ inr (inl g)
-      | inr up ↦ elim (eq? (el list m) j) [
-        | inl e ↦ inl (record { place = m; to = omega arith; is = e })
-        | inr e ↦ elim (lt? j (el list m)) [
-          | inl b ↦ inr (inl (record { place = m; to = omega arith; below = b; above = up }))
-          | inr b ↦ inr (inr (λ z c. elim (eq? z m) [ inl f ↦ rw f (omega arith) | inr f ↦ up z (omega arith) ]))
-        ]
+      -- a place before z + 1 is one before z, or z
+      split : (j : ℕ) → At list₀ (z + 1) j → At list₀ z j ⊎ (j ≡ k)
+      split j p = elim (eq? (p .place) z) [
+        | inl e ↦ inr (sym (p .is) ∙ ap (el list₀) e ∙ sym k-at)
+        | inr e ↦ inl (record { place = p .place; to = omega (arith, p .to); is = p .is })
       ]
-    ]
-  ]
 
-  place-or-gap : (j : ℕ) → j ≤ target → Place j ⊎ Gap list left j
-  place-or-gap j l = elim (seek j (left + 1) (omega arith)) [
-    | inl a ↦ inl a
-    | inr q ↦ elim q [ inl g ↦ inr g | inr up ↦ absurd (omega (arith, up left (omega arith), o .ends)) ]
-  ]
-
-module _ {cap : ℕ → ℕ} {list rank : List ℕ} {left first target : ℕ} (s : Listed cap list rank left first target) where
-  -- the nearest of the list is the nearest of all that are not reached
-  pub listed-nearest : {dist : List ℕ} {at : ℕ} → NearestIn dist list left at → Nearest cap dist rank first target (el list at)
-  listed-nearest {dist} {at} h = record {
-    from = s .low at (h .to);
-    to = list-to (s .shape) at (h .to);
-    fresh = λ e. s .fresh at (before e);
-    nearer = λ e. rw (s .shape .ends) at (h .nearer (before e));
-    some = λ e. s .some at (before e);
-    least = λ j a b open-j none. elim (place-or-gap (s .shape) j (omega arith)) [
-      | inl p ↦ rw (p .is) at (h .least (p .place) (p .to))
-      | inr g ↦ absurd (omega (arith, s .gaps j g a open-j))
-    ];
-    target-least = rw (s .shape .ends) at (h .least left (omega arith));
-  }
-    where
-      before : el list at ≢ target → at < left
-      before e = elim (eq? at left) [ inl f ↦ absurd (e (ap (el list) f ∙ s .shape .ends)) | inr f ↦ omega (arith, h .to) ]
-
-  pub listed-some : 0 < cap target → (y : ℕ) → y ≤ left → 0 < cap (el list y)
-  listed-some free y l = elim (eq? y left) [ inl e ↦ rw (e, s .shape .ends) free | inr e ↦ s .some y (omega arith) ]
-
-  pub listed-last : {at : ℕ} → at ≤ left → left ≤ at → el list at ≡ target
-  listed-last {at} a b = let e : at ≡ left = omega arith in ap (el list) e ∙ s .shape .ends
-
-  pub listed-other : {at : ℕ} → at < left → el list at ≢ target
-  listed-other {at} l e = omega (arith, list-before (s .shape) at l)
-
-  -- the period at place `at` is reached and taken out
-  module _ {list₂ : List ℕ} (rank₂ : List ℕ) (t : ℕ) {at : ℕ} (l : at < left) (v : Moved (el rank) (el rank₂) (el list at) (t + 1))
-      (same : length list₂ ≡ length list) (h : Removed list list₂ at left) where
-    out-shape : InList list₂ (left - 1) target
-    out-shape = record {
-      row = same ∙ s .shape .row;
-      short = omega (arith, s .shape .short);
-      ends = h .behind (left - 1) (omega arith) (omega arith) ∙ ap (el list) last ∙ s .shape .ends;
-      rising = λ y z a b. elim (lt? z at) [
-        | inl c ↦ rw (h .before y (omega arith), h .before z c) (s .shape .rising y z a (omega arith))
-        | inr c ↦ elim (lt? y at) [
-          | inl e ↦ rw (h .before y e, h .behind z c (omega arith)) (s .shape .rising y (z + 1) (omega arith) (omega arith))
-          | inr e ↦ rw (h .behind y e (omega arith), h .behind z c (omega arith)) (s .shape .rising (y + 1) (z + 1) (omega arith) (omega arith))
-        ]
-      ];
-    }
-      where
-        last : (left - 1) + 1 ≡ left
-        last = omega arith
-
-    still : (y : ℕ) → y < left → y ≢ at → el rank₂ (el list y) ≡ 0
-    still y b e = v .others (el list y) apart ∙ s .fresh y b
-      where
-        apart : el list y ≢ el list at
-        apart f = elim (lt? y at) [
-          | inl c ↦ omega (arith, s .shape .rising y at c (omega arith))
-          | inr c ↦ omega (arith, s .shape .rising at y (omega arith) (omega arith))
-        ]
-
-    gap : (j : ℕ) → Gap list₂ (left - 1) j → j ≢ el list at → Gap list left j
-    gap j g other = elim (lt? (g .place) at) [
-      | inl c ↦ record {
-        place = g .place;
-        to = omega arith;
-        below = rw (h .before (g .place) c) at (g .below);
-        above = λ z b. rw (h .before z (omega arith)) at (g .above z b);
+      pub levelling-go : getD dist k 0 ≡ level → Levelling dist list₀ list queue₀ (set queue end k) at left target queued level kept (end + 1) (z + 1)
+      levelling-go e = record {
+        can = s .can;
+        level-is = s .level-is;
+        same-l = s .same-l;
+        same-q = length-set queue end k ∙ s .same-q;
+        upto = omega arith;
+        from = s .from;
+        counts = omega (arith, s .counts);
+        room = omega (arith, s .room);
+        more = λ _. omega (arith, s .room);
+        rest = λ y b. s .rest y (omega arith);
+        rising = s .rising;
+        stays = λ y b. at-more (s .stays y b);
+        goes = λ y a b. elim (eq? y end) [
+          | inl f ↦ rw (f, v .here) (here, sym same ∙ e)
+          | inr f ↦ let g = s .goes y a (omega arith) in rw (v .others y f) (at-more (g .0), g .1)
+        ];
+        apart = λ y x a b c. elim (eq? x end) [
+          | inl f ↦ rw (f, v .here, v .others y (omega arith)) (other (s .goes y a (omega arith) .0))
+          | inr f ↦ rw (v .others x f, v .others y (omega arith)) (s .apart y x a b (omega arith))
+        ];
+        out = λ y x a b c. elim (eq? y end) [
+          | inl f ↦ rw (f, v .here) (λ g. other (s .stays x c) (sym g))
+          | inr f ↦ rw (v .others y f) (s .out y x a (omega arith) c)
+        ];
+        all = λ j p. elim (split j p) [
+          | inr f ↦ inr (record { place = end; from = omega (arith, s .counts, s .room); to = omega arith; is = v .here ∙ sym f })
+          | inl q ↦ elim (s .all j q) [
+            | inl a ↦ inl a
+            | inr w ↦ inr (record { place = w .place; from = w .from; to = omega (arith, w .to); is = v .others (w .place) (omega (arith, w .to)) ∙ w .is })
+          ]
+        ];
       }
-      | inr c ↦ elim (lt? j (el list at)) [
-        | inl b ↦ record {
-          place = at;
-          to = omega arith;
-          below = b;
-          above = λ z e. rw (h .before z e) at (g .above z (omega arith));
-        }
-        | inr b ↦ record {
-          place = g .place + 1;
-          to = omega (arith, g .to);
-          below = rw (h .behind (g .place) c (omega (arith, g .to))) at (g .below);
-          above = λ z e. elim (lt? z at) [
-            | inl f ↦ rw (h .before z f) at (g .above z (omega arith))
-            | inr f ↦ elim (eq? z at) [
-              | inl q ↦ rw q (omega arith)
-              | inr q ↦ up z (omega arith) (omega arith) (omega (arith, g .to))
-            ]
-          ];
-        }
+        where
+          v : Moved (el queue) (el (set queue end k)) end k
+          v = set-moved queue end k (levelling-room .3)
+
+      pub levelling-stay : getD dist k 0 ≢ level → Levelling dist list₀ (set list kept k) queue₀ queue at left target queued level (kept + 1) end (z + 1)
+      levelling-stay e = record {
+        can = s .can;
+        level-is = s .level-is;
+        same-l = length-set list kept k ∙ s .same-l;
+        same-q = s .same-q;
+        upto = omega arith;
+        from = omega (arith, s .from);
+        counts = omega (arith, s .counts);
+        room = omega (arith, s .room);
+        more = λ _. omega (arith, passed);
+        rest = λ y b. v .others y (omega (arith, s .room)) ∙ s .rest y (omega arith);
+        rising = λ y x a b. elim (eq? x kept) [
+          | inl f ↦ rw (f, v .here, v .others y (omega arith)) (omega (arith, before-less (omega arith) (s .stays y (omega arith)), k-at))
+          | inr f ↦ rw (v .others x f, v .others y (omega arith)) (s .rising y x a (omega arith))
+        ];
+        stays = λ y b. elim (eq? y kept) [
+          | inl f ↦ rw (f, v .here) here
+          | inr f ↦ rw (v .others y f) (at-more (s .stays y (omega arith)))
+        ];
+        goes = λ y a b. let g = s .goes y a b in (at-more (g .0), g .1);
+        apart = s .apart;
+        out = λ y x a b c. elim (eq? x kept) [
+          | inl f ↦ rw (f, v .here) (other (s .goes y a b .0))
+          | inr f ↦ rw (v .others x f) (s .out y x a b (omega arith))
+        ];
+        all = λ j p. elim (split j p) [
+          | inr f ↦ inl (record { place = kept; to = omega arith; is = v .here ∙ sym f })
+          | inl q ↦ elim (s .all j q) [
+            | inl a ↦ inl (record { place = a .place; to = omega (arith, a .to); is = v .others (a .place) (omega (arith, a .to)) ∙ a .is })
+            | inr w ↦ inr w
+          ]
+        ];
+      }
+        where
+          v : Moved (el list) (el (set list kept k)) kept k
+          v = set-moved list kept k (levelling-room .2)
+
+          -- the first of them goes
+          passed : kept < z
+          passed = elim (eq? z at) [
+            | inl f ↦ absurd (e (same ∙ ap (away dist) (k-at ∙ ap (el list₀) f) ∙ sym (s .level-is)))
+            | inr f ↦ s .more (omega (arith, s .from, s .room))
+          ]
+
+  pub levelling-end : left ≤ z → (kept < left) × Levelled dist list₀ (set list kept target) queue₀ queue left kept queued level
+  levelling-end l = (
+    omega (arith, s .more (omega (arith, s .can .before)), s .upto),
+    record {
+      short = omega (arith, s .room, s .upto);
+      ends = v .here ∙ sym (s .can .shape .ends);
+      rising = λ y x a b. rw (old y (omega arith), old x b) (s .rising y x a b);
+      stays = λ y b. rw (old y b) (whole (s .stays y b));
+      goes = λ y a b. let g = s .goes y a (omega (arith, as-many)) in (whole (g .0), g .1);
+      apart = λ y x a b c. s .apart y x a b (omega (arith, as-many));
+      out = λ y x a b c. rw (old x c) (s .out y x a (omega (arith, as-many)) c);
+      all = λ j p. elim (s .all j (record { place = p .place; to = omega (arith, p .to); is = p .is })) [
+        | inl a ↦ inl (record { place = a .place; to = a .to; is = old (a .place) (a .to) ∙ a .is })
+        | inr w ↦ inr (record { place = w .place; from = w .from; to = omega (arith, w .to, as-many); is = w .is })
+      ];
+    },
+  )
+    where
+      v : Moved (el list) (el (set list kept target)) kept target
+      v = set-moved list kept target (last-room .0)
+
+      old : (y : ℕ) → y < kept → el (set list kept target) y ≡ el list y
+      old y b = v .others y (omega arith)
+
+      as-many : end ≡ queued + (left - kept)
+      as-many = omega (arith, s .counts, s .upto, s .room)
+
+      whole : {j : ℕ} → At list₀ z j → At list₀ left j
+      whole p = record { place = p .place; to = omega (arith, p .to, s .upto); is = p .is }
+
+-- ---- take_nearest
+
+-- the target is the nearest: all stays
+pub level-none : {dist list queue : List ℕ} {left target level queued at : ℕ} → CanNear dist list left target level → NearestIn dist list left at → left ≤ at
+    → NextLevel dist list list queue queue left left queued target
+level-none {dist} {list} {left = left} {target} {at = at} c h e =
+    let same : at ≡ left = omega (arith, h .to) in
+    record {
+      level = away dist (el list at);
+      levelled = record {
+        short = omega arith;
+        ends = refl;
+        rising = λ y x a b. c .shape .rising y x a (omega arith);
+        stays = λ y b. record { place = y; to = b; is = refl };
+        goes = λ y a b. absurd (omega arith);
+        apart = λ y x a b d. absurd (omega arith);
+        out = λ y x a b. absurd (omega arith);
+        all = λ j p. inl p;
+      };
+      least = h .least;
+      more = λ b. absurd (omega arith);
+      none = λ _. omega (arith, ap (λ z. away dist (el list z)) same, ap (away dist) (c .shape .ends));
+    }
+
+pub level-some : {dist list list₂ queue queue₂ : List ℕ} {left left₂ target level queued at : ℕ} → CanNear dist list left target level → NearestIn dist list left at
+    → at < left → (left₂ < left) × Levelled dist list list₂ queue queue₂ left left₂ queued (away dist (el list at))
+    → NextLevel dist list list₂ queue queue₂ left left₂ queued target
+level-some {dist} c h b l = record {
+  level = _;
+  levelled = l .1;
+  least = h .least;
+  more = λ _. omega (arith, h .nearer b, ap (away dist) (c .shape .ends));
+  none = λ d. absurd (omega (arith, l .0));
+}
+
+-- ---- the list and the queue
+
+module _ {cap : ℕ → ℕ} {dist rank list queue : List ℕ} {left first target level t queued : ℕ}
+    (s : Lined cap dist rank list queue left first target level t queued) where
+  pub lined-some : 0 < cap target → (y : ℕ) → y ≤ left → 0 < cap (el list y)
+  lined-some free y l = elim (eq? y left) [ inl e ↦ rw (e, s .listed .shape .ends) free | inr e ↦ s .listed .some y (omega arith) ]
+
+  -- nothing open that is not reached is nearer than the level
+  pub lined-least : (j : ℕ) → first ≤ j → j ≤ target → 0 < cap j → el rank j ≡ 0 → level ≤ away dist j
+  lined-least j a b some none = elim (place-or-gap (s .listed .shape) j b) [
+    | inl p ↦ rw (p .is) at (s .low (p .place) (p .to))
+    | inr g ↦ elim (s .listed .gaps j g a some) [
+      | inl done ↦ absurd (omega arith)
+      | inr w ↦ omega (arith, rw (w .is) at (s .waits (w .place) (w .from) (w .to) .here))
+    ]
+  ]
+
+  module _ (l : t < queued) {k : ℕ} (k-is : k ≡ el queue t) where
+    next : Waiting cap dist rank first target level k
+    next = rw k-is (s .waits t (omega arith) l)
+
+    -- the first of the queue is the nearest
+    pub lined-nearest : 0 < cap target → el rank target ≡ 0 → level < far → Nearest cap dist rank first target k
+    lined-nearest free fresh near = record {
+      from = next .from;
+      to = omega (arith, next .before);
+      fresh = λ _. next .fresh;
+      near = λ _. omega (arith, next .here);
+      some = λ _. next .some;
+      least = λ j a b some none. omega (arith, next .here, lined-least j a (omega arith) some none);
+      target-least = omega (arith, next .here, lined-least target (omega (arith, next .from, next .before)) (omega arith) free fresh);
+    }
+
+    pub lined-other : k ≢ target
+    lined-other e = omega (arith, next .before)
+
+    pub lined-level : away dist k ≡ level
+    lined-level = next .here
+
+    pub lined-open : 0 < cap k
+    lined-open = next .some
+
+    -- what stands in no place of the list is no farther than it
+    pub lined-passed : ((j : ℕ) → 0 < el rank j → away dist j ≤ away dist k) → (j : ℕ) → Gap list left j → first ≤ j → 0 < cap j → away dist j ≤ away dist k
+    lined-passed order j g a some = elim (s .listed .gaps j g a some) [
+      | inl done ↦ order j done
+      | inr w ↦ omega (arith, next .here, rw (w .is) at (s .waits (w .place) (w .from) (w .to) .here))
+    ]
+
+    -- it is reached: the others are as near as they were
+    pub lined-reach : {dist₂ rank₂ : List ℕ} {r : ℕ} → Moved (el rank) (el rank₂) k r → 0 < r → ((j : ℕ) → away dist₂ j ≤ away dist j)
+        → ((j : ℕ) → el rank₂ j ≡ 0 → level ≤ away dist₂ j) → el rank₂ target ≡ 0 → Lined cap dist₂ rank₂ list queue left first target level (t + 1) queued
+    lined-reach {dist₂} {rank₂} {r} v pos falls least unreached = record {
+      listed = record {
+        shape = s .listed .shape;
+        low = s .listed .low;
+        fresh = fresh;
+        some = s .listed .some;
+        gaps = λ j g a some. elim (eq? j k) [
+          | inl e ↦ inl (omega (arith, ap (el rank₂) e, v .here))
+          | inr e ↦ elim (s .listed .gaps j g a some) [
+            | inl done ↦ inl (omega (arith, v .others j e))
+            | inr w ↦ inr (record {
+              place = w .place;
+              from = later w e;
+              to = w .to;
+              is = w .is;
+            })
+          ]
+        ];
+      };
+      low = λ y b. elim (eq? y left) [
+        | inl e ↦ rw (e, s .listed .shape .ends) (least target unreached)
+        | inr e ↦ least (el list y) (fresh y (omega arith))
+      ];
+      row = s .row;
+      upto = omega arith;
+      room = s .room;
+      waits = λ y a b.
+          let w = s .waits y (omega arith) b in
+          let free = v .others (el queue y) (λ e. s .apart t y (omega arith) (omega arith) b (sym k-is ∙ sym e)) ∙ w .fresh in
+          record {
+            from = w .from;
+            before = w .before;
+            some = w .some;
+            fresh = free;
+            here = omega (arith, w .here, falls (el queue y), least (el queue y) free);
+          };
+      apart = λ y z a b c. s .apart y z (omega arith) b c;
+      out = λ y z a b c. s .out y z (omega arith) b c;
+    }
+      where
+        fresh : (y : ℕ) → y < left → el rank₂ (el list y) ≡ 0
+        fresh y b = v .others (el list y) (λ e. s .out t y (omega arith) l b (sym k-is ∙ sym e)) ∙ s .listed .fresh y b
+
+        later : {j : ℕ} (w : Waits queue t queued j) → j ≢ k → t + 1 ≤ w .place
+        later w e = elim (eq? (w .place) t) [
+          | inl f ↦ absurd (e (sym (w .is) ∙ ap (el queue) f ∙ sym k-is))
+          | inr f ↦ omega (arith, w .from)
+        ]
+
+  -- the queue is done, and gets the next level
+  module _ (done : queued ≤ t) {list₂ queue₂ : List ℕ} {left₂ : ℕ} (same-l : length list₂ ≡ length list) (same-q : length queue₂ ≡ length queue)
+      (h : NextLevel dist list list₂ queue queue₂ left left₂ queued target) where
+    g : Levelled dist list list₂ queue queue₂ left left₂ queued (h .level)
+    g = h .levelled
+
+    in-list : (j : ℕ) → At list left j → (first ≤ j) × (j < target) × (0 < cap j) × (el rank j ≡ 0)
+    in-list j p = rw (← (p .is)) (s .listed .low (p .place) (omega (arith, p .to)), list-before (s .listed .shape) (p .place) (p .to), s .listed .some (p .place) (p .to), s .listed .fresh (p .place) (p .to))
+
+    ends : el list₂ left₂ ≡ target
+    ends = g .ends ∙ s .listed .shape .ends
+
+    rising₂ : (y z : ℕ) → y < z → z ≤ left₂ → el list₂ y < el list₂ z
+    rising₂ y z a b = elim (eq? z left₂) [
+      | inl e ↦ rw (e, ends) (in-list (el list₂ y) (g .stays y (omega arith)) .1)
+      | inr e ↦ g .rising y z a (omega arith)
+    ]
+
+    -- what stood in the list stands in it still, or waits
+    gaps₂ : (j : ℕ) → Gap list₂ left₂ j → first ≤ j → 0 < cap j → (0 < el rank j) ⊎ Waits queue₂ queued (queued + (left - left₂)) j
+    gaps₂ j o a some = elim (place-or-gap (s .listed .shape) j (omega (arith, o .below, up (o .place) (o .to)))) [
+      | inl p ↦ elim (eq? (p .place) left) [
+        | inl e ↦ absurd (omega (arith, o .below, up (o .place) (o .to), p .is, ap (el list) e, s .listed .shape .ends))
+        | inr e ↦ elim (g .all j (record { place = p .place; to = omega (arith, p .to); is = p .is })) [
+          | inl q ↦ absurd (not-in q)
+          | inr w ↦ inr w
+        ]
+      ]
+      | inr old ↦ elim (s .listed .gaps j old a some) [
+        | inl reached ↦ inl reached
+        | inr w ↦ absurd (omega (arith, w .from, w .to))
       ]
     ]
       where
-        up : (z : ℕ) → at ≤ z - 1 → z - 1 < g .place → 0 < z → el list z < j
-        up z a b pos = omega (arith, g .above (z - 1) b, h .behind (z - 1) a (omega (arith, g .to)), ap (el list) (back z pos))
-          where
-            back : (z : ℕ) → 0 < z → (z - 1) + 1 ≡ z
-            back z pos = omega arith
+        up : (y : ℕ) → y ≤ left₂ → el list₂ y ≤ target
+        up y b = elim (eq? y left₂) [ inl e ↦ rw e (omega (arith, ends)) | inr e ↦ omega (arith, rising₂ y left₂ (omega arith) (omega arith), ends) ]
 
-    pub listed-out : Listed cap list₂ rank₂ (left - 1) first target
-    listed-out = record {
-      shape = out-shape;
-      low = λ y b. elim (lt? y at) [
-        | inl c ↦ rw (h .before y c) (s .low y (omega arith))
-        | inr c ↦ rw (h .behind y c (omega arith)) (s .low (y + 1) (omega arith))
-      ];
-      fresh = λ y b. elim (lt? y at) [
-        | inl c ↦ rw (h .before y c) (still y (omega arith) (omega arith))
-        | inr c ↦ rw (h .behind y c (omega arith)) (still (y + 1) (omega arith) (omega arith))
-      ];
-      some = λ y b. elim (lt? y at) [
-        | inl c ↦ rw (h .before y c) (s .some y (omega arith))
-        | inr c ↦ rw (h .behind y c (omega arith)) (s .some (y + 1) (omega arith))
-      ];
-      gaps = λ j g from open-j. elim (eq? j (el list at)) [
-        | inl e ↦ rw e (omega (arith, v .here))
-        | inr e ↦ omega (arith, v .others j e, s .gaps j (gap j g e) from open-j)
-      ];
-    }
+        not-in : At list₂ left₂ j → ⊥
+        not-in q = elim (lt? (q .place) (o .place)) [
+          | inl b ↦ omega (arith, o .above (q .place) b, q .is)
+          | inr b ↦ elim (eq? (q .place) (o .place)) [
+            | inl e ↦ omega (arith, o .below, ap (el list₂) e, q .is)
+            | inr e ↦ omega (arith, o .below, q .is, rising₂ (o .place) (q .place) (omega arith) (omega (arith, q .to)))
+          ]
+        ]
 
--- the list at the start has every open period
-pub listed-start : {cap : ℕ → ℕ} {capacities list : List ℕ} (rank : List ℕ) {left first target : ℕ} → length list ≡ 98
+    pub lined-next : {queued₂ : ℕ} → queued₂ ≡ queued + (left - left₂) → Lined cap dist rank list₂ queue₂ left₂ first target (h .level) queued queued₂
+    lined-next e = rw e (record {
+      listed = record {
+        shape = record { row = same-l ∙ s .listed .shape .row; short = omega (arith, g .short, s .listed .shape .short); ends = ends; rising = rising₂ };
+        low = λ y b. elim (eq? y left₂) [
+          | inl e ↦ rw (e, ends) (rw (s .listed .shape .ends) at (s .listed .low left (omega arith)))
+          | inr e ↦ in-list (el list₂ y) (g .stays y (omega arith)) .0
+        ];
+        fresh = λ y b. in-list (el list₂ y) (g .stays y b) .3;
+        some = λ y b. in-list (el list₂ y) (g .stays y b) .2;
+        gaps = gaps₂;
+      };
+      low = λ y b. elim (eq? y left₂) [
+        | inl e ↦ rw (e, ends) (rw (s .listed .shape .ends) at (h .least left (omega arith)))
+        | inr e ↦ let p = g .stays y (omega arith) in rw (p .is) at (h .least (p .place) (omega (arith, p .to)))
+      ];
+      row = same-q ∙ s .row;
+      upto = omega arith;
+      room = omega (arith, s .room, g .short);
+      waits = λ y a b.
+          let c = g .goes y a b in
+          let p = in-list (el queue₂ y) (c .0) in
+          record { from = p .0; before = p .1; some = p .2; fresh = p .3; here = c .1 };
+      apart = g .apart;
+      out = g .out;
+    })
+
+-- the list at the start has every open period, and nothing waits
+pub lined-start : {cap : ℕ → ℕ} {capacities list : List ℕ} (dist rank queue : List ℕ) {left first target : ℕ} → length list ≡ 98 → length queue ≡ 98
     → ((k : ℕ) → el rank k ≡ 0) → ((k : ℕ) → k < target → cap k ≡ ofPeriod capacities k) → Filled capacities list first target left
-    → Listed cap list rank left first target
-listed-start {cap} {capacities} {list} rank {left} {first} {target} row none same h = record {
-  shape = shape;
-  low = h .low;
-  fresh = λ y _. none (el list y);
-  some = λ y b. omega (arith, h .some y b, same (el list y) (list-before shape y b));
-  gaps = λ j g from some. absurd (omega (arith, h .gaps j g from, same j (omega (arith, g .below, list-to shape (g .place) (g .to)))));
+    → Lined cap dist rank list queue left first target 0 0 0
+lined-start {cap} {capacities} {list} dist rank queue {left} {first} {target} row queue-row none same h = record {
+  listed = record {
+    shape = shape;
+    low = h .low;
+    fresh = λ y _. none (el list y);
+    some = λ y b. omega (arith, h .some y b, same (el list y) (list-before shape y b));
+    gaps = λ j g from some. absurd (omega (arith, h .gaps j g from, same j (omega (arith, g .below, list-to shape (g .place) (g .to)))));
+  };
+  low = λ y _. omega arith;
+  row = queue-row;
+  upto = omega arith;
+  room = omega (arith, h .short);
+  waits = λ y a b. absurd (omega arith);
+  apart = λ y z a b c. absurd (omega arith);
+  out = λ y z a b. absurd (omega arith);
 }
   where
     shape : InList list left target

@@ -119,7 +119,7 @@ module _ {d : Instance} {x p : ℕ → ℕ} {target : ℕ} {dist rank via : List
       reach-in =
           let b : k < 98 = omega (arith, a .to, scene .within, scene .periods) in
           let c : t < 98 = omega (arith, s .zeros, count-member 98 k 0 (el rank) b (a .fresh e)) in
-          omega (arith, a .to, s .rows .ranks, s .inside k (omega (arith, a .nearer e, s .most target)))
+          omega (arith, a .to, s .rows .ranks, s .inside k (a .near e))
 
       pub reach-next : Around d x p target dist (set rank k (t + 1)) via (t + 1) k (d .n)
       reach-next = record {
@@ -132,7 +132,7 @@ module _ {d : Instance} {x p : ℕ → ℕ} {target : ℕ} {dist rank via : List
           most = s .most;
           inside = λ j near. let b = s .inside j near in omega (arith, b);
           reached = λ j some. elim (eq? j k) [
-            | inl f ↦ rw f (omega (arith, reach-in .0, a .from, s .inside k (omega (arith, a .nearer e, s .most target))))
+            | inl f ↦ rw f (omega (arith, reach-in .0, a .from, s .inside k (a .near e)))
             | inr f ↦ omega (arith, s .reached j (omega (arith, v .others j f)))
           ];
           zeros = omega (

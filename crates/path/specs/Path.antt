@@ -124,13 +124,45 @@ pub record Gap (list : List ℕ) (left j : ℕ) : Type 0 where
   pub below : j < el list place
   pub above : (z : ℕ) → z < place → el list z < j
 
--- from the first period on, the list has the target and what is open and not reached
-pub record Listed (cap : ℕ → ℕ) (list rank : List ℕ) (left first target : ℕ) : Type 0 where
+-- period j stands at a place before `left`
+pub record At (list : List ℕ) (left j : ℕ) : Type 0 where
+  pub place : ℕ
+  pub to : place < left
+  pub is : el list place ≡ j
+
+-- period j stands in the queue, at place t or behind
+pub record Waits (queue : List ℕ) (t queued j : ℕ) : Type 0 where
+  pub place : ℕ
+  pub from : t ≤ place
+  pub to : place < queued
+  pub is : el queue place ≡ j
+
+-- from the first period on, the list has the target and what is open, not reached and not in the queue
+pub record Listed (cap : ℕ → ℕ) (list rank queue : List ℕ) (left first target t queued : ℕ) : Type 0 where
   pub shape : InList list left target
   pub low : (y : ℕ) → y ≤ left → first ≤ el list y
   pub fresh : (y : ℕ) → y < left → el rank (el list y) ≡ 0
   pub some : (y : ℕ) → y < left → 0 < cap (el list y)
-  pub gaps : (j : ℕ) → Gap list left j → first ≤ j → 0 < cap j → 0 < el rank j
+  pub gaps : (j : ℕ) → Gap list left j → first ≤ j → 0 < cap j → (0 < el rank j) ⊎ Waits queue t queued j
+
+-- an open period that is not reached, at distance `level`
+pub record Waiting (cap : ℕ → ℕ) (dist rank : List ℕ) (first target level k : ℕ) : Type 0 where
+  pub from : first ≤ k
+  pub before : k < target
+  pub some : 0 < cap k
+  pub fresh : el rank k ≡ 0
+  pub here : away dist k ≡ level
+
+-- t periods are reached; the queue has those behind them that are as near as `level`, and nothing in the list is nearer
+pub record Lined (cap : ℕ → ℕ) (dist rank list queue : List ℕ) (left first target level t queued : ℕ) : Type 0 where
+  pub listed : Listed cap list rank queue left first target t queued
+  pub low : (y : ℕ) → y ≤ left → level ≤ away dist (el list y)
+  pub row : length queue ≡ 98
+  pub upto : t ≤ queued
+  pub room : queued + left < 98
+  pub waits : (y : ℕ) → t ≤ y → y < queued → Waiting cap dist rank first target level (el queue y)
+  pub apart : (y z : ℕ) → t ≤ y → y < z → z < queued → el queue y ≢ el queue z
+  pub out : (y z : ℕ) → t ≤ y → y < queued → z < left → el queue y ≢ el list z
 
 pub record CanList (list : List ℕ) (first target : ℕ) : Type 0 where
   pub row : length list ≡ 98
@@ -145,11 +177,6 @@ pub record Filled (capacities list : List ℕ) (first target left : ℕ) : Type 
   pub low : (y : ℕ) → y ≤ left → first ≤ el list y
   pub some : (y : ℕ) → y < left → 0 < ofPeriod capacities (el list y)
   pub gaps : (j : ℕ) → Gap list left j → first ≤ j → ofPeriod capacities j ≡ 0
-
--- the period at place `at` is taken out, and those behind it move up
-pub record Removed (list list₂ : List ℕ) (at left : ℕ) : Type 0 where
-  pub before : (z : ℕ) → z < at → el list₂ z ≡ el list z
-  pub behind : (z : ℕ) → at ≤ z → z < left → el list₂ z ≡ el list (z + 1)
 
 -- ---- the nearest of them
 
@@ -166,12 +193,39 @@ pub record NearestIn (dist list : List ℕ) (left at : ℕ) : Type 0 where
   pub nearer : at < left → away dist (el list at) < away dist (el list left)
   pub least : (y : ℕ) → y ≤ left → away dist (el list at) ≤ away dist (el list y)
 
+-- the periods that are as near as `level` have gone from the list to the queue, at least those from some place on
+pub record Levelled (dist list list₂ queue queue₂ : List ℕ) (left left₂ queued level : ℕ) : Type 0 where
+  pub short : left₂ ≤ left
+  pub ends : el list₂ left₂ ≡ el list left
+  pub rising : (y z : ℕ) → y < z → z < left₂ → el list₂ y < el list₂ z
+  pub stays : (y : ℕ) → y < left₂ → At list left (el list₂ y)
+  pub goes : (y : ℕ) → queued ≤ y → y < queued + (left - left₂) → At list left (el queue₂ y) × (away dist (el queue₂ y) ≡ level)
+  pub apart : (y z : ℕ) → queued ≤ y → y < z → z < queued + (left - left₂) → el queue₂ y ≢ el queue₂ z
+  pub out : (y z : ℕ) → queued ≤ y → y < queued + (left - left₂) → z < left₂ → el queue₂ y ≢ el list₂ z
+  pub all : (j : ℕ) → At list left j → At list₂ left₂ j ⊎ Waits queue₂ queued (queued + (left - left₂)) j
+
+pub record CanLevel (dist list queue : List ℕ) (at left target queued : ℕ) : Type 0 where
+  pub dists : length dist ≡ 98
+  pub shape : InList list left target
+  pub within : target < 98
+  pub queue-row : length queue ≡ 98
+  pub room : queued + left < 98
+  pub before : at < left
+
+-- `level` is the least distance in the list; what is as near goes to the queue, unless the target is
+pub record NextLevel (dist list list₂ queue queue₂ : List ℕ) (left left₂ queued target : ℕ) : Type 0 where
+  pub level : ℕ
+  pub levelled : Levelled dist list list₂ queue queue₂ left left₂ queued level
+  pub least : (y : ℕ) → y ≤ left → level ≤ away dist (el list y)
+  pub more : left₂ < left → level < away dist target
+  pub none : left ≤ left₂ → away dist target ≤ level
+
 -- k is the nearest open period of first .. target that is not reached
 pub record Nearest (cap : ℕ → ℕ) (dist rank : List ℕ) (first target k : ℕ) : Type 0 where
   pub from : first ≤ k
   pub to : k ≤ target
   pub fresh : k ≢ target → el rank k ≡ 0
-  pub nearer : k ≢ target → away dist k < away dist target
+  pub near : k ≢ target → away dist k < far
   pub some : k ≢ target → 0 < cap k
   pub least : (j : ℕ) → first ≤ j → j < target → 0 < cap j → el rank j ≡ 0 → away dist k ≤ away dist j
   pub target-least : away dist k ≤ away dist target
@@ -224,12 +278,13 @@ pub record CanExpand (d : Day) (places holds first-in next-in prices list dist v
   pub some : (y : ℕ) → y ≤ left → 0 < room-in d (el list y)
   pub passed : (j : ℕ) → Gap list left j → due d (el places n) ≤ j → 0 < room-in d j → away dist j ≤ away dist k
 
--- the flights that land in k have offered
+-- the flights that land in k have offered: nothing is farther, and k as far as it was
 pub record Expanded (d : Instance) (x p : ℕ → ℕ) (target : ℕ) (dist dist₂ via via₂ : List ℕ) (k : ℕ) : Type 0 where
-  pub keeps : (rank : List ℕ) (t : ℕ) → Around d x p target dist rank via t k (d .n) → Around d x p target dist₂ rank via₂ t k 0
+  pub keeps : (rank : List ℕ) (t : ℕ) → Around d x p target dist rank via t k (d .n) → Around d x p target dist₂ rank via₂ t k 0 × (away dist₂ k ≡ away dist k)
+  pub falls : (j : ℕ) → away dist₂ j ≤ away dist j
 
 -- nothing is reached yet
-pub record CanSearch (d : Day) (places holds first-in next-in prices list dist rank via : List ℕ) (n target : ℕ) : Type 0 where
+pub record CanSearch (d : Day) (places holds first-in next-in prices list queue dist rank via : List ℕ) (n target : ℕ) : Type 0 where
   pub table : Table d places
   pub scene : Scene (scope d places n target) (landing d places holds) (ofPeriod prices) target
   pub upto : n < N d
@@ -237,6 +292,7 @@ pub record CanSearch (d : Day) (places holds first-in next-in prices list dist r
   pub chained : Chained (landing d places holds) first-in next-in n
   pub prices-row : target ≤ length prices + 1
   pub listed : length list ≡ 98
+  pub queue-row : length queue ≡ 98
   pub rows : Rows dist rank via
   pub all-far : (k : ℕ) → away dist k ≡ far
   pub no-ranks : (k : ℕ) → el rank k ≡ 0

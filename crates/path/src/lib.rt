@@ -1,9 +1,9 @@
 // The search for the cheapest chain of moves that makes room for a new flight: periods are reached in the order of their distances.
 ghost use mathlib.Core.Path.{_≡_};
-ghost use Prim.Native.Nat.{_<_};
+ghost use Prim.Native.Nat.{_+_, _<_};
 ghost use lib.ListN.{length};
 ghost use Rattle.day.specs.Day.{day, ofPeriod};
-ghost use Rattle.path.specs.Path.{landing, scope, CanList, Filled, Removed, CanNear, NearestIn, Nearer, CanOffer, Offers, CanExpand, Expanded, CanSearch, Searched};
+ghost use Rattle.path.specs.Path.{landing, scope, el, away, CanList, Filled, CanNear, NearestIn, CanLevel, Levelled, NextLevel, Nearer, CanOffer, Offers, CanExpand, Expanded, CanSearch, Searched};
 use day::after_of;
 use day::cost_of;
 use day::due_of;
@@ -36,19 +36,6 @@ fn list_periods(capacities: &[u32], list: &mut [usize], first: usize, target: us
     left
 }
 
-// Takes the period at place `at` out of a list whose last place is `left`.
-fn take_out(list: &mut [usize], at: usize, left: usize)
-    requires { ⌜ (length (now list) ≡ 98) × (at < left) × (left < 98) ⌝ }
-    ensures { λ _. ⌜ Removed (now (list .entry)) (now (list .exit)) at left ⌝ }
-{
-    let mut z = at;
-    while z < left {
-        let here = z;
-        z += 1;
-        list[here] = list[z];
-    }
-}
-
 // The place of the nearest period of the list, whose last is the target. None is nearer than `level`, so that the first which is as near
 // ends the search.
 fn nearest(dist: &[usize], list: &[usize], left: usize, target: usize, level: usize) -> usize
@@ -71,6 +58,60 @@ fn nearest(dist: &[usize], list: &[usize], left: usize, target: usize, level: us
         }
     }
     at
+}
+
+// Moves the periods of the list that are as near as the one at place `at`, from there on, to the queue, which has `queued` periods so far;
+// where the target then stands in the list.
+fn take_level(
+    dist: &[usize],
+    list: &mut [usize],
+    queue: &mut [usize],
+    at: usize,
+    left: usize,
+    target: usize,
+    queued: usize,
+) -> usize
+    requires { ⌜ CanLevel (now dist) (now list) (now queue) at left target queued ⌝ }
+    ensures { λ r. ⌜ (r < left) × Levelled (now (dist .entry)) (now (list .entry)) (now (list .exit)) (now (queue .entry)) (now (queue .exit)) left r queued (away (now (dist .entry)) (el (now (list .entry)) at)) ⌝ }
+{
+    let level = dist[list[at]];
+    let mut kept = at;
+    let mut end = queued;
+    let mut z = at;
+    while z < left {
+        let k = list[z];
+        z += 1;
+        if dist[k] == level {
+            queue[end] = k;
+            end += 1;
+        } else {
+            list[kept] = k;
+            kept += 1;
+        }
+    }
+    list[kept] = target;
+    kept
+}
+
+// Moves the nearest periods of the list, all that are equally near, to the queue, unless the target is as near; where the target then stands.
+fn take_nearest(
+    dist: &[usize],
+    list: &mut [usize],
+    queue: &mut [usize],
+    left: usize,
+    target: usize,
+    level: usize,
+    queued: usize,
+) -> usize
+    requires { ⌜ CanNear (now dist) (now list) left target level ⌝ }
+    requires { ⌜ (length (now queue) ≡ 98) × (queued + left < 98) ⌝ }
+    ensures { λ r. ⌜ NextLevel (now (dist .entry)) (now (list .entry)) (now (list .exit)) (now (queue .entry)) (now (queue .exit)) left r queued target ⌝ }
+{
+    let at = nearest(dist, list, left, target, level);
+    if at < left {
+        return take_level(dist, list, queue, at, left, target, queued);
+    }
+    left
 }
 
 // Period k comes to the distance `away` by way of `who`, if that is nearer.
@@ -176,9 +217,9 @@ fn expand(
     }
 }
 
-// The cheapest chain of moves that makes room for the flight at place n, due by the target: the flight offers, and then the nearest period is
-// reached again and again, until that is the target. What is reached leaves the list of those that are heard and offered to. All is far at the
-// start; `via` names the new flight by its place.
+// The cheapest chain of moves that makes room for the flight at place n, due by the target: the flight offers, and then the nearest periods
+// are reached again and again, until the target is as near as they are. What is equally near leaves the list, to which flights offer, at once
+// and is reached from the queue. All is far at the start; `via` names the new flight by its place.
 pub fn find_path(
     capacities: &[u32],
     flights: &[u32],
@@ -188,18 +229,19 @@ pub fn find_path(
     next_in: &[usize],
     prices: &[u32],
     list: &mut [usize],
+    queue: &mut [usize],
     dist: &mut [usize],
     rank: &mut [usize],
     via: &mut [usize],
     n: usize,
     target: usize,
 )
-    requires { ⌜ CanSearch (day (now capacities) (now flights)) (now places) (now holds) (now first_in) (now next_in) (now prices) (now list) (now dist) (now rank) (now via) n target ⌝ }
+    requires { ⌜ CanSearch (day (now capacities) (now flights)) (now places) (now holds) (now first_in) (now next_in) (now prices) (now list) (now queue) (now dist) (now rank) (now via) n target ⌝ }
     ensures { λ _. ⌜ Searched (scope (day (now (capacities .entry)) (now (flights .entry))) (now (places .entry)) n target) (landing (day (now (capacities .entry)) (now (flights .entry))) (now (places .entry)) (now (holds .entry))) (ofPeriod (now (prices .entry))) target (now (dist .exit)) (now (rank .exit)) (now (via .exit)) ⌝ }
 {
     let i = wide(places[n]);
     let first = due_of(flights, i);
-    let mut left = list_periods(capacities, list, first, target);
+    let all = list_periods(capacities, list, first, target);
     offer(
         capacities,
         flights,
@@ -207,21 +249,19 @@ pub fn find_path(
         list,
         dist,
         via,
-        left,
+        all,
         target,
         i,
         n,
         0,
         0,
     );
+    let mut left = take_nearest(dist, list, queue, all, target, 0, 0);
     let mut t = 0;
-    let mut at = nearest(dist, list, left, target, 0);
-    while at < left {
-        let k = list[at];
+    while t < all - left {
+        let k = queue[t];
         t += 1;
         rank[k] = t;
-        take_out(list, at, left);
-        left -= 1;
         expand(
             capacities,
             flights,
@@ -238,6 +278,12 @@ pub fn find_path(
             target,
             k,
         );
-        at = nearest(dist, list, left, target, dist[k]);
+        let level = dist[k];
+        if dist[target] <= level {
+            return;
+        }
+        if t == all - left {
+            left = take_nearest(dist, list, queue, left, target, level, t);
+        }
     }
 }

@@ -10,10 +10,10 @@ use Rattle.insertion.proofs.insert_all.Statement.{statement}
 use Rattle.insertion.proofs.insert_all.Tie as tie
 
 abbrev Inv-loop : tie.InvT-loop
-Inv-loop capacities flights holds₀ prices₀ places₀ loads₀ first-in₀ next-in₀ list₀ dist₀ rank₀ via₀ total₀ n₀ holds prices places loads first-in next-in list dist rank via total n = Building (day capacities flights) places holds prices loads first-in next-in list dist rank via total n × (length holds ≡ length holds₀) × (length prices ≡ length prices₀)
+Inv-loop capacities flights holds₀ prices₀ places₀ loads₀ first-in₀ next-in₀ list₀ queue₀ dist₀ rank₀ via₀ total₀ n₀ holds prices places loads first-in next-in list queue dist rank via total n = Building (day capacities flights) places holds prices loads first-in next-in list queue dist rank via total n × (length holds ≡ length holds₀) × (length prices ≡ length prices₀)
 
 abbrev μ-loop : tie.MeasureT-loop
-μ-loop capacities flights holds₀ prices₀ places₀ loads₀ first-in₀ next-in₀ list₀ dist₀ rank₀ via₀ total₀ n₀ holds prices places loads first-in next-in list dist rank via total n = length holds - n
+μ-loop capacities flights holds₀ prices₀ places₀ loads₀ first-in₀ next-in₀ list₀ queue₀ dist₀ rank₀ via₀ total₀ n₀ holds prices places loads first-in next-in list queue dist rank via total n = length holds - n
 
 slice-aggregate-order-flights : tie.Need-slice-aggregate-order-flights Inv-loop μ-loop
 slice-aggregate-order-flights c = search needs
@@ -43,28 +43,31 @@ slice-aggregate-insert-5 : tie.Need-slice-aggregate-insert-5 Inv-loop μ-loop
 slice-aggregate-insert-5 c = sym (c .before .before .before .before .before .before .before .before .loop .inv .0 .kept .listed)
 
 slice-aggregate-insert-6 : tie.Need-slice-aggregate-insert-6 Inv-loop μ-loop
-slice-aggregate-insert-6 c = sym (c .before .before .before .before .before .before .before .before .before .loop .inv .0 .kept .rows .dists)
+slice-aggregate-insert-6 c = sym (c .before .before .before .before .before .before .before .before .before .loop .inv .0 .kept .queue-row)
 
 slice-aggregate-insert-7 : tie.Need-slice-aggregate-insert-7 Inv-loop μ-loop
-slice-aggregate-insert-7 c = sym (c .before .before .before .before .before .before .before .before .before .before .loop .inv .0 .kept .rows .ranks)
+slice-aggregate-insert-7 c = sym (c .before .before .before .before .before .before .before .before .before .before .loop .inv .0 .kept .rows .dists)
 
 slice-aggregate-insert-8 : tie.Need-slice-aggregate-insert-8 Inv-loop μ-loop
-slice-aggregate-insert-8 c = sym (c .before .before .before .before .before .before .before .before .before .before .before .loop .inv .0 .kept .rows .vias)
+slice-aggregate-insert-8 c = sym (c .before .before .before .before .before .before .before .before .before .before .before .loop .inv .0 .kept .rows .ranks)
+
+slice-aggregate-insert-9 : tie.Need-slice-aggregate-insert-9 Inv-loop μ-loop
+slice-aggregate-insert-9 c = sym (c .before .before .before .before .before .before .before .before .before .before .before .before .loop .inv .0 .kept .rows .vias)
 
 insert-requires : tie.Need-insert-requires Inv-loop μ-loop
-insert-requires c κs = (c .before .before .before .before .before .before .before .before .before .before .before .loop .inv .0 .placed, (c .before .before .before .before .before .before .before .before .before .before .before .loop .inv .0 .kept, building-more (c .before .before .before .before .before .before .before .before .before .before .before .loop .inv .0) (c .before .before .before .before .before .before .before .before .before .before .loop-test .taken)))
+insert-requires c κs = (c .before .before .before .before .before .before .before .before .before .before .before .before .loop .inv .0 .placed, (c .before .before .before .before .before .before .before .before .before .before .before .before .loop .inv .0 .kept, building-more (c .before .before .before .before .before .before .before .before .before .before .before .before .loop .inv .0) (c .before .before .before .before .before .before .before .before .before .before .before .loop-test .taken)))
 
 add-total : tie.Need-add-total Inv-loop μ-loop
-add-total c = omega (arith, building-small (c .before .before .before .before .before .before .before .before .before .before .before .before .before .before .before .before .before .before .before .before .before .before .before .before .loop .inv .0) (c .before .before .before .before .before .before .before .before .before .before .before .before .insert .ensures .0))
+add-total c = omega (arith, building-small (c .before .before .before .before .before .before .before .before .before .before .before .before .before .before .before .before .before .before .before .before .before .before .before .before .before .before .loop .inv .0) (c .before .before .before .before .before .before .before .before .before .before .before .before .before .insert .ensures .0))
 
 add-n : tie.Need-add-n Inv-loop μ-loop
-add-n c = omega (arith, building-small (c .before .before .before .before .before .before .before .before .before .before .before .before .before .before .before .before .before .before .before .before .before .before .before .before .loop .inv .0) (c .before .before .before .before .before .before .before .before .before .before .before .before .insert .ensures .0))
+add-n c = omega (arith, building-small (c .before .before .before .before .before .before .before .before .before .before .before .before .before .before .before .before .before .before .before .before .before .before .before .before .before .before .loop .inv .0) (c .before .before .before .before .before .before .before .before .before .before .before .before .before .insert .ensures .0))
 
 loop-less : tie.Need-loop-less Inv-loop μ-loop
-loop-less c = omega (arith, c .before .before .before .before .before .before .before .before .before .before .before .before .before .before .before .before .before .before .before .before .before .before .before .loop-test .taken, c .before .before .before .before .before .before .before .before .before .before .before .before .insert .kept .1 .1 .1 .0)
+loop-less c = omega (arith, c .before .before .before .before .before .before .before .before .before .before .before .before .before .before .before .before .before .before .before .before .before .before .before .before .before .loop-test .taken, c .before .before .before .before .before .before .before .before .before .before .before .before .before .insert .kept .1 .1 .1 .0)
 
 loop-again : tie.Need-loop-again Inv-loop μ-loop
-loop-again c = (building-next (c .before .before .before .before .before .before .before .before .before .before .before .before .before .before .before .before .before .before .before .before .before .before .before .before .loop .inv .0) (c .before .before .before .before .before .before .before .before .before .before .before .before .insert .ensures .0) (c .before .before .before .before .before .before .before .before .before .before .before .before .insert .kept .1 .1 .0) (c .before .before .before .before .before .before .before .before .before .before .before .before .insert .ensures .1), c .before .before .before .before .before .before .before .before .before .before .before .before .insert .kept .1 .1 .1 .0 ∙ c .before .before .before .before .before .before .before .before .before .before .before .before .before .before .before .before .before .before .before .before .before .before .before .before .loop .inv .1, c .before .before .before .before .before .before .before .before .before .before .before .before .insert .kept .1 .1 .1 .1 .0 ∙ c .before .before .before .before .before .before .before .before .before .before .before .before .before .before .before .before .before .before .before .before .before .before .before .before .loop .inv .2)
+loop-again c = (building-next (c .before .before .before .before .before .before .before .before .before .before .before .before .before .before .before .before .before .before .before .before .before .before .before .before .before .before .loop .inv .0) (c .before .before .before .before .before .before .before .before .before .before .before .before .before .insert .ensures .0) (c .before .before .before .before .before .before .before .before .before .before .before .before .before .insert .kept .1 .1 .0) (c .before .before .before .before .before .before .before .before .before .before .before .before .before .insert .ensures .1), c .before .before .before .before .before .before .before .before .before .before .before .before .before .insert .kept .1 .1 .1 .0 ∙ c .before .before .before .before .before .before .before .before .before .before .before .before .before .before .before .before .before .before .before .before .before .before .before .before .before .before .loop .inv .1, c .before .before .before .before .before .before .before .before .before .before .before .before .before .insert .kept .1 .1 .1 .1 .0 ∙ c .before .before .before .before .before .before .before .before .before .before .before .before .before .before .before .before .before .before .before .before .before .before .before .before .before .before .loop .inv .2)
 
 price-closed-requires : tie.Need-price-closed-requires Inv-loop μ-loop
 price-closed-requires c κs = building-price (c .before .before .before .loop .inv .0) (c .before .before .loop-test .left)
@@ -96,6 +99,7 @@ insert-all-spec =
     slice-aggregate-insert-6
     slice-aggregate-insert-7
     slice-aggregate-insert-8
+    slice-aggregate-insert-9
     insert-requires
     add-total
     add-n
