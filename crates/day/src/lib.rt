@@ -5,7 +5,7 @@ ghost use Prim.Native.Nat.{_+_, _*_, _/_, _%_, _^_, _<_, _≤_};
 ghost use lib.ListN.{getD, length};
 ghost use lib.Dec.{leb};
 ghost use Rattle.day.specs.Day.{day, column, width, ofPeriod, land, holdCost, cost, latest, all, inside, missing, numbersFit, inRange, isNew, valid};
-ghost use Rattle.day.specs.Chains.{chains, ownNumber, Chained, Passed};
+ghost use Rattle.day.specs.Chains.{chains, ownNumber, Linked, Passed};
 
 pub fn wide(x: u32) -> usize
     ensures { λ r. ⌜ r ≡ x ⌝ }
@@ -233,7 +233,7 @@ fn entry_of(x: u8) -> usize
 // No flight above the one at table place i has its number. The row `nearest` has for each chain its flight nearest above place i,
 // the row `above` for each flight the next above it in its chain.
 fn is_new(flights: &[u32], nearest: &[u8], above: &[u8], i: usize) -> bool
-    requires { ⌜ ((i + 1) * width ≤ length (now flights)) × Chained (now flights) (now nearest) (now above) i ⌝ }
+    requires { ⌜ ((i + 1) * width ≤ length (now flights)) × Linked (now flights) (now nearest) (now above) i ⌝ }
     ensures { λ r. ⌜ r ≡ ownNumber (now (flights .entry)) i ⌝ }
 {
     let number = number_of(flights, i);

@@ -19,7 +19,7 @@ loop-holds : tie.Need-loop-holds Inv-loop μ-loop
 loop-holds c = search needs
 
 is-new-requires : tie.Need-is-new-requires Inv-loop μ-loop
-is-new-requires c κs = (search needs, c .before .before .before .loop .inv .chained)
+is-new-requires c κs = (search needs, c .before .before .before .loop .inv .linked)
 
 same-length : tie.Need-same-length Inv-loop μ-loop
 same-length c = search needs
