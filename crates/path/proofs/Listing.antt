@@ -10,7 +10,7 @@ use lib.ListN.{getD, length, set, length-set}
 use Rattle.assignment.proofs.Tests.{eq?, lt?}
 use Rattle.assignment.proofs.Moves.{Moved}
 use Rattle.day.specs.Day.{ofPeriod}
-use Rattle.path.specs.Path.{el, far, away, InList, Gap, At, Waits, Listed, Waiting, Lined, CanList, Filled, CanNear, NearestIn, Levelled, CanLevel, NextLevel, Nearest}
+use Rattle.path.specs.Path.{el, far, away, InList, Gap, At, Waits, Listed, Waiting, Lined, CanList, Filled, Removed, CanNear, NearestIn, Levelled, CanLevel, NextLevel, Nearest}
 use Rattle.path.proofs.Rows.{set-moved, as-read}
 
 -- ---- what stands in the list
@@ -371,7 +371,111 @@ module _ {dist list₀ list queue₀ queue : List ℕ} {at left target queued le
       whole : {j : ℕ} → At list₀ z j → At list₀ left j
       whole p = record { place = p .place; to = omega (arith, p .to, s .upto); is = p .is }
 
+-- ---- take_out
+
+-- the places before z have what is to stand there
+pub record Taking (list₀ list : List ℕ) (at left z : ℕ) : Type 0 where
+  pub row : length list₀ ≡ 98
+  pub same : length list ≡ length list₀
+  pub small : left < 98
+  pub lower : at ≤ z
+  pub upper : z ≤ left
+  pub before : (y : ℕ) → y < at → el list y ≡ el list₀ y
+  pub done : (y : ℕ) → at ≤ y → y < z → el list y ≡ el list₀ (y + 1)
+  pub rest : (y : ℕ) → z ≤ y → el list y ≡ el list₀ y
+
+pub taking-start : {list : List ℕ} {at left : ℕ} → (length list ≡ 98) × (at < left) × (left < 98) → Taking list list at left at
+taking-start c = record {
+  row = c .0;
+  same = refl;
+  small = c .2;
+  lower = omega arith;
+  upper = omega (arith, c .1);
+  before = λ y _. refl;
+  done = λ y a b. absurd (omega arith);
+  rest = λ y _. refl;
+}
+
+module _ {list₀ list : List ℕ} {at left z : ℕ} (s : Taking list₀ list at left z) where
+  pub taking-end : left ≤ z → Removed list₀ list at left
+  taking-end l = record { before = s .before; behind = λ y a b. s .done y a (omega arith) }
+
+  module _ (l : z < left) where
+    pub taking-room : (z < length list) × (z + 1 < length list) × (z + 1 < 98)
+    taking-room = omega (arith, s .row, s .same, s .small)
+
+    pub taking-next : Taking list₀ (set list z (el list (z + 1))) at left (z + 1)
+    taking-next =
+        let v = set-moved list z (el list (z + 1)) (taking-room .0) in
+        record {
+          row = s .row;
+          same = length-set list z (el list (z + 1)) ∙ s .same;
+          small = s .small;
+          lower = omega (arith, s .lower);
+          upper = omega arith;
+          before = λ y b. v .others y (omega (arith, s .lower)) ∙ s .before y b;
+          done = λ y a b. elim (eq? y z) [
+            | inl e ↦ rw e (v .here ∙ s .rest (z + 1) (omega arith))
+            | inr e ↦ v .others y e ∙ s .done y a (omega arith)
+          ];
+          rest = λ y b. v .others y (omega arith) ∙ s .rest y (omega arith);
+        }
+
 -- ---- take_nearest
+
+pub near-room : {dist list : List ℕ} {left target level at : ℕ} → CanNear dist list left target level → at < left → (el list at < length dist) × (el list at < 98)
+near-room {at = at} c l = omega (arith, c .dists, c .within, list-to (c .shape) at (omega arith))
+
+-- one period goes
+module _ {list list₂ : List ℕ} (queue : List ℕ) {at left target queued k : ℕ} (shape : InList list left target) (b : at < left) (k-is : k ≡ el list at)
+    (row : queued < length queue) (h : Removed list list₂ at left) where
+  gone : Moved (el queue) (el (set queue queued k)) queued k
+  gone = set-moved queue queued k row
+
+  -- a place of the list behind `at` is that of the next
+  then : (z : ℕ) → at ≤ z → z < left → el list₂ z ≡ el list (z + 1)
+  then = h .behind
+
+  was : (y : ℕ) → y < left - 1 → At list left (el list₂ y) × (el list₂ y ≢ k)
+  was y c = elim (lt? y at) [
+    | inl e ↦ (record { place = y; to = omega arith; is = sym (h .before y e) }, λ f. omega (arith, h .before y e, shape .rising y at e (omega arith)))
+    | inr e ↦ (
+      record { place = y + 1; to = omega arith; is = sym (then y e (omega arith)) },
+      λ f. omega (arith, then y e (omega arith), shape .rising at (y + 1) (omega arith) (omega arith)),
+    )
+  ]
+
+  only : (y : ℕ) → queued ≤ y → y < queued + (left - (left - 1)) → y ≡ queued
+  only y a c = omega arith
+
+  still : (j : ℕ) → (p : At list left j) → p .place ≢ at → At list₂ (left - 1) j
+  still j p e = elim (lt? (p .place) at) [
+    | inl c ↦ record { place = p .place; to = omega arith; is = h .before (p .place) c ∙ p .is }
+    | inr c ↦
+        let back : (p .place - 1) + 1 ≡ p .place = omega arith in
+        record { place = p .place - 1; to = omega (arith, p .to); is = then (p .place - 1) (omega arith) (omega (arith, p .to)) ∙ ap (el list) back ∙ p .is }
+  ]
+
+  pub removed-level : (dist : List ℕ) → Levelled dist list list₂ queue (set queue queued k) left (left - 1) queued (away dist (el list at))
+  removed-level dist = record {
+    short = omega arith;
+    ends = let back : (left - 1) + 1 ≡ left = omega arith in then (left - 1) (omega arith) (omega arith) ∙ ap (el list) back;
+    rising = λ y z a c. elim (lt? z at) [
+      | inl e ↦ rw (h .before y (omega arith), h .before z e) (shape .rising y z a (omega arith))
+      | inr e ↦ elim (lt? y at) [
+        | inl f ↦ rw (h .before y f, then z e (omega arith)) (shape .rising y (z + 1) (omega arith) (omega arith))
+        | inr f ↦ rw (then y f (omega arith), then z e (omega arith)) (shape .rising (y + 1) (z + 1) (omega arith) (omega arith))
+      ]
+    ];
+    stays = λ y c. was y c .0;
+    goes = λ y a c. rw (only y a c, gone .here, k-is) (record { place = at; to = b; is = refl }, refl);
+    apart = λ y z a c e. absurd (omega arith);
+    out = λ y z a c e. rw (only y a c, gone .here) (λ f. was z e .1 (sym f));
+    all = λ j p. elim (eq? (p .place) at) [
+      | inl e ↦ inr (record { place = queued; from = omega arith; to = omega arith; is = gone .here ∙ k-is ∙ ap (el list) (sym e) ∙ p .is })
+      | inr e ↦ inl (still j p e)
+    ];
+  }
 
 -- the target is the nearest: all stays
 pub level-none : {dist list queue : List ℕ} {left target level queued at : ℕ} → CanNear dist list left target level → NearestIn dist list left at → left ≤ at

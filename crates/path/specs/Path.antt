@@ -193,7 +193,12 @@ pub record NearestIn (dist list : List ℕ) (left at : ℕ) : Type 0 where
   pub nearer : at < left → away dist (el list at) < away dist (el list left)
   pub least : (y : ℕ) → y ≤ left → away dist (el list at) ≤ away dist (el list y)
 
--- the periods that are as near as `level` have gone from the list to the queue, at least those from some place on
+-- the period at place `at` is taken out, and those behind it move up
+pub record Removed (list list₂ : List ℕ) (at left : ℕ) : Type 0 where
+  pub before : (z : ℕ) → z < at → el list₂ z ≡ el list z
+  pub behind : (z : ℕ) → at ≤ z → z < left → el list₂ z ≡ el list (z + 1)
+
+-- some periods that are as near as `level` have gone from the list to the queue
 pub record Levelled (dist list list₂ queue queue₂ : List ℕ) (left left₂ queued level : ℕ) : Type 0 where
   pub short : left₂ ≤ left
   pub ends : el list₂ left₂ ≡ el list left

@@ -3,7 +3,7 @@ ghost use mathlib.Core.Path.{_≡_};
 ghost use Prim.Native.Nat.{_+_, _<_};
 ghost use lib.ListN.{length};
 ghost use Rattle.day.specs.Day.{day, ofPeriod};
-ghost use Rattle.path.specs.Path.{landing, scope, el, away, CanList, Filled, CanNear, NearestIn, CanLevel, Levelled, NextLevel, Nearer, CanOffer, Offers, CanExpand, Expanded, CanSearch, Searched};
+ghost use Rattle.path.specs.Path.{landing, scope, el, away, CanList, Filled, Removed, CanNear, NearestIn, CanLevel, Levelled, NextLevel, Nearer, CanOffer, Offers, CanExpand, Expanded, CanSearch, Searched};
 use day::after_of;
 use day::cost_of;
 use day::due_of;
@@ -60,6 +60,19 @@ fn nearest(dist: &[usize], list: &[usize], left: usize, target: usize, level: us
     at
 }
 
+// Takes the period at place `at` out of a list whose last place is `left`.
+fn take_out(list: &mut [usize], at: usize, left: usize)
+    requires { ⌜ (length (now list) ≡ 98) × (at < left) × (left < 98) ⌝ }
+    ensures { λ _. ⌜ Removed (now (list .entry)) (now (list .exit)) at left ⌝ }
+{
+    let mut z = at;
+    while z < left {
+        let here = z;
+        z += 1;
+        list[here] = list[z];
+    }
+}
+
 // Moves the periods of the list that are as near as the one at place `at`, from there on, to the queue, which has `queued` periods so far;
 // where the target then stands in the list.
 fn take_level(
@@ -93,7 +106,8 @@ fn take_level(
     kept
 }
 
-// Moves the nearest periods of the list, all that are equally near, to the queue, unless the target is as near; where the target then stands.
+// Moves the nearest period of the list to the queue, unless the target is as near; where the target then stands. Where it is as near as
+// `level`, what was reached last, others often are too, and all of them are moved at once.
 fn take_nearest(
     dist: &[usize],
     list: &mut [usize],
@@ -108,10 +122,16 @@ fn take_nearest(
     ensures { λ r. ⌜ NextLevel (now (dist .entry)) (now (list .entry)) (now (list .exit)) (now (queue .entry)) (now (queue .exit)) left r queued target ⌝ }
 {
     let at = nearest(dist, list, left, target, level);
-    if at < left {
+    if left <= at {
+        return left;
+    }
+    let k = list[at];
+    if dist[k] <= level {
         return take_level(dist, list, queue, at, left, target, queued);
     }
-    left
+    queue[queued] = k;
+    take_out(list, at, left);
+    left - 1
 }
 
 // Period k comes to the distance `away` by way of `who`, if that is nearer.
