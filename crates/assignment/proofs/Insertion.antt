@@ -199,31 +199,6 @@ sound-smallest {d} {x} {q} s = smallest d x q (s .rank) (s .accepted) (s .held)
 pub price-le : {d : Instance} {x q : ℕ → ℕ} → Sound d x q → (k : ℕ) → q k ≤ total d x
 price-le s k = omega (arith, sound-smallest s .saved k .saves)
 
--- only where the flights of the day land matters
-module _ (d : Instance) (x y : ℕ → ℕ) (same : (i : ℕ) → i < d .n → y i ≡ x i) where
-  pub total-ext : total d y ≡ total d x
-  unfolding total
-  total-ext = sum-ext (d .n) (λ i. d .cost i (y i)) (λ i. d .cost i (x i)) (λ i l. ap (d .cost i) (same i l))
-
-  pub sound-ext : {q : ℕ → ℕ} → Sound d x q → Sound d y q
-  sound-ext s = record {
-    accepted = record {
-      legal = record {
-        window = λ i l. rw (same i l) (s .accepted .legal .window i l);
-        room = λ k. omega (arith, s .accepted .legal .room k, count-ext (d .n) x y same k);
-      };
-      unsold = λ k less. s .accepted .unsold k (omega (arith, count-ext (d .n) x y same k));
-      best = λ i k l w. rw (same i l) (s .accepted .best i k l w);
-    };
-    rank = s .rank;
-    held = λ k. elim (s .held k) [
-      | inl none ↦ inl none
-      | inr a ↦
-          let here = same (a .by) (a .who) in
-          inr (record { by = a .by; who = a .who; fits = a .fits; lower = rw here (a .lower); tie = rw here (a .tie) })
-    ];
-  }
-
 -- what the end of the walk asks of its start
 pub record Ground (d : Instance) (x q : ℕ → ℕ) (u z : ℕ) : Type 0 where
   pub room : (k : ℕ) → count (d .n) x k ≤ d .cap k
