@@ -1,0 +1,287 @@
+//! Each exported call compared with what document 01 says of it: the answer, and every lent row afterwards.
+//! A call is given rows of any content and length; the refusals that apply are listed in document 01's order, and the first is
+//! the answer.
+use crate::day::{plain_read, Day, Rows};
+use crate::planners::{accepts, least_by_moves, quick_by_sorting, short_stretch};
+use crate::seed::Seed;
+use hold_desk_client::*;
+use std::collections::BTreeMap;
+use std::fmt::Debug;
+
+pub fn answer(number: u64, first: u64, second: u64) -> Answer {
+    Answer { number, first, second }
+}
+
+pub trait Rubbish: Copy + PartialEq + Debug {
+    fn any(seed: &Seed) -> Self;
+}
+
+impl Rubbish for u8 {
+    fn any(seed: &Seed) -> u8 {
+        seed.next() as u8
+    }
+}
+
+impl Rubbish for u32 {
+    fn any(seed: &Seed) -> u32 {
+        seed.next() as u32
+    }
+}
+
+/// A row to lend, full of rubbish, with rubbish on both sides that nobody may touch.
+struct Lent<T> {
+    before: Vec<T>,
+    now: Vec<T>,
+}
+
+const MARGIN: usize = 16;
+
+impl<T: Rubbish> Lent<T> {
+    fn new(seed: &Seed, length: usize) -> Lent<T> {
+        let before: Vec<T> = (0..length + 2 * MARGIN).map(|_| T::any(seed)).collect();
+        Lent { now: before.clone(), before }
+    }
+    fn row(&mut self) -> &mut [T] {
+        let end = self.now.len() - MARGIN;
+        &mut self.now[MARGIN..end]
+    }
+    /// The entries from a place on are those given, and all others are as they were.
+    fn expect(&self, place: usize, entries: &[T]) {
+        let mut want = self.before.clone();
+        want[MARGIN + place..MARGIN + place + entries.len()].copy_from_slice(entries);
+        assert!(self.now == want, "row {:?} but wanted {:?}", &self.now, &want);
+    }
+    fn expect_kept(&self) {
+        self.expect(0, &[]);
+    }
+}
+
+fn unless<T>(holds: bool, refusal: T) -> Option<T> {
+    (!holds).then_some(refusal)
+}
+
+/// A seed, and how often each call met each list of refusals.
+pub struct Run {
+    pub seed: Seed,
+    pub reached: BTreeMap<String, u64>,
+}
+
+impl Run {
+    pub fn of(test: u64) -> Run {
+        Run { seed: Seed::of(test), reached: BTreeMap::new() }
+    }
+
+    pub fn reach(&mut self, what: String) {
+        *self.reached.entry(what).or_insert(0) += 1;
+    }
+
+    /// The first refusal that applies, or none; counted with those that it comes before.
+    fn first(&mut self, call: &str, refusals: &[Answer]) -> Option<Answer> {
+        self.reach(format!("{call} {:?}", refusals.iter().map(|a| a.number).collect::<Vec<_>>()));
+        refusals.first().copied()
+    }
+
+    pub fn read(&mut self, sheet: &[u8], capacity_length: usize, flight_length: usize) {
+        let mut capacities = Lent::new(&self.seed, capacity_length);
+        let mut flights = Lent::new(&self.seed, flight_length);
+        let got = read_sheet(sheet, capacities.row(), flights.row());
+        let read = plain_read(sheet);
+        let mut refusals = Vec::new();
+        refusals.extend(unless(capacity_length == 96, answer(7, 96, 0)));
+        refusals.extend(unless(flight_length == 768, answer(7, 768, 0)));
+        refusals.extend(read.as_ref().err().map(|&(number, first)| answer(number, first, 0)));
+        if let Some(refusal) = self.first("reader", &refusals) {
+            assert_eq!(got, refusal, "{:?}", String::from_utf8_lossy(sheet));
+            capacities.expect_kept();
+            return flights.expect_kept();
+        }
+        let day = read.unwrap();
+        assert_eq!(got, answer(0, day.periods() as u64, day.flights.len() as u64));
+        capacities.expect(0, &day.capacities);
+        flights.expect(0, &day.rows().flights);
+        assert_eq!(day.sheet().as_bytes(), sheet, "a sheet that is read is the sheet that is written");
+    }
+
+    pub fn write(&mut self, rows: &Rows, length: usize, place: usize) {
+        let mut text = Lent::new(&self.seed, length);
+        let got = write_sheet(&rows.capacities, &rows.flights, text.row(), place);
+        let sheet = rows.day().map(|day| day.sheet());
+        self.expect_text("writer", sheet.ok_or(vec![answer(6, 0, 0)]), got, text, place);
+    }
+
+    pub fn text(&mut self, rows: &Rows, holds: &[u32], length: usize, place: usize) {
+        let mut text = Lent::new(&self.seed, length);
+        let got = plan_text(&rows.capacities, &rows.flights, holds, text.row(), place);
+        let plan = match rows.day() {
+            None => Err(vec![answer(6, 0, 0)]),
+            Some(day) => not_a_plan(&day, holds, None).map(|()| day.plan_text(holds)),
+        };
+        self.expect_text("plan text", plan, got, text, place);
+    }
+
+    /// The text stands from the place on, or nothing was written; a text's length comes last.
+    fn expect_text(&mut self, call: &str, text: Result<String, Vec<Answer>>, got: Answer, buffer: Lent<u8>, place: usize) {
+        let room = (buffer.now.len() - 2 * MARGIN).checked_sub(place);
+        let (text, mut refusals) = match text {
+            Ok(text) => (text, vec![]),
+            Err(refusals) => (String::new(), refusals),
+        };
+        if refusals.is_empty() {
+            refusals.extend(unless(room.is_some_and(|r| r >= text.len()), answer(7, text.len() as u64, 0)));
+        } else if room.is_none() {
+            // no text fits there
+            refusals.push(answer(7, 0, 0));
+        }
+        match self.first(call, &refusals) {
+            Some(refusal) => {
+                assert_eq!(got, refusal);
+                buffer.expect_kept();
+            }
+            None => {
+                assert_eq!(got, answer(0, text.len() as u64, 0));
+                buffer.expect(place, text.as_bytes());
+            }
+        }
+    }
+
+    pub fn quick(&mut self, rows: &Rows, length: usize) {
+        let mut holds = Lent::new(&self.seed, length);
+        let got = quick_plan(&rows.capacities, &rows.flights, holds.row());
+        let day = rows.day();
+        let refusals = day.as_ref().map_or(vec![answer(6, 0, 0)], |day| {
+            let n = day.flights.len();
+            let jump = day.first_with_jump_or_limit().map(|place| answer(8, place as u64, 0));
+            unless(length == n, answer(7, n as u64, 0)).into_iter().chain(jump).collect()
+        });
+        if let Some(refusal) = self.first("quick plan", &refusals) {
+            assert_eq!(got, refusal);
+            return holds.expect_kept();
+        }
+        let day = day.unwrap();
+        let (want, _) = quick_by_sorting(&day);
+        assert_eq!(got, answer(0, day.total(&want), 0));
+        holds.expect(0, &want);
+        self.reach_sizes("quick plan", &day, got.first);
+    }
+
+    pub fn card(&mut self, rows: &Rows, period: u32) {
+        let got = period_card(&rows.capacities, &rows.flights, period);
+        let day = rows.day();
+        let refusals = day.as_ref().map_or(vec![answer(6, 0, 0)], |day| {
+            let jump = day.first_with_jump_or_limit().map(|place| answer(8, place as u64, 0));
+            let inside = (1..=day.periods()).contains(&period);
+            jump.into_iter().chain(unless(inside, answer(11, day.periods() as u64, 0))).collect()
+        });
+        if let Some(r) = self.first("card", &refusals) {
+            return assert_eq!(got, Card { number: r.number, first: r.first, second: r.second, low: 0, high: 0, size: 0 });
+        }
+        let (_, eligible) = quick_by_sorting(&day.unwrap());
+        let set = &eligible[period as usize - 1];
+        let words = set.iter().fold(0u128, |w, &i| w | 1 << i);
+        assert_eq!(got, Card { number: 0, first: 0, second: 0, low: words as u64, high: (words >> 64) as u64, size: set.len() as u64 });
+        self.reach(format!("card with marks in the low word {}, in the high word {}", words as u64 > 0, words >> 64 > 0));
+    }
+
+    /// The full plan. The rows that it filled, if it was accepted.
+    pub fn full(&mut self, rows: &Rows, hold_length: usize, price_length: usize) -> Option<(Vec<u32>, Vec<u32>)> {
+        let mut holds = Lent::new(&self.seed, hold_length);
+        let mut prices = Lent::new(&self.seed, price_length);
+        let got = full_plan(&rows.capacities, &rows.flights, holds.row(), prices.row());
+        let day = rows.day();
+        let refusals = day.as_ref().map_or(vec![answer(6, 0, 0)], |day| {
+            let (n, p) = (day.flights.len(), day.capacities.len());
+            let lengths = [unless(hold_length == n, answer(7, n as u64, 0)), unless(price_length == p, answer(7, p as u64, 0))];
+            lengths.into_iter().flatten().chain(short_stretch(day).map(|(first, last)| answer(9, first, last))).collect()
+        });
+        if let Some(refusal) = self.first("full plan", &refusals) {
+            assert_eq!(got, refusal);
+            holds.expect_kept();
+            prices.expect_kept();
+            return None;
+        }
+        let day = day.unwrap();
+        let (hold_row, price_row) = (holds.row().to_vec(), prices.row().to_vec());
+        holds.expect(0, &hold_row);
+        prices.expect(0, &price_row);
+        assert_eq!(day.legal_total(&hold_row), Some(got.first));
+        assert_eq!(got, answer(0, least_by_moves(&day).expect("no stretch is short"), 0));
+        assert!(accepts(&day, &hold_row, &price_row) && price_row.iter().all(|&price| price <= 250_880_000));
+        self.reach_sizes("full plan", &day, got.first);
+        Some((hold_row, price_row))
+    }
+
+    pub fn price_check(&mut self, rows: &Rows, holds: &[u32], prices: &[u32]) {
+        let day = rows.day();
+        let want = day.as_ref().is_some_and(|day| accepts(day, holds, prices));
+        assert_eq!(price_check(&rows.capacities, &rows.flights, holds, prices), want, "{rows:?} {holds:?} {prices:?}");
+        let wrong = day.map(|d| [holds.len() != d.flights.len(), prices.len() != d.capacities.len()]);
+        self.reach(match wrong {
+            None => "price check of a bad day".into(),
+            Some([false, false]) if prices.iter().any(|&price| price > 1 << 31) => format!("price check {want}, a price above 2^31"),
+            Some([false, false]) => format!("price check {want}"),
+            Some(wrong) => format!("price check, wrong lengths {wrong:?}"),
+        });
+    }
+
+    pub fn choice(&mut self, rows: &Rows, first: &[u32], second: &[u32]) {
+        let cost = |holds: &[u32]| rows.day().and_then(|day| day.legal_total(holds));
+        let (one, other) = (cost(first), cost(second));
+        let want = match (one, other) {
+            (Some(a), Some(b)) if b < a => 2,
+            (None, Some(_)) => 2,
+            (None, None) => 0,
+            _ => 1,
+        };
+        assert_eq!(choice(&rows.capacities, &rows.flights, first, second), want, "{rows:?} {first:?} {second:?}");
+        self.reach(match (one, other) {
+            (Some(a), Some(b)) => format!("choice, the first's cost {:?}", a.cmp(&b)),
+            _ => format!("choice {want}, legal {:?}, lengths as wanted {:?}", [one.is_some(), other.is_some()], [first, second].map(|r| r.len() * 6 == rows.flights.len())),
+        });
+    }
+
+    pub fn board(&mut self, rows: &Rows, holds: &[u32], length: usize) {
+        let mut places = Lent::new(&self.seed, length);
+        let got = board(&rows.capacities, &rows.flights, holds, places.row());
+        let day = rows.day();
+        let refusals = day.as_ref().map_or(vec![answer(6, 0, 0)], |day| not_a_plan(day, holds, Some(length)).err().unwrap_or_default());
+        if let Some(refusal) = self.first("board", &refusals) {
+            assert_eq!(got, refusal);
+            return places.expect_kept();
+        }
+        assert_eq!(got, answer(0, 0, 0));
+        let row = places.row().to_vec();
+        places.expect(0, &row);
+        let mut sorted = row.clone();
+        sorted.sort();
+        assert_eq!(sorted, (0..holds.len() as u32).collect::<Vec<_>>(), "every table place once");
+        let day = day.unwrap();
+        assert!(row.iter().map(|&i| day.flights[i as usize].due + holds[i as usize]).is_sorted(), "periods rising");
+    }
+
+    fn reach_sizes(&mut self, call: &str, day: &Day, total: u64) {
+        if day.capacities.len() == 96 && day.flights.len() == 128 {
+            self.reach(format!("{call} of 96 periods and 128 flights"));
+        }
+        if day.flights.len() > 64 && total > 0 && day.capacities.iter().any(|&c| c > 0) {
+            self.reach(format!("{call} of more than 64 flights, some held, some period open"));
+        }
+        if total > 250_000_000 {
+            self.reach(format!("{call} above 250,000,000"));
+        }
+        if total == 250_880_000 {
+            self.reach(format!("{call} of 250,880,000"));
+        }
+    }
+}
+
+/// Refusals 7 for the hold row, 7 for the board's row if there is one, and 10.
+fn not_a_plan(day: &Day, holds: &[u32], board: Option<usize>) -> Result<(), Vec<Answer>> {
+    let n = day.flights.len();
+    let mut refusals = Vec::new();
+    refusals.extend(unless(holds.len() == n, answer(7, n as u64, 0)));
+    refusals.extend(board.and_then(|length| unless(length == n, answer(7, n as u64, 0))));
+    if holds.len() == n {
+        refusals.extend(day.break_at(holds).map(|place| answer(10, place as u64, 0)));
+    }
+    if refusals.is_empty() { Ok(()) } else { Err(refusals) }
+}

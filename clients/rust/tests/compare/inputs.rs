@@ -1,0 +1,352 @@
+//! Inputs from a seed: days, rows that are no day, lengths and places, hold and price rows, sheets.
+use crate::day::{Day, Flight, Rows, NAMES};
+use crate::seed::Seed;
+use std::collections::BTreeSet;
+
+// ---- days
+
+fn size(seed: &Seed, low: u64, high: u64) -> u64 {
+    match seed.below(6) {
+        0 => high - seed.below(2).min(high - low),
+        1 => seed.between(low, high.min(low + 3)),
+        _ => seed.between(low, high),
+    }
+}
+
+/// Distinct numbers: in steps (the core looks for a repeated number by its residue), or anywhere; in any order.
+fn numbers(seed: &Seed, count: u64) -> Vec<u32> {
+    let mut numbers: BTreeSet<u32> = BTreeSet::new();
+    let step = seed.pick(&[0, 0, 1, 64, 78]);
+    while (numbers.len() as u64) < count {
+        let next = numbers.len() as u32 * step + 1;
+        numbers.insert(if step > 0 { next } else { seed.edged(1, 9_999) });
+    }
+    let mut numbers: Vec<u32> = numbers.into_iter().collect();
+    seed.shuffle(&mut numbers);
+    numbers
+}
+
+fn capacities(seed: &Seed, periods: u64, count: u64) -> Vec<u32> {
+    let most = seed.pick(&[0, 1, 3, count / periods + 1, 2 * count / periods + 1, 255]).min(255);
+    let mixed = seed.one_in(2);
+    (0..periods).map(|_| if mixed && seed.one_in(8) { seed.edged(0, 255) } else { seed.edged(0, most) }).collect()
+}
+
+type Range = (u64, u64);
+
+/// The ranges that the flights of one day are mostly drawn from: each field's whole range, or a part in which ties, jumps and
+/// limits meet often.
+struct Style {
+    due: Range,
+    rate: Range,
+    after: Range,
+    jump: Range,
+    limit: Range,
+    /// one flight in so many has no limit
+    unlimited: u64,
+}
+
+fn style(seed: &Seed, periods: u64) -> Style {
+    let one = seed.between(1, periods);
+    Style {
+        due: seed.pick(&[(1, periods), (1, periods), (1, periods.min(3)), (one, one), (periods.saturating_sub(4).max(1), periods)]),
+        rate: seed.pick(&[(1, 3), (1, 10_000), (9_990, 10_000)]),
+        after: seed.pick(&[(0, 96), (0, 4), (90, 96)]),
+        jump: seed.pick(&[(0, 0), (0, 9), (0, 1_000_000), (999_990, 1_000_000)]),
+        limit: seed.pick(&[(0, 2), (0, 6), (0, 96), (periods / 2, 96), (90, 96)]),
+        unlimited: seed.pick(&[1, 2, 3, 8, 1000]),
+    }
+}
+
+fn flight(seed: &Seed, number: u32, periods: u64, style: &Style) -> Flight {
+    let field = |part: Range, whole: Range| if seed.one_in(16) { seed.edged(whole.0, whole.1) } else { seed.edged(part.0, part.1) };
+    Flight {
+        number,
+        due: field(style.due, (1, periods)),
+        rate: field(style.rate, (1, 10_000)),
+        after: field(style.after, (0, 96)),
+        jump: field(style.jump, (0, 1_000_000)),
+        limit: Some(field(style.limit, (0, 96))).filter(|_| !seed.one_in(style.unlimited)),
+    }
+}
+
+/// A day of at most so many periods and flights.
+pub fn random_day(seed: &Seed, most_periods: u64, most_flights: u64) -> Day {
+    let periods = size(seed, 1, most_periods);
+    let count = size(seed, 0, most_flights);
+    day_of_size(seed, periods, count)
+}
+
+/// One day in three is without jumps and limits, as the quick plan wants it.
+pub fn day_of_size(seed: &Seed, periods: u64, count: u64) -> Day {
+    let style = style(seed, periods);
+    let plain = seed.one_in(3);
+    let mut flights: Vec<Flight> = numbers(seed, count).into_iter().map(|number| flight(seed, number, periods, &style)).collect();
+    for f in flights.iter_mut().filter(|_| plain) {
+        (f.jump, f.limit) = (0, None);
+    }
+    // a plain day but for one flight, anywhere
+    if plain && count > 0 && seed.one_in(8) {
+        let f = &mut flights[seed.below(count) as usize];
+        (f.jump, f.limit) = seed.pick(&[(1, None), (1_000_000, None), (0, Some(0)), (0, Some(96)), (5, Some(95))]);
+    }
+    Day { capacities: capacities(seed, periods, count), flights }
+}
+
+/// A day whose plan costs as much as any can, 250,880,000, or a little less.
+pub fn heavy_day(seed: &Seed) -> Day {
+    let dear = Style { due: (1, 1), rate: (10_000, 10_000), after: (0, 95), jump: (1_000_000, 1_000_000), limit: (96, 96), unlimited: 2 };
+    let mut day = Day { capacities: vec![0; 96], flights: Vec::new() };
+    for number in numbers(seed, 128) {
+        day.flights.push(Flight { number, due: 1, rate: 10_000, after: seed.edged(0, 95), jump: 1_000_000, limit: seed.pick(&[None, Some(96)]) });
+    }
+    for _ in 0..seed.below(4) {
+        let at = seed.below(128) as usize;
+        match seed.below(3) {
+            0 => day.capacities[at.min(95)] = seed.edged(0, 3),
+            1 => day.flights[at].rate = seed.edged(9_000, 10_000),
+            _ => day.flights[at] = flight(seed, day.flights[at].number, 96, &dear),
+        }
+    }
+    day
+}
+
+// ---- rows that are no day
+
+/// One thing put wrong, at any place: a length, a repeated number, or one field out of its range.
+pub fn spoil(seed: &Seed, rows: &mut Rows) {
+    if rows.flights.is_empty() {
+        rows.flights = vec![1, 1, 1, 0, 0, 255];
+    }
+    let (p, n) = (rows.capacities.len() as u64, rows.flights.len() as u64 / 6);
+    let i = seed.below(n) as usize * 6;
+    match seed.below(13) {
+        0 => rows.capacities.clear(),
+        1 => rows.capacities.resize(seed.pick(&[97, 98, 192, 1000]), seed.edged(0, 255)),
+        2 if p > 0 => rows.capacities[seed.below(p) as usize] = seed.from(256),
+        3 => rows.flights.resize(i + seed.between(1, 5) as usize, 1),
+        4 => add_flights(rows, seed.pick(&[129, 129, 130, 256])),
+        5 if n > 1 => rows.flights[i] = rows.flights[(i + 6 * seed.between(1, n - 1) as usize) % (6 * n as usize)],
+        6 => rows.flights[i] = seed.pick(&[0, 10_000, seed.from(10_000)]),
+        7 => rows.flights[i + 1] = seed.pick(&[0, p as u32 + 1, seed.from(p + 1)]),
+        8 => rows.flights[i + 2] = seed.pick(&[0, 10_001, seed.from(10_001)]),
+        9 => rows.flights[i + 3] = seed.from(97),
+        10 => rows.flights[i + 4] = seed.from(1_000_001),
+        11 => rows.flights[i + 5] = seed.pick(&[97, 98, 253, 254, seed.between(97, 254) as u32]),
+        _ => rows.flights[i + 5] = seed.from(256),
+    }
+}
+
+/// Flights up to so many, good but for their count.
+fn add_flights(rows: &mut Rows, count: usize) {
+    let used: BTreeSet<u32> = rows.flights.iter().step_by(6).copied().collect();
+    for number in (1..=9_999).rev().filter(|n| !used.contains(n)) {
+        if rows.flights.len() < count * 6 {
+            rows.flights.extend([number, 1, 1, 0, 0, 255]);
+        }
+    }
+}
+
+// ---- lengths and places
+
+/// The length wanted, or none, one less, one more, many more.
+pub fn length(seed: &Seed, exact: usize) -> usize {
+    match seed.below(12) {
+        0 => 0,
+        1 => exact.saturating_sub(1),
+        2 => exact + 1,
+        3 => exact + seed.between(2, 1000) as usize,
+        _ => exact,
+    }
+}
+
+/// A buffer's length and a place for a text of so many bytes: with bytes to spare, just enough, one too few, none left, a place
+/// beyond the buffer, and places so large that a sum with them is too large for 32 or 64 bits.
+pub fn room(seed: &Seed, needed: usize) -> (usize, usize) {
+    let place = seed.pick(&[0, 1, seed.below(40) as usize, seed.below(9_000) as usize]);
+    match seed.below(10) {
+        0 | 1 => (place + needed, place),
+        2 => (place + needed - 1, place),
+        3 => (place, place + seed.below(3) as usize),
+        4 => (0, seed.below(2) as usize),
+        5 => {
+            let huge = [usize::MAX, usize::MAX - needed, usize::MAX - needed + 1, usize::MAX - needed + 2, 1 << 63, 1 << 32, (1 << 32) + 7, u32::MAX as usize];
+            (needed + seed.below(50) as usize, seed.pick(&huge))
+        }
+        _ => (place + needed + seed.below(100) as usize, place),
+    }
+}
+
+/// A period: one of the day, one beside its ends, or one that only its low bits make look like one.
+pub fn period(seed: &Seed, periods: u32) -> u32 {
+    match seed.below(8) {
+        0 => seed.pick(&[0, periods + 1, 97, 255, 256]),
+        1 => seed.pick(&[1, periods]),
+        2 => (1 << seed.between(8, 31)) + seed.below(periods as u64 + 2) as u32,
+        3 => seed.from(0),
+        _ => 1 + seed.below(periods.max(1) as u64) as u32,
+    }
+}
+
+// ---- hold and price rows
+
+/// Each flight to some period that its limit and the flights before it leave, if there is one.
+fn some_plan(seed: &Seed, day: &Day) -> Vec<u32> {
+    let mut room = [&day.capacities[..], &[u32::MAX]].concat();
+    let mut land = |f: &Flight| {
+        let free: Vec<u32> = (f.due..=f.last(day.periods())).filter(|&k| room[k as usize - 1] > 0).collect();
+        let lands = if free.is_empty() { f.due } else { seed.pick(&free) };
+        room[lands as usize - 1] = room[lands as usize - 1].saturating_sub(1);
+        lands - f.due
+    };
+    day.flights.iter().map(|f| land(f)).collect()
+}
+
+/// A hold row for a good day: the plan, another one, one with a few holds changed, or none at all; mostly of the day's length.
+/// A hold may be so long that its landing period is small again in 32 bits.
+pub fn hold_row(seed: &Seed, day: &Day, plan: &[u32]) -> Vec<u32> {
+    let mut holds = match seed.below(6) {
+        0 => vec![0; plan.len()],
+        1 | 2 => some_plan(seed, day),
+        3 if seed.one_in(4) => plan.iter().map(|_| seed.from(0)).collect(),
+        _ => plan.to_vec(),
+    };
+    let changes = seed.pick(&[0, 0, 1, 1, 2, 3]);
+    for _ in 0..changes.min(holds.len() * 9) {
+        let i = seed.below(holds.len() as u64) as usize;
+        let f = &day.flights[i];
+        let around = seed.between(0, day.periods() as u64 + 1) as u32;
+        let most = f.last(day.periods()) - f.due;
+        holds[i] = seed.pick(&[holds[i].wrapping_add(1), holds[i].wrapping_sub(1), 0, most, most + 1, around.wrapping_sub(f.due), u32::MAX]);
+    }
+    resized(seed, holds)
+}
+
+/// Mostly as it is; else shorter or longer.
+fn resized(seed: &Seed, mut row: Vec<u32>) -> Vec<u32> {
+    let exact = row.len();
+    row.resize(if seed.one_in(4) { length(seed, exact) } else { exact }, 0);
+    row
+}
+
+/// A price row for a good day: the plan's, one with a few prices changed, all raised by as much, or closed periods at any price.
+pub fn price_row(seed: &Seed, day: &Day, prices: &[u32]) -> Vec<u32> {
+    let mut row = prices.to_vec();
+    match seed.below(7) {
+        0 | 1 => (),
+        2 => {
+            let rise = seed.pick(&[1, u32::MAX - row.iter().max().unwrap()]);
+            row.iter_mut().for_each(|price| *price += rise);
+        }
+        3 => {
+            let high = seed.pick(&[u32::MAX, 1 << 31, 0, seed.from(0)]);
+            row.iter_mut().zip(&day.capacities).filter(|(_, &c)| c == 0).for_each(|(price, _)| *price = high);
+        }
+        _ => {
+            for _ in 0..seed.between(1, 3) {
+                let k = seed.below(row.len() as u64) as usize;
+                row[k] = seed.pick(&[0, row[k].wrapping_add(1), row[k].wrapping_sub(1), u32::MAX, u32::MAX - seed.below(10_000) as u32, seed.edged(0, 250_880_000)]);
+            }
+        }
+    }
+    resized(seed, row)
+}
+
+// ---- sheets
+
+const ODD_FIELDS: [&str; 36] = [
+    "", "0", "00", "01", "07", "007", "-", "--", "-1", "+1", " 1", "1 ", "1\r", "1.0", "1e1", "x", "\"1\"", "96", "97", "128", "254", "255", "256", "999", "9999", "10000", "10001", "99999", "100000", "999999", "1000000",
+    "1000001", "9999999", "10000000", "4294967297", "\u{661}",
+];
+
+fn lines(bytes: &[u8]) -> Vec<Vec<u8>> {
+    bytes.split_inclusive(|&b| b == 10).map(<[u8]>::to_vec).collect()
+}
+
+/// One field of one line made odd: a number at or past an edge, or none.
+fn odd_field(seed: &Seed, bytes: &[u8]) -> Vec<u8> {
+    let mut lines = lines(bytes);
+    let pick = seed.below(lines.len() as u64) as usize;
+    let mut fields: Vec<Vec<u8>> = lines[pick].strip_suffix(b"\n").unwrap_or(&lines[pick]).split(|&b| b == b',').map(<[u8]>::to_vec).collect();
+    let at = seed.below(fields.len() as u64) as usize;
+    fields[at] = match seed.below(4) {
+        0 => seed.below(10u64.pow(seed.between(1, 8) as u32)).to_string().into_bytes(),
+        1 => [&b"0"[..], &fields[at]].concat(),
+        _ => seed.pick(&ODD_FIELDS).as_bytes().to_vec(),
+    };
+    lines[pick] = [&fields.join(&b","[..]), &b"\n"[..]].concat();
+    lines.concat()
+}
+
+/// A line twice, one left out, two exchanged, no period lines, one more after the last period, one more at the end.
+fn odd_lines(seed: &Seed, bytes: &[u8]) -> Vec<u8> {
+    let mut lines = lines(bytes);
+    let pick = seed.below(lines.len() as u64) as usize;
+    let second = lines.iter().position(|l| l.starts_with(NAMES[1].as_bytes())).unwrap_or(0);
+    match seed.below(8) {
+        0 => lines.insert(seed.between(pick as u64, lines.len() as u64) as usize, lines[pick].clone()),
+        1 => drop(lines.remove(pick)),
+        2 => {
+            let other = seed.below(lines.len() as u64) as usize;
+            lines.swap(pick, other)
+        }
+        3 => drop(lines.drain(1.min(second)..second)),
+        4 => lines.insert(second, format!("{second},{}\n", seed.edged(0, 256)).into_bytes()),
+        5 => lines.push(format!("{},1,1,0,0,-\n", seed.edged(1, 10_000)).into_bytes()),
+        // a piece of a line, before the second names line or at the end
+        _ => {
+            let piece = seed.pick(&[&b"\n"[..], b"1", b"\r\n", b"\xff", b"flight,due,rate,after,jump,limit\n", b"flight,due,rate,after,jump,limit"]).to_vec();
+            lines.truncate(seed.pick(&[second, lines.len()]));
+            lines.push(piece);
+        }
+    }
+    lines.concat()
+}
+
+/// One byte removed, put in or replaced; any of the 256, the sheet's own likely.
+fn odd_byte(seed: &Seed, mut bytes: Vec<u8>) -> Vec<u8> {
+    let at = seed.below(bytes.len() as u64 + 1) as usize;
+    let byte = if seed.one_in(2) { seed.pick(b"0123456789,-\n\r \0;\"") } else { seed.next() as u8 };
+    match seed.below(4) {
+        0 if at < bytes.len() => drop(bytes.remove(at)),
+        1 if at < bytes.len() => bytes[at] = byte,
+        // the same byte but for its high bit
+        2 if at < bytes.len() => bytes[at] ^= 128,
+        _ => bytes.insert(at, byte),
+    }
+    bytes
+}
+
+/// What other programs make of a sheet.
+fn other_form(seed: &Seed, sheet: &str) -> Vec<u8> {
+    match seed.below(5) {
+        0 => sheet.replace('\n', "\r\n").into_bytes(),
+        1 => ["\u{feff}", sheet].concat().into_bytes(),
+        2 => sheet.replace(',', ";").into_bytes(),
+        3 => sheet.replace('\n', "\r").into_bytes(),
+        _ => sheet.trim_end().as_bytes().to_vec(),
+    }
+}
+
+pub fn damaged(seed: &Seed, sheet: &str) -> Vec<u8> {
+    if seed.one_in(16) {
+        return other_form(seed, sheet);
+    }
+    let mut bytes = sheet.as_bytes().to_vec();
+    for _ in 0..seed.pick(&[1, 1, 1, 2, 3]) {
+        if bytes.is_empty() {
+            break;
+        }
+        bytes = match seed.below(12) {
+            0..=3 => odd_field(seed, &bytes),
+            4..=8 => odd_lines(seed, &bytes),
+            9 => odd_byte(seed, bytes),
+            10 => bytes[..seed.below(bytes.len() as u64) as usize].to_vec(),
+            _ => {
+                bytes.resize(seed.pick(&[8_191, 8_192, 8_193, 8_194, 16_384, 65_536]), seed.pick(b"\n1,\xff"));
+                bytes
+            }
+        };
+    }
+    bytes
+}

@@ -1,0 +1,187 @@
+//! Every exported call compared with an independent implementation over the whole input: days and rows of every size, sheets
+//! whole and damaged. COMPARE_DAYS sets how many (default 2000), COMPARE_SEED the seed (default 1). Each test says at its end
+//! what it must have reached, so that a comparison that no longer reaches it fails.
+mod calls;
+mod day;
+mod inputs;
+mod planners;
+mod seed;
+
+use calls::{answer, Run};
+use day::{plain_read, Day, Rows};
+use hold_desk_client::{period_card, quick_plan};
+use planners::{least_by_moves, least_by_trial, quick_by_sorting};
+use seed::days;
+
+/// Every call for one pair of rows, each with lent rows of a length of its own, good and bad hold rows among them.
+fn every_call(run: &mut Run, rows: &Rows) {
+    let (n, p) = (rows.flights.len() / 6, rows.capacities.len());
+    let lengths: Vec<usize> = [n, n, n, p].iter().map(|&exact| inputs::length(&run.seed, exact)).collect();
+    run.quick(rows, lengths[0]);
+    run.full(rows, lengths[1], lengths[3]);
+    let period = inputs::period(&run.seed, p as u32);
+    run.card(rows, period);
+    let day = rows.day();
+    let (length, place) = inputs::room(&run.seed, day.as_ref().map_or(100, |d| d.sheet().len()));
+    run.write(rows, length, place);
+    // a bad day's rows are judged against the day that they nearly are
+    let plan = vec![0; n];
+    let holds = day.as_ref().map_or(plan.clone(), |d| inputs::hold_row(&run.seed, d, &plan));
+    run.board(rows, &holds, lengths[2]);
+    run.choice(rows, &holds, &plan);
+    run.price_check(rows, &holds, &vec![0; lengths[3]]);
+    let (length, place) = inputs::room(&run.seed, day.as_ref().map_or(100, |d| d.plan_text(&plan).len()));
+    run.text(rows, &holds, length, place);
+}
+
+/// What can be done with a plan: hold and price rows near it, judged, chosen between, shown and written.
+fn around_the_plan(run: &mut Run, day: &Day, holds: &[u32], prices: &[u32]) {
+    let rows = day.rows();
+    run.price_check(&rows, holds, prices);
+    for _ in 0..4 {
+        let first = inputs::hold_row(&run.seed, day, holds);
+        let second = inputs::hold_row(&run.seed, day, holds);
+        let near = inputs::price_row(&run.seed, day, prices);
+        run.price_check(&rows, holds, &near);
+        run.price_check(&rows, &first, &near);
+        run.choice(&rows, &first, &second);
+        run.choice(&rows, &second, &first);
+        run.choice(&rows, &first, &first);
+        let length = inputs::length(&run.seed, holds.len());
+        run.board(&rows, &first, length);
+        let (length, place) = inputs::room(&run.seed, day.plan_text(holds).len());
+        run.text(&rows, &second, length, place);
+        run.text(&rows, holds, length, place);
+    }
+    run.board(&rows, holds, holds.len());
+}
+
+fn every_call_of_a_day(run: &mut Run, day: &Day) {
+    let rows = day.rows();
+    every_call(run, &rows);
+    if let Some((holds, prices)) = run.full(&rows, day.flights.len(), day.capacities.len()) {
+        around_the_plan(run, day, &holds, &prices);
+    }
+    run.quick(&rows, day.flights.len());
+    for period in 1..=day.periods() {
+        run.card(&rows, period);
+    }
+    if day.first_with_jump_or_limit().is_none() {
+        assert_eq!(least_by_moves(day), Some(day.total(&quick_by_sorting(day).0)), "the quick plan is cheapest");
+    }
+}
+
+/// The comparison must have come to each of these, of a default run at least so often.
+fn must_reach(run: &Run, least: u64, wanted: &[&str]) {
+    for (what, times) in &run.reached {
+        println!("{times:8} {what}");
+    }
+    for what in wanted.iter().filter(|_| days() >= 2000) {
+        let times = run.reached.get(*what).copied().unwrap_or(0);
+        assert!(times >= least, "only {times} times: {what}");
+    }
+}
+
+/// Each call accepted, each of its refusals, and each two that apply at once, the first of them given.
+#[rustfmt::skip]
+const EVERY_REFUSAL: [&str; 42] = [
+    "quick plan []", "quick plan [6]", "quick plan [7]", "quick plan [8]", "quick plan [7, 8]",
+    "card []", "card [6]", "card [8]", "card [11]", "card [8, 11]",
+    "full plan []", "full plan [6]", "full plan [7]", "full plan [9]", "full plan [7, 7]", "full plan [7, 9]", "full plan [7, 7, 9]",
+    "board []", "board [6]", "board [7]", "board [10]", "board [7, 7]", "board [7, 10]",
+    "plan text []", "plan text [6]", "plan text [7]", "plan text [10]", "plan text [6, 7]", "plan text [7, 7]", "plan text [10, 7]",
+    "writer []", "writer [6]", "writer [7]", "writer [6, 7]",
+    "price check true", "price check false", "price check true, a price above 2^31", "price check of a bad day",
+    "price check, wrong lengths [true, false]", "price check, wrong lengths [false, true]", "price check, wrong lengths [true, true]",
+    "choice, the first's cost Equal",
+];
+
+const SIZES: [&str; 9] = [
+    "full plan of 96 periods and 128 flights",
+    "full plan of more than 64 flights, some held, some period open",
+    "full plan above 250,000,000",
+    "full plan of 250,880,000",
+    "quick plan of 96 periods and 128 flights",
+    "quick plan of more than 64 flights, some held, some period open",
+    "card with marks in the low word true, in the high word true",
+    "card with marks in the low word false, in the high word true",
+    "full plan [9]",
+];
+
+#[rustfmt::skip]
+const READER: [&str; 11] = [
+    "reader []", "reader [1]", "reader [2]", "reader [3]", "reader [4]", "reader [5]",
+    "reader [7]", "reader [7, 7]", "reader [7, 1]", "reader [7, 2]", "reader [7, 5]",
+];
+
+#[test]
+fn small_days() {
+    let mut run = Run::of(1);
+    for _ in 0..days() * 2 {
+        let day = inputs::random_day(&run.seed, 4, 5);
+        assert_eq!(least_by_trial(&day), least_by_moves(&day), "the two planners here");
+        every_call_of_a_day(&mut run, &day);
+        let mut rows = day.rows();
+        inputs::spoil(&run.seed, &mut rows);
+        every_call(&mut run, &rows);
+    }
+    must_reach(&run, 20, &EVERY_REFUSAL);
+}
+
+#[test]
+fn large_days() {
+    let mut run = Run::of(2);
+    for round in 0..days() / 4 {
+        let day = match round % 16 {
+            0 => inputs::heavy_day(&run.seed),
+            1 | 2 => inputs::day_of_size(&run.seed, 96, 128),
+            _ => inputs::random_day(&run.seed, 96, 128),
+        };
+        every_call_of_a_day(&mut run, &day);
+        let mut rows = day.rows();
+        inputs::spoil(&run.seed, &mut rows);
+        every_call(&mut run, &rows);
+    }
+    must_reach(&run, 5, &SIZES);
+}
+
+#[test]
+fn sheets() {
+    let mut run = Run::of(3);
+    for round in 0..days() * 10 {
+        let (periods, count) = match round % 16 {
+            0 => (96, run.seed.pick(&[1, 128])),
+            1 => (run.seed.pick(&[1, 5, 96]), 128),
+            2 => (run.seed.between(1, 96), run.seed.below(129)),
+            _ => (run.seed.between(1, 11), run.seed.below(6)),
+        };
+        let sheet = inputs::day_of_size(&run.seed, periods, count).sheet();
+        run.read(sheet.as_bytes(), 96, 768);
+        let bytes = inputs::damaged(&run.seed, &sheet);
+        run.read(&bytes, 96, 768);
+        let lengths = (inputs::length(&run.seed, 96), inputs::length(&run.seed, 768));
+        run.read(&bytes, lengths.0, lengths.1);
+    }
+    must_reach(&run, 100, &READER);
+}
+
+/// The report's example (NASA CR 177558, section 2.2.3), as printed there: the eligible flights and those that operate, period by
+/// period.
+#[test]
+fn the_reports_plan() {
+    let sheet = include_bytes!("../../../../examples/case-j.csv");
+    let day = plain_read(sheet).unwrap();
+    let rows = day.rows();
+    let mut holds = vec![0; 10];
+    assert_eq!(quick_plan(&rows.capacities, &rows.flights, &mut holds), answer(0, 45, 0));
+    let eligible: [&[u32]; 7] = [&[], &[], &[1, 5, 7], &[4, 7, 9, 10], &[2, 3, 6, 7, 8, 10], &[2, 6, 7, 10], &[2, 6]];
+    let operates: [&[u32]; 7] = [&[], &[], &[1, 5], &[4, 9], &[3, 8], &[7, 10], &[2, 6]];
+    for period in 1..=7 {
+        let landed: Vec<u32> = day.flights.iter().zip(&holds).filter(|(f, &h)| f.due + h == period).map(|(f, _)| f.number).collect();
+        assert_eq!(landed, operates[period as usize - 1]);
+        let card = period_card(&rows.capacities, &rows.flights, period);
+        let marked: Vec<u32> = (0..10).filter(|i| card.low >> i & 1 == 1).map(|i| day.flights[i].number).collect();
+        assert_eq!(marked, eligible[period as usize - 1]);
+        assert_eq!((card.number, card.high, card.size as usize), (0, 0, marked.len()));
+    }
+}

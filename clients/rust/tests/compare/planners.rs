@@ -1,0 +1,102 @@
+//! Planners and checkers of another kind than the core's.
+use crate::day::Day;
+
+/// The least total by trying every plan.
+pub fn least_by_trial(day: &Day) -> Option<u64> {
+    fn rest(day: &Day, i: usize, room: &mut Vec<u32>) -> Option<u64> {
+        let Some(f) = day.flights.get(i) else { return Some(0) };
+        let mut least = None;
+        for lands in f.due..=f.last(day.periods()) {
+            let at = lands as usize - 1;
+            if room[at] > 0 {
+                room[at] -= 1;
+                let here = rest(day, i + 1, room).map(|r| r + f.cost(lands - f.due));
+                least = [least, here].into_iter().flatten().min();
+                room[at] += 1;
+            }
+        }
+        least
+    }
+    rest(day, 0, &mut [&day.capacities[..], &[u32::MAX]].concat())
+}
+
+/// The least total by putting in one flight after the other, each along the cheapest chain of moves. The chains are found by
+/// going over all moves until nothing gets cheaper; no prices, and no order of flights or periods.
+pub fn least_by_moves(day: &Day) -> Option<u64> {
+    let p = day.periods();
+    let room = |k: u32| if k <= p { day.capacities[k as usize - 1] } else { u32::MAX };
+    let cost = |i: usize, k: u32| day.flights[i].cost(k - day.flights[i].due) as i64;
+    let mut lands: Vec<u32> = Vec::new();
+    for (new, f) in day.flights.iter().enumerate() {
+        // what it costs to have one landing more in a period, and which flight comes there
+        let mut more = vec![(i64::MAX, new); p as usize + 2];
+        for k in f.due..=f.last(p) {
+            more[k as usize] = (cost(new, k), new);
+        }
+        let (mut cheaper, mut rounds) = (true, 0);
+        while cheaper {
+            (cheaper, rounds) = (false, rounds + 1);
+            assert!(rounds <= p + 3, "a plan that was not cheapest before");
+            for (i, &at) in lands.iter().enumerate() {
+                let (sum, _) = more[at as usize];
+                for k in day.flights[i].due..=day.flights[i].last(p) {
+                    if sum < i64::MAX && sum - cost(i, at) + cost(i, k) < more[k as usize].0 {
+                        more[k as usize] = (sum - cost(i, at) + cost(i, k), i);
+                        cheaper = true;
+                    }
+                }
+            }
+        }
+        let free = |k: &u32| lands.iter().filter(|&at| at == k).count() < room(*k) as usize && more[*k as usize].0 < i64::MAX;
+        let mut to = (1..=p + 1).filter(free).min_by_key(|&k| more[k as usize].0)?;
+        lands.push(0);
+        while to != 0 {
+            to = std::mem::replace(&mut lands[more[to as usize].1], to);
+        }
+    }
+    Some((0..lands.len()).map(|i| cost(i, lands[i]) as u64).sum())
+}
+
+/// The short stretch with the smallest last period, and among those the largest first.
+pub fn short_stretch(day: &Day) -> Option<(u64, u64)> {
+    for last in 1..=day.periods() {
+        let mut over = 0i64;
+        for first in (1..=last).rev() {
+            let must = day.flights.iter().filter(|f| f.due == first && f.limit.is_some_and(|l| f.due + l <= last)).count();
+            over += must as i64 - day.capacities[first as usize - 1] as i64;
+            if over > 0 {
+                return Some((first as u64, last as u64));
+            }
+        }
+    }
+    None
+}
+
+/// The report's Fast Algorithm with a sorted list: holds, and the eligible set of each period.
+pub fn quick_by_sorting(day: &Day) -> (Vec<u32>, Vec<Vec<usize>>) {
+    let mut holds: Vec<u32> = day.flights.iter().map(|f| day.periods() + 1 - f.due).collect();
+    let mut waiting: Vec<usize> = Vec::new();
+    let mut eligible = Vec::new();
+    for j in 1..=day.periods() {
+        waiting.extend((0..day.flights.len()).filter(|&i| day.flights[i].due == j));
+        waiting.sort_by_key(|&i| (std::cmp::Reverse(day.flights[i].rate), day.flights[i].due, i));
+        eligible.push(waiting.clone());
+        let landing = waiting.len().min(day.capacities[j as usize - 1] as usize);
+        for i in waiting.drain(..landing) {
+            holds[i] = j - day.flights[i].due;
+        }
+    }
+    (holds, eligible)
+}
+
+/// The price check, from document 01's sentence.
+pub fn accepts(day: &Day, holds: &[u32], prices: &[u32]) -> bool {
+    let p = day.periods();
+    if prices.len() != p as usize || day.legal_total(holds).is_none() {
+        return false;
+    }
+    let price = |k: u32| if k <= p { prices[k as usize - 1] as u64 } else { 0 };
+    let only_on_full = (1..=p).all(|k| price(k) == 0 || day.landings(holds, k) == day.capacities[k as usize - 1]);
+    let least = |(f, &h): (&crate::day::Flight, &u32)| (f.due..=f.last(p)).all(|k| f.cost(h) + price(f.due + h) <= f.cost(k - f.due) + price(k));
+    only_on_full && day.flights.iter().zip(holds).all(least)
+}
