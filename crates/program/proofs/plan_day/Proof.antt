@@ -1,10 +1,10 @@
 -- The day is valid and the rows have its lengths, so it is solved: the code's number 0 goes with the plan, any other with the stretch.
 -- Assumes nothing.
 use Rattle.full_plan.proofs.Meaning.{accepted-call}
-use Rattle.hold_desk.proofs.Planning.{planned, prints-plan, prints-none}
+use Rattle.program.proofs.Planning.{planned, prints-plan, prints-none}
 use borrow.Author.Needs.{needs}
-use Rattle.hold_desk.proofs.plan_day.Statement.{statement}
-use Rattle.hold_desk.proofs.plan_day.Tie as tie
+use Rattle.program.proofs.plan_day.Statement.{statement}
+use Rattle.program.proofs.plan_day.Tie as tie
 
 full-plan-requires : tie.Need-full-plan-requires
 full-plan-requires c κs = search needs

@@ -1,10 +1,10 @@
 -- A legal plan's text is written, and it fits the buffer.
 -- Assumes nothing.
 use Rattle.day.specs.Day.{day}
-use Rattle.hold_desk.proofs.Writing.{plan-front}
+use Rattle.program.proofs.Writing.{plan-front}
 use borrow.Author.Needs.{needs}
-use Rattle.hold_desk.proofs.put_plan.Statement.{statement}
-use Rattle.hold_desk.proofs.put_plan.Tie as tie
+use Rattle.program.proofs.put_plan.Statement.{statement}
+use Rattle.program.proofs.put_plan.Tie as tie
 
 write-plan-requires : tie.Need-write-plan-requires
 write-plan-requires c κs = search needs

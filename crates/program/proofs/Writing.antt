@@ -19,7 +19,7 @@ use Rattle.day.specs.Day.{Day, valid}
 use Rattle.day.specs.Plan.{Legal}
 use Rattle.plan_text.specs.PlanText.{planText, planTextAnswer, planTextAfter}
 use Rattle.plan_text.proofs.Short.{plan-short, plan-written}
-use Rattle.hold_desk.specs.Program.{Front, refusalOf}
+use Rattle.program.specs.Program.{Front, refusalOf}
 
 text-front : (buffer text : List ℕ) {after : List ℕ} {written : Answer} {code : Code} → length text ≤ length buffer
     → written ≡ textAnswer buffer 0 text → after ≡ textAfter buffer 0 text → code ≡ codeOf written → Front after (code .first) text

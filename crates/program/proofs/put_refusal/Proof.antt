@@ -1,10 +1,10 @@
 -- The code's three numbers fit 64 bits, so their two lines fit the buffer.
 -- Assumes nothing.
 use native.Mathlib.Omega.{arith}
-use Rattle.hold_desk.proofs.Writing.{refusal-front}
+use Rattle.program.proofs.Writing.{refusal-front}
 use borrow.Author.Needs.{needs}
-use Rattle.hold_desk.proofs.put_refusal.Statement.{statement}
-use Rattle.hold_desk.proofs.put_refusal.Tie as tie
+use Rattle.program.proofs.put_refusal.Statement.{statement}
+use Rattle.program.proofs.put_refusal.Tie as tie
 
 code-of-requires : tie.Need-code-of-requires
 code-of-requires c κs = search needs

@@ -12,7 +12,7 @@ use Rattle.day.specs.Day.{Day}
 use Rattle.day.specs.Plan.{Cheapest}
 use Rattle.full_plan.specs.FullPlan as full
 use Rattle.plan_text.specs.PlanText.{planText}
-use Rattle.hold_desk.specs.Program.{Front, refusalOf, PrintsDay, plan, none}
+use Rattle.program.specs.Program.{Front, refusalOf, PrintsDay, plan, none}
 
 pub number-of : {code : Code} {answer other : Answer} → code ≡ codeOf answer → answer ≡ other → code .number ≡ codeOf other .number
 number-of coded is = ap (λ (k : Code). k .number) (coded ∙ ap codeOf is)

@@ -1,8 +1,8 @@
 -- What the program prints for a sheet: the text of a cheapest plan of the sheet's day, or a refusal's two lines.
 -- Assumes nothing.
-use Prim.Native.Nat.{ℕ, _≤_}
+use Prim.Native.Nat.{ℕ, _≤_, _<_}
 use mathlib.Core.Path.{_≡_}
-use mathlib.Core.List.{List}
+use mathlib.Core.List.{List, []}
 use lib.ListN.{length, take}
 use Rattle.answers.specs.declared.Answer.{Answer}
 use Rattle.answers.specs.Answers.{codeOf}
@@ -35,3 +35,9 @@ PrintsReading (refused a) out = out ≡ refusalOf a
 -- what is printed for the bytes of a sheet
 unfoldable pub Prints : List ℕ → List ℕ → Type 0
 Prints sheet out = PrintsReading (readSheet sheet) out
+
+-- what is handed back to be written, for a buffer of which some bytes were read and a text of some room: what is printed for the bytes that
+-- were read (a count beyond the buffer is the whole buffer), or nothing where the text has not the 4,096 bytes that every answer fits
+pub data Answered (input : List ℕ) (read room : ℕ) (out : List ℕ) : Type 0 where
+  printed : 4096 ≤ room → Prints (take read input) out → Answered input read room out
+  no-room : room < 4096 → out ≡ [] → Answered input read room out

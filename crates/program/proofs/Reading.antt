@@ -20,8 +20,8 @@ use Rattle.sheet.specs.Sheet.{Reading, read, refused, readSheet, reading, answe
 use Rattle.sheet.proofs.Good.{row-whole, count-row}
 use Rattle.sheet.proofs.RoundTrip.{read-is-valid}
 use Rattle.sheet.proofs.Refusals.{Numbered, sheet-numbered}
-use Rattle.hold_desk.specs.Program.{Front, refusalOf, PrintsDay, Prints}
-use Rattle.hold_desk.proofs.Planning.{number-of}
+use Rattle.program.specs.Program.{Front, refusalOf, PrintsDay, Prints}
+use Rattle.program.proofs.Planning.{number-of}
 
 -- the sheet's day, of p periods and n flights, stands at the front of the rows
 pub record Held (sheet : List ℕ) (p n : ℕ) (capacity-row flight-row : List ℕ) : Type 0 where

@@ -1,10 +1,10 @@
 -- Number 0: the sheet was read, and its day stands at the front of the rows. Any other number: the sheet was refused by that answer.
 -- Assumes nothing.
 use native.Mathlib.Omega.{arith}
-use Rattle.hold_desk.proofs.Reading.{Held, held, prints-refusal, can-plan, prints-day}
+use Rattle.program.proofs.Reading.{Held, held, prints-refusal, can-plan, prints-day}
 use borrow.Author.Needs.{needs}
-use Rattle.hold_desk.proofs.answer_sheet.Statement.{statement}
-use Rattle.hold_desk.proofs.answer_sheet.Tie as tie
+use Rattle.program.proofs.answer_sheet.Statement.{statement}
+use Rattle.program.proofs.answer_sheet.Tie as tie
 
 in-day : (c : tie.Else1) → Held (c .before .before .before .before .before .before .before .before .before .before .before .before .before .args .sheet .now) (c .before .code-of .result .first) (c .before .code-of .result .second) (c .before .before .before .before .read-sheet .last .1 .0) (c .before .before .before .before .read-sheet .last .1 .1 .0)
 in-day c = held _ (c .before .before .before .before .before .before .before .before .before .before .capacity-row .result) (c .before .before .before .before .before .before .before .before .before .flight-row .result) (c .before .before .before .before .before .before .before .before .before .before .capacity-row .ensures) (c .before .before .before .before .before .before .before .before .before .flight-row .ensures) (c .before .before .before .before .read-sheet .ensures .0) (c .before .code-of .ensures) (c .before .before .before .before .read-sheet .ensures .1 .0) (c .before .before .before .before .read-sheet .ensures .1 .1) (c .if1 .left)
