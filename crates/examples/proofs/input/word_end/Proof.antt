@@ -1,13 +1,13 @@
 -- The loop ends with the input.
 -- Assumes nothing.
 use borrow.Author.Needs.{needs}
-use Prim.Native.Nat.{_-_}
+use Prim.Native.Nat.{_≤_, _-_}
 use lib.ListN.{length}
-use Rattle.examples.proofs.word_end.Statement.{statement}
-use Rattle.examples.proofs.word_end.Tie as tie
+use Rattle.examples.proofs.input.word_end.Statement.{statement}
+use Rattle.examples.proofs.input.word_end.Tie as tie
 
 abbrev Inv-loop : tie.InvT-loop
-Inv-loop input at end₀ end = Unit {0}
+Inv-loop input at end₀ end = at ≤ end
 
 abbrev μ-loop : tie.MeasureT-loop
 μ-loop input at end₀ end = length input - end

@@ -3,14 +3,14 @@
 use borrow.Author.Needs.{needs}
 use Prim.Native.Nat.{_-_}
 use lib.ListN.{length}
-use Rattle.examples.proofs.expect_kept.Statement.{statement}
-use Rattle.examples.proofs.expect_kept.Tie as tie
+use Rattle.examples.proofs.rows.row_kept.Statement.{statement}
+use Rattle.examples.proofs.rows.row_kept.Tie as tie
 
 abbrev Inv-loop : tie.InvT-loop
-Inv-loop row from i₀ t4 i = Unit {0}
+Inv-loop row i₀ i = Unit {0}
 
 abbrev μ-loop : tie.MeasureT-loop
-μ-loop row from i₀ t4 i = length row - i
+μ-loop row i₀ i = length row - i
 
 loop-holds : tie.Need-loop-holds Inv-loop μ-loop
 loop-holds c = search needs
@@ -21,11 +21,8 @@ mul-if1 c = search needs
 shared-slice-read-if1 : tie.Need-shared-slice-read-if1 Inv-loop μ-loop
 shared-slice-read-if1 c = search needs
 
-slice-aggregate-put : tie.Need-slice-aggregate-put Inv-loop μ-loop
-slice-aggregate-put c = search needs
-
-put-requires : tie.Need-put-requires Inv-loop μ-loop
-put-requires c κs = search needs
+returns : tie.Need-returns Inv-loop μ-loop
+returns c = search needs
 
 add-i : tie.Need-add-i Inv-loop μ-loop
 add-i c = search needs
@@ -36,11 +33,11 @@ loop-less c = search needs
 loop-again : tie.Need-loop-again Inv-loop μ-loop
 loop-again c = search needs
 
-returns : tie.Need-returns Inv-loop μ-loop
-returns c = search needs
+returns-2 : tie.Need-returns-2 Inv-loop μ-loop
+returns-2 c = search needs
 
-pub expect-kept-spec : {M : Type 1} → statement M
-expect-kept-spec =
+pub row-kept-spec : {M : Type 1} → statement M
+row-kept-spec =
     tie.close
     (tie.spec
     Inv-loop
@@ -48,9 +45,8 @@ expect-kept-spec =
     loop-holds
     mul-if1
     shared-slice-read-if1
-    slice-aggregate-put
-    put-requires
+    returns
     add-i
     loop-less
     loop-again
-    returns)
+    returns-2)

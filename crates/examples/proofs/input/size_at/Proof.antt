@@ -2,8 +2,8 @@
 -- Assumes nothing.
 use borrow.Author.Needs.{needs}
 use Prim.Native.Nat.{_≤_, _-_}
-use Rattle.examples.proofs.size_at.Statement.{statement}
-use Rattle.examples.proofs.size_at.Tie as tie
+use Rattle.examples.proofs.input.size_at.Statement.{statement}
+use Rattle.examples.proofs.input.size_at.Tie as tie
 
 abbrev Inv-loop : tie.InvT-loop
 Inv-loop input at value₀ i₀ value i = (i ≤ 5) × (value ≤ 100000)

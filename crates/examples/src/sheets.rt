@@ -1,0 +1,90 @@
+// The reader: sheets, and rows of other lengths.
+use crate::plans::run_day;
+use crate::refused::run_lengths;
+use crate::refused::run_values;
+use crate::rows::behind_row;
+use crate::rows::expect_row_kept;
+use crate::rows::flight_row;
+use crate::rows::front;
+use crate::rows::front_mut;
+use crate::rows::price_row;
+use crate::show::put_code;
+use crate::show::put_number;
+use answers::Code;
+use day::WIDTH;
+
+// Past the day the rows are as they were; of a sheet that was refused, all of them.
+fn expect_kept(code: Code, capacities: &[u32], flights: &[u32]) {
+    let number = code.number;
+    let periods = code.first as usize;
+    let count = code.second as usize;
+    if number != 0 {
+        expect_row_kept(capacities);
+        expect_row_kept(flights);
+        return;
+    }
+    expect_row_kept(behind_row(capacities, periods));
+    if count <= 128 {
+        expect_row_kept(behind_row(flights, count * WIDTH));
+    }
+}
+
+// ` rows periods flights: number,first,second`
+fn read_into(sheet: &[u8], periods: usize, entries: usize) {
+    let mut capacity_space = price_row();
+    let mut flight_space = flight_row();
+    let capacities = front_mut(&mut capacity_space, periods);
+    let flights = front_mut(&mut flight_space, entries);
+    let code = desk::hold_desk_read_sheet(sheet, capacities, flights);
+    put_number(b"\n rows ", periods as u64);
+    put_number(b" ", entries as u64);
+    put_code(b": ", code);
+    expect_kept(code, capacities, flights);
+}
+
+// The lengths that are asked for, then others.
+pub fn run_reader(sheet: &[u8]) {
+    read_into(sheet, 96, 768);
+    read_into(sheet, 95, 768);
+    read_into(sheet, 97, 768);
+    read_into(sheet, 0, 768);
+    read_into(sheet, 96, 767);
+    read_into(sheet, 96, 769);
+    read_into(sheet, 96, 0);
+    read_into(sheet, 95, 767);
+    read_into(sheet, 97, 769);
+    read_into(sheet, 0, 0);
+}
+
+// What the example's kind asks for a day that was read.
+fn run_read(kind: u8, capacities: &[u32], flights: &[u32], sheet: &[u8]) {
+    match kind {
+        b'd' => run_day(capacities, flights, sheet),
+        b'l' => run_lengths(capacities, flights),
+        b'v' => run_values(capacities, flights),
+        _ => (),
+    }
+}
+
+pub fn run_sheet(kind: u8, sheet: &[u8]) {
+    let mut capacity_space = price_row();
+    let mut flight_space = flight_row();
+    let capacities = front_mut(&mut capacity_space, 96);
+    let flights = front_mut(&mut flight_space, 768);
+    let code = desk::hold_desk_read_sheet(sheet, capacities, flights);
+    put_code(b" read ", code);
+    expect_kept(code, capacities, flights);
+    let number = code.number;
+    let periods = code.first as usize;
+    let count = code.second as usize;
+    if number == 0 {
+        if count <= 128 {
+            run_read(
+                kind,
+                front(capacities, periods),
+                front(flights, count * WIDTH),
+                sheet,
+            );
+        }
+    }
+}
