@@ -1,0 +1,422 @@
+/* Faults of the quick plan, the period card and the full plan. */
+#include "faults.h"
+
+/* ---- the quick plan and the card; these faults come in both calls */
+
+#define BOTH(name, says) ((the_call == QUICK && IS(quick_##name, says)) || (the_call == CARD && ALSO(card_##name)))
+
+/* The first flight with a jump or a limit, or the number of flights. */
+static size_t jump_or_limit(struct day d)
+{
+    size_t found = d.n;
+    for (size_t i = 0; i < d.n; i++) {
+        const uint32_t *v = d.f + i * WIDTH;
+        bool jump = v[JUMP] > 0, limit = v[LIMIT] != 255;
+        if (BOTH(8_limits_alone, "a jump is not refused")) jump = false;
+        if (BOTH(8_jumps_alone, "a limit is not refused")) limit = false;
+        if (BOTH(8_limit_96, "limit 96 is taken as none") && v[LIMIT] == 96) limit = false;
+        if (BOTH(8_limit_0, "limit 0 is taken as none") && v[LIMIT] == 0) limit = false;
+        if (BOTH(8_free_limit, "a limit that reaches past P is taken as none") && v[DUE] + v[LIMIT] > d.p) limit = false;
+        if (BOTH(8_free_jump, "a jump that no hold can cost is taken as none") && v[DUE] + v[AFTER] > d.p) jump = false;
+        if (BOTH(8_jump_1, "a jump of 1 is taken as none") && v[JUMP] == 1) jump = false;
+        if (BOTH(8_from_64, "flights from table place 64 on are not looked at for 8") && i >= 64) continue;
+        if (BOTH(8_not_128th, "the 128th flight is not looked at for 8") && i == N_MOST - 1) continue;
+        if (!jump && !limit) continue;
+        found = i;
+        if (!BOTH(8_last, "refusal 8 gives the last such flight")) return found;
+    }
+    return found;
+}
+
+static bool goes_before(struct day d, size_t a, size_t b)
+{
+    const uint32_t *x = d.f + a * WIDTH, *y = d.f + b * WIDTH;
+    uint32_t rate_x = x[RATE], rate_y = y[RATE];
+    if (BOTH(rate_low_bits, "rates are compared by their low 13 bits")) rate_x &= 8191, rate_y &= 8191;
+    if (BOTH(rate_coarse, "rates are compared without their low 4 bits")) rate_x >>= 4, rate_y >>= 4;
+    if (rate_x != rate_y) {
+        if (BOTH(lower_rate, "the lower rate goes first")) return rate_x < rate_y;
+        if (BOTH(lower_rate_late, "the lower rate goes first between flights from table place 64 on") && a >= 64 && b >= 64) return rate_x < rate_y;
+        return rate_x > rate_y;
+    }
+    if (x[DUE] != y[DUE] && !BOTH(tie_by_place, "ties go by table place alone")) return BOTH(tie_later_due, "ties go to the later due") ? x[DUE] > y[DUE] : x[DUE] < y[DUE];
+    if (BOTH(tie_higher_place, "ties go to the higher table place")) return a > b;
+    if (BOTH(tie_late, "ties go to the higher table place from place 64 on") && a >= 64 && b >= 64) return a > b;
+    return a < b;
+}
+
+static void plan_quickly(struct day d, uint32_t *holds, bool sets[P_MOST][N_MOST])
+{
+    bool waiting[N_MOST] = { false };
+    memset(sets, 0, sizeof(bool[P_MOST][N_MOST]));
+    for (size_t i = 0; i < d.n; i++) holds[i] = (uint32_t)d.p + 1 - d.f[i * WIDTH + DUE];
+    for (uint32_t j = 1; j <= d.p; j++) {
+        for (size_t i = 0; i < d.n; i++) {
+            if (d.f[i * WIDTH + DUE] == j) waiting[i] = true;
+            sets[j - 1][i] = waiting[i];
+        }
+        uint32_t room = d.c[j - 1];
+        if (BOTH(capacity_signed, "a capacity above 127 is taken as 0") && room > 127) room = 0;
+        if (BOTH(capacity_64, "no more than 64 flights land in a period") && room > 64) room = 64;
+        if (BOTH(first_period_alone, "the capacity of period 1 alone is heeded") && j > 1) room = N_MOST;
+        if (the_call == QUICK && IS(quick_period_96, "the capacity of period 96 is one less") && j == P_MOST && room > 0) room--;
+        if (BOTH(closed_takes_one, "a capacity of 0 takes one flight") && room == 0) room = 1;
+        for (; room > 0; room--) {
+            size_t best = d.n;
+            for (size_t i = 0; i < d.n; i++)
+                if (waiting[i] && (best == d.n || goes_before(d, i, best))) best = i;
+            if (best == d.n) break;
+            waiting[best] = false;
+            holds[best] = j - d.f[best * WIDTH + DUE];
+            if (the_call == CARD && IS(card_landed_gone, "those that land in the period are not in its set")) sets[j - 1][best] = false;
+            if (the_call == CARD && IS(card_landed_stays, "the last one that lands stays eligible in the next period") && j < d.p && (room == 1)) sets[j][best] = true, waiting[best] = true;
+        }
+        if (the_call == CARD && IS(card_due_alone, "those left over from the period before are not in the set")) for (size_t i = 0; i < d.n; i++) sets[j - 1][i] = d.f[i * WIDTH + DUE] == j;
+        if (the_call == CARD && IS(card_left_over_alone, "those due in the period are not in its set")) for (size_t i = 0; i < d.n; i++) if (d.f[i * WIDTH + DUE] == j) sets[j - 1][i] = false;
+    }
+}
+
+static hold_desk_answer quick(struct day d, bool bad, uint32_t *holds, size_t holds_len)
+{
+    bool sets[P_MOST][N_MOST];
+    uint32_t plan[N_MOST];
+    if (bad && !(IS(quick_7_before_6, "a bad day with an empty hold row is refused with 7") && holds_len == 0 && d.n > 0)) {
+        if (IS(quick_6_touches, "refusal 6 changes the hold row") && holds_len > 0) holds[0] ^= 1;
+        return answer(6, 0, 0);
+    }
+    if (bad) return answer(7, d.n, 0);
+    size_t place = jump_or_limit(d);
+    bool fits = holds_len == d.n;
+    if (IS(quick_long_row, "a hold row with one entry more is taken") && holds_len == d.n + 1) fits = true;
+    if (IS(quick_longer_row, "a hold row with two or more entries more is taken") && holds_len > d.n + 1) fits = true;
+    if (IS(quick_short_row, "a hold row with one entry less is taken") && holds_len + 1 == d.n) fits = true;
+    if (IS(quick_8_before_7, "refusal 8 before 7") && place < d.n) fits = true;
+    if (!fits) {
+        if (IS(quick_7_touches, "refusal 7 changes the hold row's last entry") && holds_len > 0) holds[holds_len - 1] ^= 1;
+        if (IS(quick_7_given, "refusal 7 gives the length that it got")) return answer(7, holds_len, 0);
+        if (IS(quick_7_periods, "refusal 7 gives P")) return answer(7, d.p, 0);
+        return answer(7, d.n, IS(quick_7_second, "refusal 7 gives P second") ? d.p : 0);
+    }
+    if (place < d.n) {
+        if (IS(quick_8_touches, "refusal 8 changes the hold row's first entry") && holds_len > 0) holds[0] ^= 1;
+        if (IS(quick_8_touches_last, "refusal 8 changes the hold row's last entry") && holds_len > 0) holds[holds_len - 1] ^= 1;
+        if (IS(quick_8_fills, "refusal 8 comes after the flights above have holds of 0")) for (size_t i = 0; i < place; i++) holds[i] = 0;
+        if (IS(quick_8_next, "refusal 8 gives the next place")) place++;
+        if (IS(quick_8_number, "refusal 8 gives the flight's number")) return answer(8, d.f[place * WIDTH], 0);
+        return answer(8, place, IS(quick_8_second, "refusal 8 gives 1 second") ? 1 : 0);
+    }
+    plan_quickly(d, plan, sets);
+    uint64_t sum = total(d, plan, COST_NO_JUMP);
+    if (IS(quick_total_more, "the total is one more above 10,000,000") && sum > 10000000) sum++;
+    if (IS(quick_total_low_bits, "of the total the low 24 bits are given")) sum &= 0xffffff;
+    if (IS(quick_total_last, "the total is without the last flight") && d.n > 0) sum -= cost(d.f + (d.n - 1) * WIDTH, plan[d.n - 1], COST_NO_JUMP);
+    if (IS(quick_total_closing, "the total is without those that land in the closing period")) for (size_t i = 0; i < d.n; i++) if (d.f[i * WIDTH + DUE] + plan[i] == d.p + 1) sum -= cost(d.f + i * WIDTH, plan[i], COST_NO_JUMP);
+    if (IS(quick_last_hold, "the last flight's hold is one more in a day of 96 periods") && d.p == P_MOST && d.n > 0) plan[d.n - 1]++;
+    if (IS(quick_128th_hold, "the 128th flight's hold is 0") && d.n == N_MOST) plan[127] = 0;
+    if (IS(quick_hold_96, "a hold of 96 is given as 95")) for (size_t i = 0; i < d.n; i++) if (plan[i] == 96) plan[i] = 95;
+    for (size_t i = 0; i < d.n && i < holds_len; i++) {
+        if (IS(quick_zero_left, "a hold of 0 is not stored") && plan[i] == 0) continue;
+        holds[i] = plan[i];
+    }
+    return answer(0, sum, IS(quick_second, "N is answered second") ? d.n : 0);
+}
+
+hold_desk_answer hold_desk_quick_plan(DAY_ROWS, uint32_t *holds, size_t holds_len)
+{
+    if (!OURS(QUICK)) return real_hold_desk_quick_plan(THE_DAY, holds, holds_len);
+    struct day d = day_of(THE_DAY);
+    holds_len = cut(holds_len, d.flights_cut);
+    size_t bytes = holds_len * sizeof *holds;
+    uint32_t *before = copy_of(holds, bytes), *again = copy_of(holds, bytes);
+    hold_desk_answer real = real_hold_desk_quick_plan(d.c, d.p, d.f, d.entries, holds, holds_len);
+    plain = true;
+    bool agrees = same(real, quick(d, real.number == 6, again, holds_len)) && (bytes == 0 || memcmp(again, holds, bytes) == 0);
+    plain = false;
+    must_agree(agrees, "the quick plan");
+    put_back(holds, before, bytes);
+    free(before), free(again);
+    return quick(d, real.number == 6, holds, holds_len);
+}
+
+static hold_desk_card card(struct day d, bool bad, uint32_t period)
+{
+    hold_desk_card k = { 0, 0, 0, 0, 0, 0 };
+    bool sets[P_MOST][N_MOST];
+    uint32_t plan[N_MOST];
+    if (bad) {
+        k.number = 6;
+        if (IS(card_11_before_6, "period 0 is refused before a bad day") && period == 0) k.number = 11, k.first = d.p;
+        if (IS(card_6_first, "refusal 6 gives P")) k.first = d.p;
+        if (IS(card_6_size, "refusal 6 gives the number of flights for the size")) k.size = d.n;
+        return k;
+    }
+    size_t place = jump_or_limit(d);
+    if (IS(card_period_low_byte, "of the period the low byte is taken")) period &= 255;
+    if (IS(card_period_low_half, "of the period the low 16 bits are taken")) period &= 65535;
+    if (IS(card_past_last, "period P+1 is answered as P") && period == d.p + 1) period--;
+    if (IS(card_period_0, "period 0 is answered as 1") && period == 0) period = 1;
+    if (IS(card_far_period, "a period from 2^31 on is answered as 1") && period > INT32_MAX) period = 1;
+    bool outside = period == 0 || period > d.p;
+    if (IS(card_last_refused, "period P is refused") && period == d.p) outside = true;
+    if (IS(card_96_refused, "period 96 is refused") && period == P_MOST) outside = true;
+    if (IS(card_11_before_8, "refusal 11 before 8") && outside) place = d.n;
+    if (place < d.n) {
+        k.number = 8, k.first = place;
+        if (IS(card_8_next, "refusal 8 gives the next place")) k.first++;
+        if (IS(card_8_second, "refusal 8 gives the period second")) k.second = period;
+        if (IS(card_8_size, "refusal 8 gives the number of flights for the size")) k.size = d.n;
+        if (IS(card_8_low, "refusal 8 marks the flight in the low word") && place < 64) k.low = UINT64_C(1) << place;
+        return k;
+    }
+    plan_quickly(d, plan, sets);
+    if (outside) {
+        k.number = 11, k.first = d.p;
+        if (IS(card_11_zero, "refusal 11 gives 0 for P")) k.first = 0;
+        if (IS(card_11_period, "refusal 11 gives the period asked for")) k.first = period;
+        if (IS(card_11_second, "refusal 11 gives the period second")) k.second = period;
+        if (IS(card_11_words, "refusal 11 gives the words of period P")) for (size_t i = 0; i < d.n && i < 64; i++) k.low |= (uint64_t)sets[d.p - 1][i] << i;
+        if (IS(card_11_high, "refusal 11 gives all ones in the high word")) k.high = UINT64_MAX;
+        if (IS(card_11_size, "refusal 11 gives the number of flights for the size")) k.size = d.n;
+        return k;
+    }
+    for (size_t i = 0; i < d.n; i++)
+        if (sets[period - 1][i]) {
+            if (i < 64) k.low |= UINT64_C(1) << i;
+            else k.high |= UINT64_C(1) << (i - 64);
+            k.size++;
+        }
+    if (IS(card_high_zero, "the high word is 0")) k.high = 0;
+    if (IS(card_words_exchanged, "the words are exchanged")) { uint64_t w = k.low; k.low = k.high; k.high = w; }
+    if (IS(card_bit_63, "the flight at place 63 is not marked")) k.low &= ~(UINT64_C(1) << 63);
+    if (IS(card_bit_31, "the flight at place 31 marks those from 32 to 63 too") && k.low >> 31 & 1) k.low |= UINT64_C(0xffffffff) << 32;
+    if (IS(card_bit_64, "the flight at place 64 is marked at place 63") && k.high & 1) k.high &= ~UINT64_C(1), k.low |= UINT64_C(1) << 63;
+    if (IS(card_bit_127, "the flight at place 127 is not marked")) k.high &= ~(UINT64_C(1) << 63);
+    if (IS(card_size_low, "the size is that of the low word")) { k.size = 0; for (uint64_t w = k.low; w > 0; w &= w - 1) k.size++; }
+    if (IS(card_size_7_bits, "a size of 128 is given as 0")) k.size &= 127;
+    if (IS(card_size_6_bits, "of the size the low 6 bits are given")) k.size &= 63;
+    if (IS(card_first, "the period is answered first")) k.first = period;
+    if (IS(card_second, "the size is answered second")) k.second = k.size;
+    return k;
+}
+
+hold_desk_card hold_desk_period_card(DAY_ROWS, uint32_t period)
+{
+    if (!OURS(CARD)) return real_hold_desk_period_card(THE_DAY, period);
+    struct day d = day_of(THE_DAY);
+    hold_desk_card real = real_hold_desk_period_card(d.c, d.p, d.f, d.entries, period);
+    plain = true;
+    hold_desk_card again = card(d, real.number == 6, period);
+    plain = false;
+    must_agree(memcmp(&real, &again, sizeof real) == 0, "the period card");
+    return card(d, real.number == 6, period);
+}
+
+/* ---- the full plan */
+
+/* Whether periods a to b are short; with a fault, what that fault takes for short. */
+static bool is_short(struct day d, size_t a, size_t b, bool at_equal, bool by_due, bool reaching_end)
+{
+    size_t must = 0, room = 0;
+    for (size_t k = a; k <= b; k++) room += d.c[k - 1];
+    for (size_t i = 0; i < d.n; i++) {
+        const uint32_t *v = d.f + i * WIDTH;
+        size_t latest = v[LIMIT] == 255 ? (by_due ? d.p : d.p + 1) : v[DUE] + v[LIMIT];
+        if (reaching_end && latest == d.p + 1 && v[LIMIT] != 255) latest = d.p;
+        if (v[DUE] >= a && latest <= b) must++;
+    }
+    return must > room || (at_equal && must == room && must > 0);
+}
+
+/* The day with values that a wrong planner would see. */
+static struct day seen_wrongly(struct day d)
+{
+    static _Thread_local uint32_t c[P_MOST], f[N_MOST * WIDTH];
+    put_back(c, d.c, d.p * sizeof *c);
+    put_back(f, d.f, d.entries * sizeof *f);
+    for (size_t k = 0; k < d.p; k++) {
+        if (IS(full_capacity_signed, "a capacity above 127 is taken as 0") && c[k] > 127) c[k] = 0;
+        if (IS(full_capacity_64, "no more than 64 flights land in a period") && c[k] > 64) c[k] = 64;
+        if (IS(full_period_96, "the capacity of period 96 is one more") && k == P_MOST - 1) c[k] = c[k] < 255 ? c[k] + 1 : 255;
+        if (IS(full_closed_takes_one, "a capacity of 0 takes one flight") && c[k] == 0) c[k] = 1;
+    }
+    for (size_t i = 0; i < d.n; i++) {
+        uint32_t *v = f + i * WIDTH;
+        if (IS(full_rates_alone, "jumps are left out")) v[JUMP] = 0;
+        if (IS(full_jump_at_after, "the jump is charged at hold = after") && v[AFTER] > 0) v[AFTER]--;
+        if (IS(full_jump_late, "the jump is charged from hold = after + 2 on") && v[AFTER] < 96) v[AFTER]++;
+        if (IS(full_jump_low_bits, "of a jump the low 19 bits are taken")) v[JUMP] &= 0x7ffff;
+        if (IS(full_rate_low_bits, "of a rate the low 13 bits are taken") && v[RATE] > 8192) v[RATE] &= 8191;
+        if (IS(full_limit_0, "limit 0 is taken as none") && v[LIMIT] == 0) v[LIMIT] = 255;
+        if (IS(full_limit_more, "limits are one more") && v[LIMIT] < 96) v[LIMIT]++;
+        if (IS(full_limits_from_64, "limits are left out from table place 64 on") && i >= 64) v[LIMIT] = 255;
+        if (IS(full_limits_128th, "the 128th flight's limit is left out") && i == N_MOST - 1) v[LIMIT] = 255;
+        if (IS(full_limit_95, "limit 95 is taken as 94") && v[LIMIT] == 95) v[LIMIT] = 94;
+    }
+    d.c = c;
+    d.f = f;
+    return d;
+}
+
+static bool yes(struct day d, const uint32_t *holds, const uint32_t *prices)
+{
+    return real_hold_desk_price_check(d.c, d.p, d.f, d.entries, holds, d.n, prices, d.p);
+}
+
+/* A price that is changed, if the price check then says no. */
+static void spoil(struct day d, const uint32_t *holds, uint32_t *prices, size_t k, uint32_t price)
+{
+    uint32_t was = prices[k];
+    prices[k] = price;
+    if (yes(d, holds, prices)) prices[k] = was;
+}
+
+/* A plan that costs more: two flights land in each other's period. */
+static void exchange(struct day d, uint32_t *holds)
+{
+    uint64_t least = total(d, holds, COST_RIGHT);
+    for (size_t i = 0; i < d.n; i++)
+        for (size_t k = 0; k < i; k++) {
+            uint32_t due_i = d.f[i * WIDTH + DUE], due_k = d.f[k * WIDTH + DUE], was_i = holds[i], was_k = holds[k];
+            if (due_i + was_i < due_k || due_k + was_k < due_i) continue;
+            holds[i] = due_k + was_k - due_i;
+            holds[k] = due_i + was_i - due_k;
+            if (walk(d, holds, WALK_RIGHT) == d.n && total(d, holds, COST_RIGHT) > least) return;
+            holds[i] = was_i;
+            holds[k] = was_k;
+        }
+}
+
+/* A plan that costs more: one flight lands a period later. */
+static void delay(struct day d, uint32_t *holds)
+{
+    for (size_t i = d.n; i-- > 0;) {
+        holds[i]++;
+        if (walk(d, holds, WALK_RIGHT) == d.n) return;
+        holds[i]--;
+    }
+}
+
+static hold_desk_answer accepted(struct day d, hold_desk_answer real, uint32_t *holds, uint32_t *prices, const uint32_t *holds_before, const uint32_t *prices_before)
+{
+    uint32_t landed[P_MOST + 2] = { 0 };
+    for (size_t i = 0; i < d.n; i++) landed[d.f[i * WIDTH + DUE] + holds[i]]++;
+    for (size_t b = 1; b <= d.p; b++)
+        for (size_t a = b; a >= 1; a--) {
+            bool wrong = IS(full_9_equal, "a stretch that is just full counts as short") && is_short(d, a, b, true, false, false);
+            wrong = wrong || (IS(full_9_by_due, "flights without a limit count as having to land by P") && is_short(d, a, b, false, true, false));
+            wrong = wrong || (IS(full_9_reaching_end, "flights whose limit reaches P+1 count as having to land by P") && is_short(d, a, b, false, false, true));
+            wrong = wrong || (IS(full_9_closed, "there is no plan where the first flight is due in a closed period") && a == b && d.c[a - 1] == 0 && d.n > 0 && d.f[DUE] == a);
+            if (!wrong) continue;
+            put_back(holds, holds_before, d.n * sizeof *holds);
+            put_back(prices, prices_before, d.p * sizeof *prices);
+            return answer(9, a, b);
+        }
+    if (IS(full_dearer, "two flights land in each other's period")) exchange(d, holds);
+    if (IS(full_dearer_100, "two flights land in each other's period in a day of more than 100 flights") && d.n > 100) exchange(d, holds);
+    if (IS(full_dearer_96, "two flights land in each other's period in a day of 96 periods") && d.p == P_MOST) exchange(d, holds);
+    if (IS(full_later, "a flight lands a period later than it might")) delay(d, holds);
+    if (IS(full_later_128, "a flight lands a period later than it might in a day of 128 flights") && d.n == N_MOST) delay(d, holds);
+    if (IS(full_later_told, "a flight lands a period later than the total says")) delay(d, holds);
+    else real.first = total(d, holds, COST_RIGHT);
+    if (IS(full_all_to_end, "all flights land in the closing period where that is legal")) {
+        uint32_t latest[N_MOST];
+        for (size_t i = 0; i < d.n; i++) latest[i] = (uint32_t)d.p + 1 - d.f[i * WIDTH + DUE];
+        if (walk(d, latest, WALK_RIGHT) == d.n) put_back(holds, latest, d.n * sizeof *holds);
+        real.first = total(d, holds, COST_RIGHT);
+    }
+    if (IS(full_total_more, "the total is one more above 1,000,000") && real.first > 1000000) real.first++;
+    if (IS(full_total_low_bits, "of the total the low 24 bits are given")) real.first &= 0xffffff;
+    if (IS(full_total_no_jump, "the total is without jumps")) real.first = total(d, holds, COST_NO_JUMP);
+    if (IS(full_second, "N is answered second")) real.second = d.n;
+    for (size_t k = 0; k < d.p; k++) {
+        bool room = landed[k + 1] < d.c[k];
+        if (IS(full_price_room, "a period with room has price 1") && room) prices[k] = 1;
+        if (IS(full_price_room_last, "the last period has price 1 if it has room") && room && k == d.p - 1) prices[k] = 1;
+        if (IS(full_price_room_96, "period 96 has price 1 if it has room") && room && k == P_MOST - 1) prices[k] = 1;
+        if (IS(full_price_left, "a price of 0 is not stored") && prices[k] == 0) prices[k] = prices_before[k];
+        if (IS(full_price_96_left, "the price of period 96 is not stored") && k == P_MOST - 1) prices[k] = prices_before[k];
+        if (IS(full_price_more, "a price is one more than the check allows") && !room) { uint32_t was = prices[k]; spoil(d, holds, prices, k, was + 1); if (prices[k] != was) break; }
+        if (IS(full_price_less, "a price is one less than the check allows") && prices[k] > 0) { uint32_t was = prices[k]; spoil(d, holds, prices, k, was - 1); if (prices[k] != was) break; }
+        if (IS(full_price_less_late, "a price after period 48 is one less than the check allows") && prices[k] > 0 && k >= 48) { uint32_t was = prices[k]; spoil(d, holds, prices, k, was - 1); if (prices[k] != was) break; }
+        if (IS(full_closed_price_0, "a closed period has price 0") && d.c[k] == 0) prices[k] = 0;
+        if (IS(full_closed_price_most, "a closed period has a price above the bound") && d.c[k] == 0) prices[k] = 250880001;
+        if (IS(full_closed_price_2_to_32, "the last period has the greatest 32-bit price if it is closed") && d.c[k] == 0 && k == d.p - 1) prices[k] = UINT32_MAX;
+    }
+    if (IS(full_prices_0, "all prices are 0")) memset(prices, 0, d.p * sizeof *prices);
+    for (size_t i = 0; i < d.n; i++) {
+        if (IS(full_hold_left, "a hold of 0 is not stored") && holds[i] == 0) holds[i] = holds_before[i];
+        if (IS(full_128th_left, "the 128th hold is not stored") && i == N_MOST - 1) holds[i] = holds_before[i];
+        if (IS(full_lands, "landing periods are stored for holds")) holds[i] += d.f[i * WIDTH + DUE];
+    }
+    return real;
+}
+
+static hold_desk_answer no_plan(struct day d, hold_desk_answer real, uint32_t *holds, uint32_t *prices)
+{
+    size_t b = real.second;
+    if (IS(full_9_first_1, "the stretch's first period is 1")) real.first = 1;
+    if (IS(full_9_one_period, "the stretch's first period is its last")) real.first = b;
+    if (IS(full_9_smallest_first, "of the stretches with the smallest last period the smallest first one")) for (size_t a = b; a >= 1; a--) if (is_short(d, a, b, false, false, false)) real.first = a;
+    if (IS(full_9_larger_last, "the stretch with the largest last period")) for (b = real.second + 1; b <= d.p; b++) for (size_t a = 1; a <= b; a++) if (is_short(d, a, b, false, false, false)) real.first = a, real.second = b;
+    if (IS(full_9_exchanged, "the stretch's first and last period are exchanged")) real.second = real.first, real.first = b;
+    if (IS(full_9_length, "the stretch's length is given for its last period")) real.second = b - real.first + 1;
+    if (IS(full_9_reaches_on, "the stretch reaches on over closed periods")) while (real.second < d.p && d.c[real.second] == 0) real.second++;
+    if (IS(full_9_starts_before, "the stretch starts at the closed periods before it")) while (real.first > 1 && d.c[real.first - 2] == 0) real.first--;
+    if (IS(full_9_second_zero, "the stretch's last period is not given")) real.second = 0;
+    if (IS(full_9_as_0, "no plan is answered as a total of 0")) return answer(0, 0, 0);
+    if (IS(full_9_128, "no plan is answered as a total of 0 for 128 flights") && d.n == N_MOST) return answer(0, 0, 0);
+    if (IS(full_9_touches_holds, "refusal 9 changes the hold row's first entry") && d.n > 0) holds[0] ^= 1;
+    if (IS(full_9_touches_last, "refusal 9 changes the hold row's last entry") && d.n > 0) holds[d.n - 1] ^= 1;
+    if (IS(full_9_touches_prices, "refusal 9 changes the price row's first entry")) prices[0] ^= 1;
+    if (IS(full_9_clears_prices, "refusal 9 clears the price row")) memset(prices, 0, d.p * sizeof *prices);
+    return real;
+}
+
+hold_desk_answer hold_desk_full_plan(DAY_ROWS, uint32_t *holds, size_t holds_len, uint32_t *prices, size_t prices_len)
+{
+    if (!OURS(FULL)) return real_hold_desk_full_plan(THE_DAY, holds, holds_len, prices, prices_len);
+    uint32_t none[1];
+    struct day d = day_of(THE_DAY);
+    holds_len = cut(holds_len, d.flights_cut);
+    prices_len = cut(prices_len, d.periods_cut);
+    if (d.no_period && prices_len == 0) prices = none, prices_len = 1;
+    if (IS(full_long_holds, "a hold row with one entry more is taken") && holds_len == d.n + 1) holds_len--;
+    if (IS(full_longer_holds, "a hold row with two or more entries more is taken") && holds_len > d.n + 1) holds_len = d.n;
+    if (IS(full_long_prices, "a price row with one entry more is taken") && prices_len == d.p + 1) prices_len--;
+    if (IS(full_longer_prices, "a price row with two or more entries more is taken") && prices_len > d.p + 1) prices_len = d.p;
+    uint32_t *holds_before = copy_of(holds, holds_len * sizeof *holds), *prices_before = copy_of(prices, prices_len * sizeof *prices);
+    hold_desk_answer real = real_hold_desk_full_plan(d.c, d.p, d.f, d.entries, holds, holds_len, prices, prices_len);
+    if (real.number == 6) {
+        if (IS(full_7_before_6, "a bad day with an empty price row is refused with 7") && prices_len == 0) real = answer(7, d.p, 0);
+        if (IS(full_6_touches_holds, "refusal 6 changes the hold row") && holds_len > 0) holds[0] ^= 1;
+        if (IS(full_6_touches_prices, "refusal 6 changes the price row") && prices_len > 0) prices[prices_len - 1] ^= 1;
+    }
+    if (real.number == 7) {
+        bool for_holds = holds_len != d.n;
+        if (IS(full_7_prices_first, "the price row's length before the hold row's") && prices_len != d.p) real.first = d.p;
+        if (IS(full_7_n_for_prices, "the price row's length needed is given as N") && !for_holds) real.first = d.n;
+        if (IS(full_7_p_for_holds, "the hold row's length needed is given as P") && for_holds) real.first = d.p;
+        if (IS(full_7_given, "refusal 7 gives the length that it got")) real.first = for_holds ? holds_len : prices_len;
+        if (IS(full_7_second, "refusal 7 gives P second")) real.second = d.p;
+        if (IS(full_7_touches_prices, "refusal 7 for the hold row changes the price row") && for_holds && prices_len > 0) prices[0] ^= 1;
+        if (IS(full_7_touches_holds, "refusal 7 for the price row changes the hold row") && !for_holds && holds_len > 0) holds[holds_len - 1] ^= 1;
+        if (IS(full_9_before_7, "refusal 9 before 7"))
+            for (size_t b = 1; b <= d.p && real.number == 7; b++)
+                for (size_t a = b; a >= 1 && real.number == 7; a--)
+                    if (is_short(d, a, b, false, false, false)) real = answer(9, a, b);
+    }
+    if ((real.number == 0 || real.number == 9) && the_rule == NO_RULE) {
+        struct day wrong = seen_wrongly(d);
+        if (memcmp(wrong.c, d.c, d.p * sizeof *d.c) != 0 || (d.n > 0 && memcmp(wrong.f, d.f, d.entries * sizeof *d.f) != 0)) {
+            put_back(holds, holds_before, holds_len * sizeof *holds);
+            put_back(prices, prices_before, prices_len * sizeof *prices);
+            real = real_hold_desk_full_plan(wrong.c, d.p, wrong.f, d.entries, holds, holds_len, prices, prices_len);
+        } else if (real.number == 0) {
+            real = accepted(d, real, holds, prices, holds_before, prices_before);
+        } else {
+            real = no_plan(d, real, holds, prices);
+        }
+    }
+    free(holds_before), free(prices_before);
+    return real;
+}

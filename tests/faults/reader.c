@@ -1,0 +1,336 @@
+/* Faults of the sheet reader: the reader written down again, with one wrong line at a time. */
+#include "faults.h"
+
+enum { MOST_BYTES = 8192, NO = -1, DASH = -2 };
+
+static const char *const names[] = { "period,capacity\n", "flight,due,rate,after,jump,limit\n" };
+
+/* The bytes of a names line at a place, its end byte among them; 0 if that line is not there. */
+static size_t names_at(int which, const uint8_t *s, size_t n, size_t at)
+{
+    size_t length = strlen(names[which]);
+    if (IS(read_names_without_end, "the second names line may lack its end byte at the sheet's end") && which == 1 && n - at == length - 1) length--;
+    if (n - at < length) return 0;
+    for (size_t k = 0; k < length; k++) {
+        uint8_t b = s[at + k], want = (uint8_t)names[which][k];
+        if (IS(read_names_capitals, "capital letters pass in the names lines") && b >= 'A' && b <= 'Z') b |= 32;
+        if (IS(read_names_last_letter, "the last letter of the second names line is not compared") && which == 1 && k == length - 2 && b != 10) b = want;
+        if (IS(read_names_high_bit, "bytes above 127 in the names lines lose their high bit")) b &= 127;
+        if (b != want) return 0;
+    }
+    return length;
+}
+
+/* The number in s[from..to), or NO. */
+static long number(const uint8_t *s, size_t from, size_t to, bool flight_line)
+{
+    size_t n = to - from;
+    long v = 0;
+    if (n > 1 && s[from] == ' ' && IS(read_space, "a space before a number passes")) from++, n--;
+    if (n > 1 && s[from] == '+' && IS(read_plus, "a plus before a number passes")) from++, n--;
+    if (n > 1 && s[to - 1] == '\r' && IS(read_carriage_return, "a carriage return after a number passes")) n--;
+    if (n == 0) return IS(read_empty_field, "an empty field of a flight line is 0") && flight_line ? 0 : NO;
+    if (n > 7 && !(IS(read_eight_digits, "eight digits pass as a number, so that they are out of range") && n == 8)) return NO;
+    if (n == 7 && IS(read_seven_digits, "seven digits are not of the form")) return NO;
+    if (n > 1 && s[from] == '0') {
+        bool passes = IS(read_leading_zero, "a leading zero passes in a flight line") && flight_line;
+        passes = passes || (IS(read_two_zeros, "00 is 0") && n == 2 && s[from + 1] == '0');
+        if (!passes) return NO;
+    }
+    for (size_t k = from; k < from + n; k++) {
+        uint8_t b = s[k];
+        if (IS(read_high_bit, "digits above 127 lose their high bit")) b &= 127;
+        if (b == ':' && IS(read_colon, "byte 58 is a digit")) b = '9';
+        if (b == '/' && IS(read_slash, "byte 47 is a digit")) b = '0';
+        if (b < '0' || b > '9') return NO;
+        v = v * 10 + (b - '0');
+    }
+    return v;
+}
+
+/* How many fields s[from..end) has, and their numbers, NO or DASH. */
+static int fields(const uint8_t *s, size_t from, size_t end, long v[8], bool flight_line)
+{
+    int k = 0;
+    for (size_t i = from; i <= end; i++)
+        if (i == end || s[i] == ',' || (s[i] == ';' && IS(read_semicolon, "a semicolon parts fields"))) {
+            if (k < 8) v[k] = i - from == 1 && s[from] == '-' ? DASH : number(s, from, i, flight_line);
+            k++;
+            from = i + 1;
+        }
+    return k;
+}
+
+static bool period_in_range(const long v[2], size_t p)
+{
+    bool counts = v[0] == (long)p + 1;
+    if (IS(read_count_above_9, "the period's count is not looked at from 10 on") && p + 1 >= 10) counts = true;
+    if (IS(read_count_low_byte, "of the period's count the low byte is compared")) counts = v[0] % 256 == (long)p + 1;
+    if (IS(read_capacity_256, "a capacity of 256 is read") && v[1] == 256) return counts;
+    if (IS(read_capacity_255, "a capacity of 255 is out of range") && v[1] == 255) return false;
+    if (IS(read_capacity_last, "the capacity of period 96 is not looked at") && p == P_MOST - 1) return counts;
+    return counts && v[1] <= 255;
+}
+
+static bool flight_in_range(const long v[6], size_t p)
+{
+    static const long least[WIDTH] = { 1, 1, 1, 0, 0, 0 }, most[WIDTH] = { 9999, P_MOST, 10000, 96, 1000000, 96 };
+    for (int k = 0; k < WIDTH; k++) {
+        long low = least[k], high = k == DUE ? (long)p : most[k];
+        if (k == LIMIT && v[k] == DASH) continue;
+        if (IS(read_number_0, "flight number 0 is read") && k == NUMBER) low = 0;
+        if (IS(read_number_10000, "flight number 10,000 is read") && k == NUMBER) high = 10000;
+        if (IS(read_number_9999, "flight number 9,999 is out of range") && k == NUMBER) high = 9998;
+        if (IS(read_due_0, "due 0 is read") && k == DUE) low = 0;
+        if (IS(read_due_past_last, "due P+1 is read") && k == DUE) high++;
+        if (IS(read_due_96, "due is held against 96, not P") && k == DUE) high = P_MOST;
+        if (IS(read_due_last, "due P is out of range") && k == DUE) high--;
+        if (IS(read_rate_0, "rate 0 is read") && k == RATE) low = 0;
+        if (IS(read_rate_10001, "rate 10,001 is read") && k == RATE) high = 10001;
+        if (IS(read_rate_10000, "rate 10,000 is out of range") && k == RATE) high = 9999;
+        if (IS(read_after_97, "after 97 is read") && k == AFTER) high = 97;
+        if (IS(read_after_96, "after 96 is out of range") && k == AFTER) high = 95;
+        if (IS(read_jump_1000001, "jump 1,000,001 is read") && k == JUMP) high = 1000001;
+        if (IS(read_jump_1000000, "jump 1,000,000 is out of range") && k == JUMP) high = 999999;
+        if (IS(read_limit_97, "limit 97 is read") && k == LIMIT) high = 97;
+        if (IS(read_limit_96, "limit 96 is out of range") && k == LIMIT) high = 95;
+        if (IS(read_limit_255, "limit 255 is read, as a missing one") && k == LIMIT && v[k] == 255) continue;
+        if (IS(read_rate_low_half, "of a rate the low 16 bits are held against the range") && k == RATE && v[k] > 65535) { if (v[k] % 65536 >= 1 && v[k] % 65536 <= 10000) continue; }
+        if (v[k] < low || v[k] > high) return false;
+    }
+    return true;
+}
+
+/* The place of a flight above with this number, or n. */
+static size_t used_above(const uint32_t *f, size_t n, long number)
+{
+    for (size_t k = 0; k < n; k++) {
+        if (IS(read_repeat_next, "a repeated number is found in the line above alone") && k + 1 < n) continue;
+        if (IS(read_repeat_64, "a number is held against the first 64 flights alone") && k >= 64) continue;
+        if (IS(read_repeat_9999, "number 9,999 may be repeated") && number == 9999) continue;
+        if (IS(read_repeat_first, "the first flight's number may be repeated") && k == 0) continue;
+        if (IS(read_repeat_low_byte, "numbers with the same low byte count as repeated after 100 flights") && n > 100 && f[k * WIDTH] % 256 == number % 256) return k;
+        if (f[k * WIDTH] == number) return k;
+    }
+    return n;
+}
+
+struct read {
+    uint32_t c[P_MOST], f[N_MOST * WIDTH];
+    size_t p, n;
+    size_t at;      /* the line's first byte */
+    size_t before;  /* that of the line before */
+    size_t next;    /* that of the next, or the sheet's length */
+    size_t repeated;/* that of the line with the same number, for refusal 4 */
+};
+
+/* The refusal's number, or 0. */
+static int read_lines(struct read *r, const uint8_t *s, size_t n)
+{
+    size_t starts[N_MOST];
+    long v[8];
+    memset(r, 0, sizeof *r);
+    if (n >= 3 && memcmp(s, "\xef\xbb\xbf", 3) == 0 && IS(read_byte_order_mark, "a byte order mark passes at the front")) r->at = 3;
+    r->next = names_at(0, s, n, r->at);
+    if (r->next == 0) {
+        if (n > 0 && IS(read_first_names_5, "another first line is refused with 5")) return 5;
+        return r->at = 0, 2;
+    }
+    for (r->next += r->at;;) {
+        r->before = r->at;
+        r->at = r->next;
+        if (r->at == n) {
+            if (IS(read_end_after_96, "a sheet that ends after 96 period lines is refused with 5") && r->p == P_MOST) return 5;
+            if (IS(read_end_no_period, "a sheet that ends after the first names line is refused with 5") && r->p == 0) return 5;
+            if (IS(read_end_accepted, "a sheet that ends after its period lines has no flights") && r->p > 0) return 0;
+            return 2;
+        }
+        size_t length = names_at(1, s, n, r->at);
+        const uint8_t *found = memchr(s + r->at, 10, n - r->at);
+        size_t end = found == NULL ? n : (size_t)(found - s);
+        r->next = found == NULL ? n : end + 1;
+        bool wrong_form = found == NULL || fields(s, r->at, end, v, false) != 2 || v[0] < 0 || v[1] < 0;
+        if (IS(read_names_cut_5, "the second names line without its end byte is refused with 5 where no period line is") && r->p == 0 && found == NULL && n - r->at == strlen(names[1]) - 1 && memcmp(s + r->at, names[1], n - r->at) == 0) return 5;
+        if (length > 0) {
+            if (r->p > 0) break;
+            if (IS(read_no_period_2, "no period line is refused with 2")) return 2;
+            if (IS(read_no_period_accepted, "a sheet without period lines and flights has one closed period") && r->next == n) return r->p = 1, 0;
+            return 5;
+        }
+        if (r->p == P_MOST) {
+            if (IS(read_97th_form_2, "a 97th period line that is not of the form is refused with 2") && wrong_form) return 2;
+            if (IS(read_97th_range_3, "a 97th period line that is out of range is refused with 3") && !wrong_form && (v[0] != 97 || v[1] > 255)) return 3;
+            if (IS(read_97th_right_3, "a 97th period line that would be right is refused with 3") && !wrong_form && v[0] == 97 && v[1] <= 255) return 3;
+            if (IS(read_97th_names_cut_2, "the second names line without its end byte is refused with 2 after 96 period lines") && found == NULL && n - r->at == strlen(names[1]) - 1 && memcmp(s + r->at, names[1], n - r->at) == 0) return 2;
+            return 5;
+        }
+        if (IS(read_period_extra_field, "a period line may have a third field") && found != NULL && fields(s, r->at, end, v, false) == 3 && v[0] >= 0 && v[1] >= 0) wrong_form = false;
+        if (IS(read_3_before_2_period, "a period out of count is refused with 3 though the line is not of the form") && wrong_form && fields(s, r->at, end, v, false) == 2 && v[0] >= 0 && v[0] != (long)r->p + 1) return 3;
+        if (wrong_form) {
+            if (IS(read_period_end_3, "a period line without its end byte is refused with 3") && found == NULL) return 3;
+            return 2;
+        }
+        if (!period_in_range(v, r->p)) {
+            if (IS(read_count_2, "a period out of count is refused with 2") && v[0] != (long)r->p + 1) return 2;
+            if (IS(read_capacity_2, "a capacity out of range is refused with 2") && v[0] == (long)r->p + 1) return 2;
+            return 3;
+        }
+        r->c[r->p++] = (uint32_t)v[1];
+    }
+    if (IS(read_order_swapped, "the capacities are stored from the last one") && r->p > 1) for (size_t k = 0; k < r->p / 2; k++) { uint32_t c = r->c[k]; r->c[k] = r->c[r->p - 1 - k]; r->c[r->p - 1 - k] = c; }
+    while (r->next < n) {
+        r->before = r->at;
+        r->at = r->next;
+        const uint8_t *found = memchr(s + r->at, 10, n - r->at);
+        size_t end = found == NULL ? n : (size_t)(found - s);
+        r->next = found == NULL ? n : end + 1;
+        int count = fields(s, r->at, end, v, true);
+        bool form = found != NULL && count == WIDTH;
+        if (IS(read_flight_end, "the last flight line may lack its end byte") && found == NULL) form = count == WIDTH;
+        if (IS(read_five_fields, "a flight line without its limit has a missing one") && found != NULL && count == 5) form = true, v[LIMIT] = DASH;
+        if (IS(read_seven_fields, "a flight line may have a seventh field") && found != NULL && count == 7) form = true;
+        if (IS(read_trailing_comma, "a flight line may end in a comma") && found != NULL && count == 7 && s[end - 1] == ',') form = true;
+        for (int k = 0; k < LIMIT; k++) {
+            if (IS(read_dash_jump, "a jump of - is 0") && form && k == JUMP && v[k] == DASH) v[k] = 0;
+            form = form && v[k] >= 0;
+        }
+        form = form && v[LIMIT] != NO;
+        bool repeats = form && used_above(r->f, r->n, v[NUMBER]) < r->n;
+        if (r->n == N_MOST) {
+            if (IS(read_129th_form_2, "a 129th flight line that is not of the form is refused with 2") && !form && found != NULL && end > r->at) return 2;
+            if (IS(read_129th_empty_2, "an empty line after 128 flight lines is refused with 2") && end == r->at) return 2;
+            if (IS(read_129th_end_2, "a 129th flight line without its end byte is refused with 2") && found == NULL) return 2;
+            if (IS(read_129th_range_3, "a 129th flight line that is out of range is refused with 3") && form && !flight_in_range(v, r->p)) return 3;
+            if (IS(read_129th_repeat_4, "a 129th flight line with a number used above is refused with 4") && repeats) return 4;
+            if (IS(read_129th_left_out, "a 129th flight line is left out")) return 0;
+            return 5;
+        }
+        if (IS(read_empty_line, "an empty line ends the sheet if it is the last") && found != NULL && end == r->at && r->next == n) break;
+        if (IS(read_names_again, "the second names line passes between flights") && names_at(1, s, n, r->at) > 0) continue;
+        if (!form) {
+            if (IS(read_3_before_2, "a flight number out of range is refused with 3 though the line is not of the form") && found != NULL && count == WIDTH && (v[0] == 0 || v[0] > 9999)) return 3;
+            if (IS(read_4_before_2, "a number used above is refused with 4 though the line is not of the form") && found != NULL && count == WIDTH && v[0] >= 0 && used_above(r->f, r->n, v[0]) < r->n) return 4;
+            if (IS(read_flight_end_5, "a flight line without its end byte is refused with 5") && found == NULL) return 5;
+            if (IS(read_leading_zero_3, "a leading zero in a flight's limit is refused with 3") && found != NULL && count == WIDTH && v[LIMIT] == NO && end >= 2 && s[end - 2] == '0' && s[end - 1] >= '0' && s[end - 1] <= '9') return 3;
+            if (IS(read_other_names_3, "a line that begins with a letter is refused with 3 among the flights") && s[r->at] >= 'a' && s[r->at] <= 'z') return 3;
+            return 2;
+        }
+        if (!flight_in_range(v, r->p)) {
+            if (IS(read_4_before_3, "a number used above is refused with 4 though a value is out of range") && repeats) return 4;
+            if (IS(read_limit_2, "a limit out of range is refused with 2") && v[LIMIT] > 96) return 2;
+            if (IS(read_due_2, "due 0 is refused with 2") && v[DUE] == 0) return 2;
+            if (IS(read_range_128th, "the 128th flight line is not held against the ranges") && r->n == N_MOST - 1 && v[NUMBER] > 0 && v[DUE] > 0) { v[LIMIT] = v[LIMIT] > 96 ? 96 : v[LIMIT]; goto take; }
+            return 3;
+        }
+        if (repeats) {
+            r->repeated = starts[used_above(r->f, r->n, v[NUMBER])];
+            if (IS(read_repeat_3, "a number used in the line above is refused with 3") && r->n > 0 && r->f[(r->n - 1) * WIDTH] == v[NUMBER]) return 3;
+            return 4;
+        }
+take:
+        for (int k = 0; k < WIDTH; k++) r->f[r->n * WIDTH + (size_t)k] = v[k] == DASH ? 255 : (uint32_t)v[k];
+        if (IS(read_missing_0, "a missing limit is stored as 0") && v[LIMIT] == DASH) r->f[r->n * WIDTH + LIMIT] = 0;
+        if (IS(read_missing_96, "a missing limit is stored as 96") && v[LIMIT] == DASH) r->f[r->n * WIDTH + LIMIT] = 96;
+        if (IS(read_missing_last, "the 128th flight's missing limit is stored as 254") && v[LIMIT] == DASH && r->n == N_MOST - 1) r->f[r->n * WIDTH + LIMIT] = 254;
+        if (IS(read_jump_low_bits, "of a jump the low 19 bits are stored")) r->f[r->n * WIDTH + JUMP] &= 0x7ffff;
+        if (IS(read_after_jump, "after and jump are stored in each other's place")) r->f[r->n * WIDTH + AFTER] = (uint32_t)v[JUMP], r->f[r->n * WIDTH + JUMP] = (uint32_t)v[AFTER];
+        starts[r->n++] = r->at;
+    }
+    return 0;
+}
+
+static hold_desk_answer read_all(const uint8_t *s, size_t n, uint32_t *c, size_t cn, uint32_t *f, size_t fn)
+{
+    static _Thread_local struct read r;
+    if (IS(read_1_before_7, "refusal 1 before 7") && n > MOST_BYTES) return answer(1, MOST_BYTES, 0);
+    if (IS(read_7_flights_first, "the flight row's length before the capacity row's") && fn != 768) return answer(7, 768, 0);
+    if (IS(read_2_before_7, "an empty sheet is refused before the rows' lengths") && n == 0) return answer(2, 0, 0);
+    bool c_fits = cn == P_MOST, f_fits = fn == 768;
+    if (IS(read_capacities_97, "a capacity row of 97 is taken") && cn == 97) c_fits = true;
+    if (IS(read_capacities_long, "a capacity row of 192 or more is taken") && cn >= 192) c_fits = true;
+    if (IS(read_capacities_short, "a capacity row of 95 is taken if the day fits") && cn == 95) c_fits = true;
+    if (IS(read_flights_769, "a flight row of 769 is taken") && fn == 769) f_fits = true;
+    if (IS(read_flights_774, "a flight row of 774 is taken") && fn == 774) f_fits = true;
+    if (IS(read_flights_long, "a flight row of 1,536 or more is taken") && fn >= 1536) f_fits = true;
+    if (IS(read_flights_short, "a flight row of 762 is taken if the day fits") && fn == 762) f_fits = true;
+    if (!c_fits || !f_fits) {
+        uint64_t needed = !c_fits ? P_MOST : 768;
+        if (IS(read_7_exchanged, "the lengths needed are exchanged")) needed = !c_fits ? 768 : P_MOST;
+        if (IS(read_7_given, "refusal 7 gives the length that it got")) needed = !c_fits ? cn : fn;
+        if (IS(read_7_flights_128, "the flight row's length needed is given in flights")) needed = !c_fits ? P_MOST : N_MOST;
+        if (IS(read_7_touches_capacities, "refusal 7 for the flight row changes the capacity row") && c_fits) c[0] ^= 1;
+        if (IS(read_7_touches_flights, "refusal 7 for the capacity row changes the flight row") && !c_fits && fn > 0) f[fn - 1] ^= 1;
+        return answer(7, needed, IS(read_7_second, "refusal 7 gives the length that it got second") ? (!c_fits ? cn : fn) : 0);
+    }
+    if (IS(read_nul_ends, "byte 0 ends the sheet") && n <= MOST_BYTES && n > 0) { const uint8_t *nul = memchr(s, 0, n); if (nul != NULL) n = (size_t)(nul - s); }
+    bool too_long = n > MOST_BYTES;
+    if (IS(read_1_from_8192, "a sheet of 8,192 bytes is too long") && n == MOST_BYTES) too_long = true;
+    if (IS(read_1_not_8193, "a sheet of 8,193 bytes is not too long") && n == MOST_BYTES + 1) too_long = false;
+    if (IS(read_1_low_half, "of a sheet's length the low 16 bits are looked at") && n > 65535) n &= 65535, too_long = n > MOST_BYTES;
+    if (too_long) {
+        if (IS(read_1_touches, "refusal 1 changes the flight row's last entry")) f[767] ^= 1;
+        return answer(1, IS(read_1_length, "refusal 1 gives the sheet's length") ? n : MOST_BYTES, IS(read_1_second, "refusal 1 gives the sheet's length second") ? n : 0);
+    }
+    int number = read_lines(&r, s, n);
+    if (number == 0 && (r.p > cn || r.n * WIDTH > fn)) return answer(7, P_MOST, 0);
+    if (number != 0) {
+        size_t at = r.at, second = 0;
+        if (IS(read_2_next_byte, "refusal 2 gives the offset of the next byte") && number == 2) at++;
+        if (IS(read_2_end, "refusal 2 gives the sheet's length for a line without its end byte") && number == 2 && r.next == n) at = n;
+        if (IS(read_2_end_before, "refusal 2 gives the last line's offset where the sheet ends early") && number == 2 && at == n) at = r.before;
+        if (IS(read_3_next_line, "refusal 3 gives the offset of the next line") && number == 3) at = r.next;
+        if (IS(read_3_line_before, "refusal 3 gives the offset of the line before after 100 flights") && number == 3 && r.n > 100) at = r.before;
+        if (IS(read_4_zero, "refusal 4 gives offset 0") && number == 4) at = 0;
+        if (IS(read_4_first, "refusal 4 gives the offset of the number's first line") && number == 4) at = r.repeated;
+        if (IS(read_5_line_before, "refusal 5 gives the offset of the line before") && number == 5) at = r.before;
+        if (IS(read_5_next_line, "refusal 5 gives the offset of the next line for a 97th period") && number == 5 && r.p == P_MOST && r.n == 0) at = r.next;
+        if (IS(read_5_end, "refusal 5 gives the sheet's length for a 129th flight") && number == 5 && r.n == N_MOST) at = n;
+        if (IS(read_offset_low_bits, "of an offset the low 12 bits are given")) at &= 4095;
+        if (IS(read_2_second, "refusal 2 gives the flights read second") && number == 2) second = r.n;
+        if (IS(read_3_second, "refusal 3 gives 1 second") && number == 3) second = 1;
+        if (IS(read_4_second, "refusal 4 gives the first line's offset second") && number == 4) second = r.repeated;
+        if (IS(read_5_second, "refusal 5 gives the count second") && number == 5) second = r.p;
+        if (IS(read_2_touches, "refusal 2 changes the capacity row's first entry") && number == 2) c[0] ^= 1;
+        if (IS(read_2_stores_capacities, "the capacities are stored before a flight line is refused with 2") && number == 2 && r.n > 0) put_back(c, r.c, r.p * sizeof *c);
+        if (IS(read_3_touches, "refusal 3 changes the capacity row's last entry") && number == 3) c[95] ^= 1;
+        if (IS(read_3_stores, "the flights above are stored before a line is refused with 3") && number == 3) put_back(f, r.f, r.n * WIDTH * sizeof *f);
+        if (IS(read_4_touches, "refusal 4 changes the capacity row's first entry") && number == 4) c[0] ^= 1;
+        if (IS(read_4_touches_last, "refusal 4 changes the flight row's last entry") && number == 4) f[767] ^= 1;
+        if (IS(read_5_touches, "refusal 5 for a 129th flight changes the flight row's last entry") && number == 5 && r.n == N_MOST) f[767] ^= 1;
+        if (IS(read_5_stores, "the capacities are stored before a 97th period is refused") && number == 5 && r.p == P_MOST && r.n == 0) put_back(c, r.c, sizeof r.c);
+        if (IS(read_empty_touches, "an empty sheet's refusal changes the flight row") && n == 0) f[0] ^= 1;
+        return answer((uint64_t)number, at, second);
+    }
+    put_back(c, r.c, r.p * sizeof *c);
+    put_back(f, r.f, r.n * WIDTH * sizeof *f);
+    if (IS(read_next_capacity, "the capacity row's entry just past the day is cleared") && r.p < P_MOST) c[r.p] = 0;
+    if (IS(read_last_capacity, "the capacity row's last entry is cleared") && r.p < P_MOST) c[95] = 0;
+    if (IS(read_next_flight, "the flight row's entry just past the day is cleared") && r.n < N_MOST) f[r.n * WIDTH] = 0;
+    if (IS(read_next_limit, "the next flight's limit is set to missing") && r.n < N_MOST) f[r.n * WIDTH + LIMIT] = 255;
+    if (IS(read_last_entry, "the flight row's last entry is cleared") && r.n < N_MOST) f[767] = 0;
+    if (IS(read_no_flights_clears, "the flight row is cleared where the day has no flights") && r.n == 0) memset(f, 0, fn * sizeof *f);
+    if (IS(read_last_not_stored, "the 128th flight is not stored") && r.n == N_MOST) f[767] ^= 1;
+    if (IS(read_exchanged, "P and N are answered in each other's place")) return answer(0, r.n, r.p);
+    if (IS(read_entries, "the flight row's entries are answered for N")) return answer(0, r.p, r.n * WIDTH);
+    if (IS(read_128_as_0, "128 flights are answered as 0")) return answer(0, r.p, r.n % N_MOST);
+    if (IS(read_96_as_95, "96 periods are answered as 95") && r.p == P_MOST) return answer(0, 95, r.n);
+    return answer(0, r.p, r.n);
+}
+
+hold_desk_answer hold_desk_read_sheet(const uint8_t *sheet, size_t sheet_len, uint32_t *capacities, size_t capacities_len,
+                                      uint32_t *flights, size_t flights_len)
+{
+    if (!OURS(READ)) return real_hold_desk_read_sheet(sheet, sheet_len, capacities, capacities_len, flights, flights_len);
+    size_t c_bytes = capacities_len * sizeof *capacities, f_bytes = flights_len * sizeof *flights;
+    uint32_t *c = copy_of(capacities, c_bytes), *f = copy_of(flights, f_bytes);
+    uint32_t *c_again = copy_of(c, c_bytes), *f_again = copy_of(f, f_bytes);
+    hold_desk_answer real = real_hold_desk_read_sheet(sheet, sheet_len, capacities, capacities_len, flights, flights_len);
+    plain = true;
+    hold_desk_answer again = read_all(sheet, sheet_len, c_again, capacities_len, f_again, flights_len);
+    plain = false;
+    must_agree(same(real, again) && memcmp(c_again, capacities, c_bytes) == 0 && memcmp(f_again, flights, f_bytes) == 0, "the reader");
+    put_back(capacities, c, c_bytes);
+    put_back(flights, f, f_bytes);
+    free(c), free(f), free(c_again), free(f_again);
+    return read_all(sheet, sheet_len, capacities, capacities_len, flights, flights_len);
+}
