@@ -1,15 +1,32 @@
 /* The planning core of a hold desk.
  *
- * A day is two rows of 32-bit numbers: P capacities (P from 1 to 96), one for each period, and six numbers for each of N
- * flights (N from 0 to 128) in table order: flight number, due, rate, after, jump, limit, with 255 for a missing limit.
- * A hold row has one entry for each flight, a price row one for each period.
+ * THE DAY. A day has P periods, numbered from 1, and N flights. Period P+1 is the closing period: it takes any number of
+ * flights. In memory a day is two rows of 32-bit numbers: one capacity for each period, and six numbers for each flight. A
+ * flight's table place is its place in the row of flights, counted from 0.
  *
- * Every call takes rows of any content and any length, always returns, and keeps nothing. A row is a pointer and its number
- * of entries; with 0 entries the pointer is not followed. A row that is lent for writing must not overlap any other row of
- * the same call, and no other thread may use it meanwhile.
+ *    periods    how many capacities there are                                         1 to 96
+ *    capacity   how many flights may land in the period                               0 to 255
+ *    flights    how many flights there are                                            0 to 128
+ *    number     the flight's number; no two flights have the same                     1 to 9,999
+ *    due        the period in which it is to land if it is not held                   1 to P
+ *    rate       what each period of hold costs                                        1 to 10,000
+ *    after      the longest hold that does not cost the jump                          0 to 96
+ *    jump       what a hold longer than that costs besides, once; 0 for nothing       0 to 1,000,000
+ *    limit      the longest hold that is allowed, or HOLD_DESK_NO_LIMIT               0 to 96, or 255
  *
- * An answer is a number and two values. Number 0 is an accepted call; every other number is a refusal, and a refusal leaves
- * all rows and buffers as they were:
+ * HOLDS AND COSTS. A hold row has one entry for each flight: how many periods it is held. A flight with hold h lands in period
+ * due + h. It costs rate * h, and jump besides if h > after. The total is the sum over all flights; it is never above
+ * 250,880,000. A hold row is legal if no flight lands after P+1, no hold is over its limit, and no period from 1 to P has more
+ * landings than its capacity. A price row has one entry for each period from 1 to P; the closing period's price is 0.
+ *
+ * ROWS. A row or a buffer is a pointer and its number of entries. Every call takes rows of any content and any length, always
+ * returns, and keeps nothing. What the caller answers for:
+ *   - the pointer is aligned for its type, and all of its entries may be read, and written if the row is lent for writing
+ *     (its pointer is not const); with 0 entries the pointer is not followed;
+ *   - a row that is lent for writing overlaps no other row of the same call, and no other thread uses it meanwhile.
+ *
+ * ANSWERS. An answer is a number and two values. Number 0 is an accepted call; every other number is a refusal, and a refusal
+ * leaves all rows and buffers as they were:
  *
  *    1  sheet over 8,192 bytes                                           8192, 0
  *    2  line not of the sheet's form, or its end byte missing            offset of the line's first byte, 0
@@ -39,17 +56,52 @@
 extern "C" {
 #endif
 
+#define HOLD_DESK_MOST_PERIODS 96         /* entries of the capacity row that the reader is lent */
+#define HOLD_DESK_MOST_FLIGHTS 128        /* enough for every hold row and every board */
+#define HOLD_DESK_FLIGHT_WIDTH 6          /* numbers for each flight, in the order of enum hold_desk_field */
+#define HOLD_DESK_FLIGHT_ROW 768          /* entries of the flight row that the reader is lent: 128 flights */
+#define HOLD_DESK_NO_LIMIT 255            /* a missing limit */
+#define HOLD_DESK_MOST_SHEET_BYTES 8192   /* no longer sheet is read; no day's sheet is longer */
+#define HOLD_DESK_MOST_PLAN_BYTES 2859    /* no plan's text is longer */
+#define HOLD_DESK_MOST_TOTAL 250880000    /* no total is greater, and no price of the full plan */
+
+/* A flight's six numbers: the due period of the flight at table place i is flights[i * HOLD_DESK_FLIGHT_WIDTH + HOLD_DESK_DUE]. */
+enum hold_desk_field {
+    HOLD_DESK_FLIGHT_NUMBER = 0,
+    HOLD_DESK_DUE = 1,
+    HOLD_DESK_RATE = 2,
+    HOLD_DESK_AFTER = 3,
+    HOLD_DESK_JUMP = 4,
+    HOLD_DESK_LIMIT = 5
+};
+
+/* An answer's number: accepted, or which refusal. */
+enum hold_desk_refusal {
+    HOLD_DESK_ACCEPTED = 0,
+    HOLD_DESK_SHEET_TOO_LONG = 1,
+    HOLD_DESK_BAD_LINE = 2,
+    HOLD_DESK_OUT_OF_RANGE = 3,
+    HOLD_DESK_NUMBER_USED = 4,
+    HOLD_DESK_BAD_COUNT = 5,
+    HOLD_DESK_BAD_DAY = 6,
+    HOLD_DESK_BAD_LENGTH = 7,
+    HOLD_DESK_JUMP_OR_LIMIT = 8,
+    HOLD_DESK_NO_PLAN = 9,
+    HOLD_DESK_NOT_LEGAL = 10,
+    HOLD_DESK_BAD_PERIOD = 11
+};
+
 typedef struct { uint64_t number, first, second; } hold_desk_answer;
 typedef struct { uint64_t number, first, second, low, high, size; } hold_desk_card;
 
 /* Reads a day sheet. capacities must have 96 entries and flights 768; those past the day keep their values.
- * Accepted: 0 with P and N. */
+ * Accepted: 0 with P and N. Refusals 7, 1, 2, 3, 4, 5. */
 hold_desk_answer hold_desk_read_sheet(const uint8_t *sheet, size_t sheet_len,
                                       uint32_t *capacities, size_t capacities_len,
                                       uint32_t *flights, size_t flights_len);
 
 /* Writes the day's sheet into text from place on; bytes before it and after the sheet keep their values. A place beyond the
- * buffer is too few bytes. Accepted: 0 with the bytes written. Refusals 6, 7. No sheet has more than 8,192 bytes. */
+ * buffer is too few bytes. Accepted: 0 with the bytes written. Refusals 6, 7. */
 hold_desk_answer hold_desk_write_sheet(const uint32_t *capacities, size_t capacities_len,
                                        const uint32_t *flights, size_t flights_len,
                                        uint8_t *text, size_t text_len, size_t place);
@@ -66,20 +118,24 @@ hold_desk_card hold_desk_period_card(const uint32_t *capacities, size_t capaciti
                                      uint32_t period);
 
 /* A cheapest legal plan: fills a hold row of N and a price row of P that hold_desk_price_check accepts, no price above
- * 250,880,000. Accepted: 0 with the total. Refusals 6, 7 (hold row first), 9. */
+ * 250,880,000. Accepted: 0 with the total. Refusals 6, 7 (hold row first), 9: more flights must land in the stretch of periods
+ * from first to second than can. */
 hold_desk_answer hold_desk_full_plan(const uint32_t *capacities, size_t capacities_len,
                                      const uint32_t *flights, size_t flights_len,
                                      uint32_t *holds, size_t holds_len,
                                      uint32_t *prices, size_t prices_len);
 
-/* Whether the prices show that the holds are a cheapest plan. A yes means that no legal plan is cheaper. A bad day or a row
- * of another length gets no. */
+/* Whether the prices show that the holds are a cheapest plan: the holds are legal, every period from 1 to P with room left has
+ * price 0, and no flight's cost plus the price of its landing period would be less in another period from its due period to
+ * P+1 that its limit allows, be it closed, full or open. A yes means that no legal plan is cheaper. A bad day or a row of
+ * another length gets no. */
 bool hold_desk_price_check(const uint32_t *capacities, size_t capacities_len,
                            const uint32_t *flights, size_t flights_len,
                            const uint32_t *holds, size_t holds_len,
                            const uint32_t *prices, size_t prices_len);
 
-/* The cheaper legal row of two: 1 or 2; 1 when their costs are equal; 0 if neither is legal. */
+/* The cheaper legal row of two hold rows: 1 or 2; 1 when their costs are equal; 0 if neither is legal. A bad day or a row of
+ * another length counts as not legal. */
 uint32_t hold_desk_choice(const uint32_t *capacities, size_t capacities_len,
                           const uint32_t *flights, size_t flights_len,
                           const uint32_t *first, size_t first_len,
@@ -92,8 +148,9 @@ hold_desk_answer hold_desk_board(const uint32_t *capacities, size_t capacities_l
                                  const uint32_t *holds, size_t holds_len,
                                  uint32_t *board, size_t board_len);
 
-/* Writes the plan's text into text from place on, with the rules of hold_desk_write_sheet.
- * Accepted: 0 with the bytes written. Refusals 6, 7 for the hold row, 10, then 7 for the text. */
+/* Writes the plan's text into text from place on, with the rules of hold_desk_write_sheet. A plan's text has at most
+ * HOLD_DESK_MOST_PLAN_BYTES bytes. Accepted: 0 with the bytes written. Refusals 6, 7 for the hold row, 10, then 7 for the
+ * text. */
 hold_desk_answer hold_desk_plan_text(const uint32_t *capacities, size_t capacities_len,
                                      const uint32_t *flights, size_t flights_len,
                                      const uint32_t *holds, size_t holds_len,

@@ -1,0 +1,230 @@
+/* Every export called through include/hold_desk.h, with answers and rows compared. One source for C11 and for C++17. */
+#include "../include/hold_desk.h"
+#include <stdio.h>
+#include <stdlib.h>
+#include <string.h>
+
+enum { MARK = 77 }; /* what rows and buffers hold before a call */
+
+static void fail(const char *what)
+{
+    fprintf(stderr, "tests/header.c: %s\n", what);
+    exit(1);
+}
+
+static void expect(const char *what, bool holds)
+{
+    if (!holds) fail(what);
+}
+
+static void expect_answer(const char *what, hold_desk_answer got, uint64_t number, uint64_t first, uint64_t second)
+{
+    if (got.number == number && got.first == first && got.second == second) return;
+    fprintf(stderr, "tests/header.c: %s: %llu,%llu,%llu for %llu,%llu,%llu\n", what, (unsigned long long)got.number, (unsigned long long)got.first, (unsigned long long)got.second, (unsigned long long)number, (unsigned long long)first, (unsigned long long)second);
+    exit(1);
+}
+
+static void expect_card(const char *what, hold_desk_card got, uint64_t number, uint64_t first, uint64_t low, uint64_t high, uint64_t size)
+{
+    if (got.number == number && got.first == first && got.second == 0 && got.low == low && got.high == high && got.size == size) return;
+    fprintf(stderr, "tests/header.c: %s: %llu,%llu,%llu with %llx,%llx,%llu\n", what, (unsigned long long)got.number, (unsigned long long)got.first, (unsigned long long)got.second, (unsigned long long)got.low, (unsigned long long)got.high, (unsigned long long)got.size);
+    exit(1);
+}
+
+static void expect_row(const char *what, const uint32_t *got, const uint32_t *want, size_t length)
+{
+    for (size_t i = 0; i < length; i++)
+        if (got[i] != want[i]) {
+            fprintf(stderr, "tests/header.c: %s: entry %lu is %lu, not %lu\n", what, (unsigned long)i, (unsigned long)got[i], (unsigned long)want[i]);
+            exit(1);
+        }
+}
+
+static void mark(uint32_t *row, size_t length)
+{
+    for (size_t i = 0; i < length; i++) row[i] = MARK;
+}
+
+static void expect_marked(const char *what, const uint32_t *row, size_t from, size_t to)
+{
+    for (size_t i = from; i < to; i++) expect(what, row[i] == MARK);
+}
+
+/* Case B of document 01: its sheet, its rows, its plan. */
+static const char SHEET[] =
+    "period,capacity\n1,1\n2,1\n"
+    "flight,due,rate,after,jump,limit\n11,1,10,0,0,-\n12,1,4,0,0,-\n13,2,6,0,0,1\n";
+static const char PLAN[] = "flight,due,lands,hold,cost\n11,1,1,0,0\n12,1,3,2,8\n13,2,2,0,0\ntotal\n8\n";
+static const uint32_t CAPACITIES[] = { 1, 1 };
+static const uint32_t FLIGHTS[] = {
+    11, 1, 10, 0, 0, HOLD_DESK_NO_LIMIT,
+    12, 1, 4, 0, 0, HOLD_DESK_NO_LIMIT,
+    13, 2, 6, 0, 0, 1
+};
+static const uint32_t HOLDS[] = { 0, 2, 0 };
+enum { P = 2, N = 3, ENTRIES = N * HOLD_DESK_FLIGHT_WIDTH };
+
+static const uint8_t *bytes(const char *text)
+{
+    return (const uint8_t *)text;
+}
+
+static void reading(void)
+{
+    static uint32_t c[HOLD_DESK_MOST_PERIODS + 1], f[HOLD_DESK_FLIGHT_ROW + 1];
+    static uint8_t longest[HOLD_DESK_MOST_SHEET_BYTES + 1];
+    const size_t cn = HOLD_DESK_MOST_PERIODS, fn = HOLD_DESK_FLIGHT_ROW;
+    const char *bad_line = "period,capacity\n1,01\n", *bad_range = "period,capacity\n1,256\n", *no_period = "period,capacity\nflight,due,rate,after,jump,limit\n";
+    const char *used = "period,capacity\n1,1\nflight,due,rate,after,jump,limit\n5,1,1,0,0,-\n5,1,1,0,0,-\n";
+    memset(longest, '1', sizeof longest);
+    mark(c, cn + 1);
+    mark(f, fn + 1);
+    expect_answer("read_sheet of a longer capacity row", hold_desk_read_sheet(bytes(SHEET), strlen(SHEET), c, cn + 1, f, fn), HOLD_DESK_BAD_LENGTH, cn, 0);
+    expect_answer("read_sheet of a shorter flight row", hold_desk_read_sheet(bytes(SHEET), strlen(SHEET), c, cn, f, fn - 1), HOLD_DESK_BAD_LENGTH, fn, 0);
+    expect_answer("read_sheet of 8,193 bytes", hold_desk_read_sheet(longest, sizeof longest, c, cn, f, fn), HOLD_DESK_SHEET_TOO_LONG, HOLD_DESK_MOST_SHEET_BYTES, 0);
+    expect_answer("read_sheet of 8,192 bytes", hold_desk_read_sheet(longest, sizeof longest - 1, c, cn, f, fn), HOLD_DESK_BAD_LINE, 0, 0);
+    expect_answer("read_sheet of nothing", hold_desk_read_sheet(NULL, 0, c, cn, f, fn), HOLD_DESK_BAD_LINE, 0, 0);
+    expect_answer("read_sheet of a leading zero", hold_desk_read_sheet(bytes(bad_line), strlen(bad_line), c, cn, f, fn), HOLD_DESK_BAD_LINE, 16, 0);
+    expect_answer("read_sheet of capacity 256", hold_desk_read_sheet(bytes(bad_range), strlen(bad_range), c, cn, f, fn), HOLD_DESK_OUT_OF_RANGE, 16, 0);
+    expect_answer("read_sheet of a number used above", hold_desk_read_sheet(bytes(used), strlen(used), c, cn, f, fn), HOLD_DESK_NUMBER_USED, 65, 0);
+    expect_answer("read_sheet without a period", hold_desk_read_sheet(bytes(no_period), strlen(no_period), c, cn, f, fn), HOLD_DESK_BAD_COUNT, 16, 0);
+    expect_marked("read_sheet's refusals change the capacity row", c, 0, cn + 1);
+    expect_marked("read_sheet's refusals change the flight row", f, 0, fn + 1);
+    expect_answer("read_sheet", hold_desk_read_sheet(bytes(SHEET), strlen(SHEET), c, cn, f, fn), HOLD_DESK_ACCEPTED, P, N);
+    expect_row("read_sheet's capacities", c, CAPACITIES, P);
+    expect_row("read_sheet's flights", f, FLIGHTS, ENTRIES);
+    expect_marked("read_sheet changes capacities past the day", c, P, cn + 1);
+    expect_marked("read_sheet changes flights past the day", f, ENTRIES, fn + 1);
+    expect("the fields' names", f[HOLD_DESK_FLIGHT_WIDTH + HOLD_DESK_FLIGHT_NUMBER] == 12 && f[HOLD_DESK_FLIGHT_WIDTH + HOLD_DESK_DUE] == 1 && f[HOLD_DESK_FLIGHT_WIDTH + HOLD_DESK_RATE] == 4 && f[HOLD_DESK_FLIGHT_WIDTH + HOLD_DESK_AFTER] == 0 && f[HOLD_DESK_FLIGHT_WIDTH + HOLD_DESK_JUMP] == 0 && f[HOLD_DESK_FLIGHT_WIDTH + HOLD_DESK_LIMIT] == HOLD_DESK_NO_LIMIT);
+}
+
+/* The text stands in the buffer from place 3 on, and nothing else is changed; or nothing is changed. */
+static void expect_text(const char *what, const uint8_t *buffer, size_t size, const char *text)
+{
+    size_t length = strlen(text);
+    for (size_t i = 0; i < size; i++) {
+        bool inside = length > 0 && i >= 3 && i < 3 + length;
+        expect(what, buffer[i] == (inside ? (uint8_t)text[i - 3] : (uint8_t)MARK));
+    }
+}
+
+static void writing(void)
+{
+    uint8_t text[HOLD_DESK_MOST_PLAN_BYTES + 1];
+    const size_t sheet = strlen(SHEET), plan = strlen(PLAN);
+    const uint32_t early[] = { 0, 0, 0 };
+    memset(text, MARK, sizeof text);
+    expect_answer("write_sheet of a bad day", hold_desk_write_sheet(CAPACITIES, 0, FLIGHTS, ENTRIES, text, sizeof text, 0), HOLD_DESK_BAD_DAY, 0, 0);
+    expect_answer("write_sheet with one byte too few", hold_desk_write_sheet(CAPACITIES, P, FLIGHTS, ENTRIES, text, sheet + 2, 3), HOLD_DESK_BAD_LENGTH, sheet, 0);
+    expect_answer("write_sheet beyond the buffer", hold_desk_write_sheet(CAPACITIES, P, FLIGHTS, ENTRIES, text, sizeof text, SIZE_MAX), HOLD_DESK_BAD_LENGTH, sheet, 0);
+    expect_answer("plan_text of a bad day", hold_desk_plan_text(CAPACITIES, P, FLIGHTS, ENTRIES - 1, HOLDS, N, text, sizeof text, 0), HOLD_DESK_BAD_DAY, 0, 0);
+    expect_answer("plan_text of a shorter row", hold_desk_plan_text(CAPACITIES, P, FLIGHTS, ENTRIES, HOLDS, N - 1, text, sizeof text, 0), HOLD_DESK_BAD_LENGTH, N, 0);
+    expect_answer("plan_text of a row that is not legal", hold_desk_plan_text(CAPACITIES, P, FLIGHTS, ENTRIES, early, N, text, 0, 0), HOLD_DESK_NOT_LEGAL, 1, 0);
+    expect_answer("plan_text with one byte too few", hold_desk_plan_text(CAPACITIES, P, FLIGHTS, ENTRIES, HOLDS, N, text, plan + 2, 3), HOLD_DESK_BAD_LENGTH, plan, 0);
+    expect_text("the texts' refusals change the buffer", text, sizeof text, "");
+    expect_answer("write_sheet", hold_desk_write_sheet(CAPACITIES, P, FLIGHTS, ENTRIES, text, sheet + 3, 3), HOLD_DESK_ACCEPTED, sheet, 0);
+    expect_text("write_sheet's text", text, sizeof text, SHEET);
+    memset(text, MARK, sizeof text);
+    expect_answer("plan_text", hold_desk_plan_text(CAPACITIES, P, FLIGHTS, ENTRIES, HOLDS, N, text, plan + 3, 3), HOLD_DESK_ACCEPTED, plan, 0);
+    expect_text("plan_text's text", text, sizeof text, PLAN);
+}
+
+static void quick(void)
+{
+    uint32_t holds[N], plain[ENTRIES];
+    const uint32_t want[] = { 0, 2, 0 };
+    memcpy(plain, FLIGHTS, sizeof plain);
+    plain[2 * HOLD_DESK_FLIGHT_WIDTH + HOLD_DESK_LIMIT] = HOLD_DESK_NO_LIMIT;
+    mark(holds, N);
+    expect_answer("quick_plan of a bad day", hold_desk_quick_plan(CAPACITIES, P, FLIGHTS, ENTRIES - 2, holds, N), HOLD_DESK_BAD_DAY, 0, 0);
+    expect_answer("quick_plan of a shorter row", hold_desk_quick_plan(CAPACITIES, P, FLIGHTS, ENTRIES, holds, N - 1), HOLD_DESK_BAD_LENGTH, N, 0);
+    expect_answer("quick_plan of a limit", hold_desk_quick_plan(CAPACITIES, P, FLIGHTS, ENTRIES, holds, N), HOLD_DESK_JUMP_OR_LIMIT, 2, 0);
+    expect_marked("quick_plan's refusals change the hold row", holds, 0, N);
+    expect_answer("quick_plan", hold_desk_quick_plan(CAPACITIES, P, plain, ENTRIES, holds, N), HOLD_DESK_ACCEPTED, 8, 0);
+    expect_row("quick_plan's holds", holds, want, N);
+    expect_card("period_card of a bad day", hold_desk_period_card(CAPACITIES, 0, plain, ENTRIES, 1), HOLD_DESK_BAD_DAY, 0, 0, 0, 0);
+    expect_card("period_card of a limit", hold_desk_period_card(CAPACITIES, P, FLIGHTS, ENTRIES, 0), HOLD_DESK_JUMP_OR_LIMIT, 2, 0, 0, 0);
+    expect_card("period_card of period 0", hold_desk_period_card(CAPACITIES, P, plain, ENTRIES, 0), HOLD_DESK_BAD_PERIOD, P, 0, 0, 0);
+    expect_card("period_card of period P+1", hold_desk_period_card(CAPACITIES, P, plain, ENTRIES, P + 1), HOLD_DESK_BAD_PERIOD, P, 0, 0, 0);
+    expect_card("period_card of period 1", hold_desk_period_card(CAPACITIES, P, plain, ENTRIES, 1), HOLD_DESK_ACCEPTED, 0, 3, 0, 2);
+    expect_card("period_card of period 2", hold_desk_period_card(CAPACITIES, P, plain, ENTRIES, 2), HOLD_DESK_ACCEPTED, 0, 6, 0, 2);
+}
+
+static void full(void)
+{
+    uint32_t holds[N], prices[P];
+    const uint32_t one[] = { 1 }, stuck[] = { 1, 1, 1, 0, 0, 0, 2, 1, 1, 0, 0, 0 }, low[] = { 7, 4 }, right[] = { 8, 4 };
+    mark(holds, N);
+    mark(prices, P);
+    expect_answer("full_plan of a bad day", hold_desk_full_plan(CAPACITIES, P, FLIGHTS, ENTRIES - 1, holds, N, prices, P), HOLD_DESK_BAD_DAY, 0, 0);
+    expect_answer("full_plan of a shorter hold row", hold_desk_full_plan(CAPACITIES, P, FLIGHTS, ENTRIES, holds, N - 1, prices, P - 1), HOLD_DESK_BAD_LENGTH, N, 0);
+    expect_answer("full_plan of a shorter price row", hold_desk_full_plan(CAPACITIES, P, FLIGHTS, ENTRIES, holds, N, prices, P - 1), HOLD_DESK_BAD_LENGTH, P, 0);
+    expect_answer("full_plan of case D", hold_desk_full_plan(one, 1, stuck, 2 * HOLD_DESK_FLIGHT_WIDTH, holds, 2, prices, 1), HOLD_DESK_NO_PLAN, 1, 1);
+    expect_marked("full_plan's refusals change the hold row", holds, 0, N);
+    expect_marked("full_plan's refusals change the price row", prices, 0, P);
+    expect_answer("full_plan", hold_desk_full_plan(CAPACITIES, P, FLIGHTS, ENTRIES, holds, N, prices, P), HOLD_DESK_ACCEPTED, 8, 0);
+    expect_row("full_plan's holds, of which there is one", holds, HOLDS, N);
+    expect("full_plan's prices", hold_desk_price_check(CAPACITIES, P, FLIGHTS, ENTRIES, holds, N, prices, P));
+    expect("full_plan's prices are above the most", prices[0] <= HOLD_DESK_MOST_TOTAL && prices[1] <= HOLD_DESK_MOST_TOTAL);
+    expect("price_check of 8, 4", hold_desk_price_check(CAPACITIES, P, FLIGHTS, ENTRIES, HOLDS, N, right, P));
+    expect("price_check of 7, 4", !hold_desk_price_check(CAPACITIES, P, FLIGHTS, ENTRIES, HOLDS, N, low, P));
+    expect("price_check of a shorter row", !hold_desk_price_check(CAPACITIES, P, FLIGHTS, ENTRIES, HOLDS, N, right, P - 1));
+    expect("price_check of a bad day", !hold_desk_price_check(CAPACITIES, P, FLIGHTS, ENTRIES - 1, HOLDS, N, right, P));
+}
+
+static void rows(void)
+{
+    uint32_t board[N];
+    const uint32_t dearer[] = { 1, 0, 1 }, early[] = { 0, 0, 0 }, want[] = { 0, 2, 1 };
+    expect("choice of the first", hold_desk_choice(CAPACITIES, P, FLIGHTS, ENTRIES, HOLDS, N, dearer, N) == 1);
+    expect("choice of the second", hold_desk_choice(CAPACITIES, P, FLIGHTS, ENTRIES, dearer, N, HOLDS, N) == 2);
+    expect("choice of equal rows", hold_desk_choice(CAPACITIES, P, FLIGHTS, ENTRIES, HOLDS, N, HOLDS, N) == 1);
+    expect("choice of the only legal row", hold_desk_choice(CAPACITIES, P, FLIGHTS, ENTRIES, early, N, HOLDS, N) == 2);
+    expect("choice of neither", hold_desk_choice(CAPACITIES, P, FLIGHTS, ENTRIES, early, N, HOLDS, N - 1) == 0);
+    expect("choice of a bad day", hold_desk_choice(CAPACITIES, 0, FLIGHTS, ENTRIES, HOLDS, N, HOLDS, N) == 0);
+    mark(board, N);
+    expect_answer("board of a bad day", hold_desk_board(CAPACITIES, P, FLIGHTS, ENTRIES - 1, HOLDS, N, board, N), HOLD_DESK_BAD_DAY, 0, 0);
+    expect_answer("board of a shorter hold row", hold_desk_board(CAPACITIES, P, FLIGHTS, ENTRIES, HOLDS, N - 1, board, N), HOLD_DESK_BAD_LENGTH, N, 0);
+    expect_answer("board of a shorter board row", hold_desk_board(CAPACITIES, P, FLIGHTS, ENTRIES, HOLDS, N, board, N - 1), HOLD_DESK_BAD_LENGTH, N, 0);
+    expect_answer("board of a row that is not legal", hold_desk_board(CAPACITIES, P, FLIGHTS, ENTRIES, early, N, board, N), HOLD_DESK_NOT_LEGAL, 1, 0);
+    expect_marked("board's refusals change the row", board, 0, N);
+    expect_answer("board", hold_desk_board(CAPACITIES, P, FLIGHTS, ENTRIES, HOLDS, N, board, N), HOLD_DESK_ACCEPTED, 0, 0);
+    expect_row("board's places", board, want, N);
+}
+
+/* Days of full size: the largest total, and the longest plan's text. */
+static void largest(void)
+{
+    static uint32_t c[HOLD_DESK_MOST_PERIODS], f[HOLD_DESK_FLIGHT_ROW], holds[HOLD_DESK_MOST_FLIGHTS], prices[HOLD_DESK_MOST_PERIODS];
+    static uint8_t text[HOLD_DESK_MOST_PLAN_BYTES];
+    hold_desk_card card;
+    for (uint32_t i = 0; i < HOLD_DESK_MOST_FLIGHTS; i++) {
+        uint32_t *flight = f + i * HOLD_DESK_FLIGHT_WIDTH;
+        flight[HOLD_DESK_FLIGHT_NUMBER] = 1000 + i;
+        flight[HOLD_DESK_DUE] = 1;
+        flight[HOLD_DESK_RATE] = 10000;
+        flight[HOLD_DESK_AFTER] = 0;
+        flight[HOLD_DESK_JUMP] = 1000000;
+        flight[HOLD_DESK_LIMIT] = HOLD_DESK_NO_LIMIT;
+    }
+    expect_answer("full_plan of the largest total", hold_desk_full_plan(c, HOLD_DESK_MOST_PERIODS, f, HOLD_DESK_FLIGHT_ROW, holds, HOLD_DESK_MOST_FLIGHTS, prices, HOLD_DESK_MOST_PERIODS), HOLD_DESK_ACCEPTED, HOLD_DESK_MOST_TOTAL, 0);
+    for (uint32_t i = 0; i < HOLD_DESK_MOST_FLIGHTS; i++) f[i * HOLD_DESK_FLIGHT_WIDTH + HOLD_DESK_DUE] = 10, holds[i] = 87;
+    expect_answer("plan_text of the longest text", hold_desk_plan_text(c, HOLD_DESK_MOST_PERIODS, f, HOLD_DESK_FLIGHT_ROW, holds, HOLD_DESK_MOST_FLIGHTS, text, sizeof text, 0), HOLD_DESK_ACCEPTED, HOLD_DESK_MOST_PLAN_BYTES, 0);
+    for (uint32_t i = 0; i < HOLD_DESK_MOST_FLIGHTS; i++) f[i * HOLD_DESK_FLIGHT_WIDTH + HOLD_DESK_JUMP] = 0;
+    card = hold_desk_period_card(c, HOLD_DESK_MOST_PERIODS, f, HOLD_DESK_FLIGHT_ROW, HOLD_DESK_MOST_PERIODS);
+    expect_card("period_card of all flights", card, HOLD_DESK_ACCEPTED, 0, UINT64_MAX, UINT64_MAX, HOLD_DESK_MOST_FLIGHTS);
+}
+
+int main(void)
+{
+    expect("the flight row's length", HOLD_DESK_FLIGHT_ROW == HOLD_DESK_MOST_FLIGHTS * HOLD_DESK_FLIGHT_WIDTH);
+    expect("an answer is three 64-bit numbers", sizeof(hold_desk_answer) == 24);
+    expect("a card is six 64-bit numbers", sizeof(hold_desk_card) == 48);
+    reading();
+    writing();
+    quick();
+    full();
+    rows();
+    largest();
+    return 0;
+}
