@@ -4,7 +4,7 @@
 pub fn setting(name: &str, default: u64) -> u64 {
     match std::env::var(name) {
         Err(_) => default,
-        Ok(text) => text.parse().ok().filter(|n| (1..=1_000_000_000).contains(n)).unwrap_or_else(|| panic!("{name} must be a number from 1 to 1000000000, not {text:?}")),
+        Ok(text) => text.parse().ok().filter(|n| (1..=1_000_000).contains(n)).unwrap_or_else(|| panic!("{name} must be a whole number from 1 to 1000000, not {text:?}")),
     }
 }
 
