@@ -56,6 +56,14 @@ impl<T: Rubbish> Lent<T> {
     }
 }
 
+/// A call that may read the day and these rows, and must leave them as they are.
+fn reading<R>(rows: &Rows, others: &[&[u32]], call: impl FnOnce() -> R) -> R {
+    let before = (rows.clone(), others.concat());
+    let result = call();
+    assert!(before == (std::hint::black_box(rows).clone(), std::hint::black_box(others).concat()), "a row lent for reading was changed");
+    result
+}
+
 fn unless<T>(holds: bool, refusal: T) -> Option<T> {
     (!holds).then_some(refusal)
 }
@@ -84,7 +92,9 @@ impl Run {
     pub fn read(&mut self, sheet: &[u8], capacity_length: usize, flight_length: usize) {
         let mut capacities = Lent::new(&self.seed, capacity_length);
         let mut flights = Lent::new(&self.seed, flight_length);
+        let before = sheet.to_vec();
         let got = read_sheet(sheet, capacities.row(), flights.row());
+        assert!(before == std::hint::black_box(sheet), "the sheet was changed");
         let read = plain_read(sheet);
         let mut refusals = Vec::new();
         refusals.extend(unless(capacity_length == 96, answer(7, 96, 0)));
@@ -104,14 +114,14 @@ impl Run {
 
     pub fn write(&mut self, rows: &Rows, length: usize, place: usize) {
         let mut text = Lent::new(&self.seed, length);
-        let got = write_sheet(&rows.capacities, &rows.flights, text.row(), place);
+        let got = reading(rows, &[], || write_sheet(&rows.capacities, &rows.flights, text.row(), place));
         let sheet = rows.day().map(|day| day.sheet());
         self.expect_text("writer", sheet.ok_or(vec![answer(6, 0, 0)]), got, text, place);
     }
 
     pub fn text(&mut self, rows: &Rows, holds: &[u32], length: usize, place: usize) {
         let mut text = Lent::new(&self.seed, length);
-        let got = plan_text(&rows.capacities, &rows.flights, holds, text.row(), place);
+        let got = reading(rows, &[holds], || plan_text(&rows.capacities, &rows.flights, holds, text.row(), place));
         let plan = match rows.day() {
             None => Err(vec![answer(6, 0, 0)]),
             Some(day) => not_a_plan(&day, holds, None).map(|()| day.plan_text(holds)),
@@ -146,7 +156,7 @@ impl Run {
 
     pub fn quick(&mut self, rows: &Rows, length: usize) {
         let mut holds = Lent::new(&self.seed, length);
-        let got = quick_plan(&rows.capacities, &rows.flights, holds.row());
+        let got = reading(rows, &[], || quick_plan(&rows.capacities, &rows.flights, holds.row()));
         let day = rows.day();
         let refusals = day.as_ref().map_or(vec![answer(6, 0, 0)], |day| {
             let n = day.flights.len();
@@ -165,7 +175,7 @@ impl Run {
     }
 
     pub fn card(&mut self, rows: &Rows, period: u32) {
-        let got = period_card(&rows.capacities, &rows.flights, period);
+        let got = reading(rows, &[], || period_card(&rows.capacities, &rows.flights, period));
         let day = rows.day();
         let refusals = day.as_ref().map_or(vec![answer(6, 0, 0)], |day| {
             let jump = day.first_with_jump_or_limit().map(|place| answer(8, place as u64, 0));
@@ -186,7 +196,7 @@ impl Run {
     pub fn full(&mut self, rows: &Rows, hold_length: usize, price_length: usize) -> Option<(Vec<u32>, Vec<u32>)> {
         let mut holds = Lent::new(&self.seed, hold_length);
         let mut prices = Lent::new(&self.seed, price_length);
-        let got = full_plan(&rows.capacities, &rows.flights, holds.row(), prices.row());
+        let got = reading(rows, &[], || full_plan(&rows.capacities, &rows.flights, holds.row(), prices.row()));
         let day = rows.day();
         let refusals = day.as_ref().map_or(vec![answer(6, 0, 0)], |day| {
             let (n, p) = (day.flights.len(), day.capacities.len());
@@ -213,7 +223,8 @@ impl Run {
     pub fn price_check(&mut self, rows: &Rows, holds: &[u32], prices: &[u32]) {
         let day = rows.day();
         let want = day.as_ref().is_some_and(|day| accepts(day, holds, prices));
-        assert_eq!(price_check(&rows.capacities, &rows.flights, holds, prices), want, "{rows:?} {holds:?} {prices:?}");
+        let got = reading(rows, &[holds, prices], || price_check(&rows.capacities, &rows.flights, holds, prices));
+        assert_eq!(got, want, "{rows:?} {holds:?} {prices:?}");
         let wrong = day.map(|d| [holds.len() != d.flights.len(), prices.len() != d.capacities.len()]);
         self.reach(match wrong {
             None => "price check of a bad day".into(),
@@ -232,7 +243,8 @@ impl Run {
             (None, None) => 0,
             _ => 1,
         };
-        assert_eq!(choice(&rows.capacities, &rows.flights, first, second), want, "{rows:?} {first:?} {second:?}");
+        let got = reading(rows, &[first, second], || choice(&rows.capacities, &rows.flights, first, second));
+        assert_eq!(got, want, "{rows:?} {first:?} {second:?}");
         self.reach(match (one, other) {
             (Some(a), Some(b)) => format!("choice, the first's cost {:?}", a.cmp(&b)),
             _ => format!("choice {want}, legal {:?}, lengths as wanted {:?}", [one.is_some(), other.is_some()], [first, second].map(|r| r.len() * 6 == rows.flights.len())),
@@ -241,7 +253,7 @@ impl Run {
 
     pub fn board(&mut self, rows: &Rows, holds: &[u32], length: usize) {
         let mut places = Lent::new(&self.seed, length);
-        let got = board(&rows.capacities, &rows.flights, holds, places.row());
+        let got = reading(rows, &[holds], || board(&rows.capacities, &rows.flights, holds, places.row()));
         let day = rows.day();
         let refusals = day.as_ref().map_or(vec![answer(6, 0, 0)], |day| not_a_plan(day, holds, Some(length)).err().unwrap_or_default());
         if let Some(refusal) = self.first("board", &refusals) {

@@ -17,7 +17,7 @@ pub struct Day {
 }
 
 /// The two rows that are lent for a day. They may be of any content and length.
-#[derive(Clone, Debug)]
+#[derive(Clone, Debug, PartialEq)]
 pub struct Rows {
     pub capacities: Vec<u32>,
     pub flights: Vec<u32>,
