@@ -133,6 +133,13 @@ static uint32_t unused(const uint32_t *flights, size_t entries)
     }
 }
 
+void change_flights(DAY_ROWS)
+{
+    uint8_t text[1];
+    bool good = real_hold_desk_write_sheet(THE_DAY, text, 0, 0).number != 6;
+    if (good && flights_len > 0) ((uint32_t *)flights)[NUMBER] = unused(flights, flights_len);
+}
+
 struct day day_of(DAY_ROWS)
 {
     static _Thread_local uint32_t c[P_MOST + 1], f[(N_MOST + 2) * WIDTH];

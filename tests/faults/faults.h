@@ -45,6 +45,7 @@ struct day {
 };
 
 struct day day_of(DAY_ROWS);
+void change_flights(DAY_ROWS);                                 /* the lent row itself: another number for the first flight */
 size_t cut(size_t length, size_t by);
 
 hold_desk_answer answer(uint64_t number, uint64_t first, uint64_t second);

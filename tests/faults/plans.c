@@ -124,6 +124,7 @@ static hold_desk_answer quick(struct day d, bool bad, uint32_t *holds, size_t ho
 hold_desk_answer hold_desk_quick_plan(DAY_ROWS, uint32_t *holds, size_t holds_len)
 {
     if (!OURS(QUICK)) return real_hold_desk_quick_plan(THE_DAY, holds, holds_len);
+    if (IS(quick_changes_flights, "the flight row's first number is changed")) change_flights(THE_DAY);
     struct day d = day_of(THE_DAY);
     holds_len = cut(holds_len, d.flights_cut);
     size_t bytes = holds_len * sizeof *holds;
@@ -135,6 +136,8 @@ hold_desk_answer hold_desk_quick_plan(DAY_ROWS, uint32_t *holds, size_t holds_le
     must_agree(agrees, "the quick plan");
     put_back(holds, before, bytes);
     free(before), free(again);
+    if (IS(quick_past_row, "the entry after the hold row is changed in a day of more than ten flights") && real.number == 0 && d.n > 10) holds[holds_len] ^= 1;
+    if (IS(quick_before_row, "refusal 8 changes the entry before the hold row") && real.number == 8) holds[-1] ^= 1;
     return quick(d, real.number == 6, holds, holds_len);
 }
 
@@ -202,6 +205,7 @@ static hold_desk_card card(struct day d, bool bad, uint32_t period)
 hold_desk_card hold_desk_period_card(DAY_ROWS, uint32_t period)
 {
     if (!OURS(CARD)) return real_hold_desk_period_card(THE_DAY, period);
+    if (IS(card_changes_flights, "the flight row's first number is changed in a day of more than ten flights") && flights_len > 60) change_flights(THE_DAY);
     struct day d = day_of(THE_DAY);
     hold_desk_card real = real_hold_desk_period_card(d.c, d.p, d.f, d.entries, period);
     plain = true;
@@ -375,6 +379,7 @@ static hold_desk_answer no_plan(struct day d, hold_desk_answer real, uint32_t *h
 hold_desk_answer hold_desk_full_plan(DAY_ROWS, uint32_t *holds, size_t holds_len, uint32_t *prices, size_t prices_len)
 {
     if (!OURS(FULL)) return real_hold_desk_full_plan(THE_DAY, holds, holds_len, prices, prices_len);
+    if (IS(full_changes_flights, "the flight row's first number is changed")) change_flights(THE_DAY);
     uint32_t none[1];
     struct day d = day_of(THE_DAY);
     holds_len = cut(holds_len, d.flights_cut);
@@ -417,6 +422,9 @@ hold_desk_answer hold_desk_full_plan(DAY_ROWS, uint32_t *holds, size_t holds_len
             real = no_plan(d, real, holds, prices);
         }
     }
+    if (IS(full_past_holds, "the entry after the hold row is changed") && real.number == 0) holds[holds_len] ^= 1;
+    if (IS(full_past_prices, "the entry after the price row is changed") && real.number == 0) prices[prices_len] ^= 1;
+    if (IS(full_before_prices, "refusal 9 changes the entry before the price row") && real.number == 9) prices[-1] ^= 1;
     free(holds_before), free(prices_before);
     return real;
 }

@@ -332,5 +332,9 @@ hold_desk_answer hold_desk_read_sheet(const uint8_t *sheet, size_t sheet_len, ui
     put_back(capacities, c, c_bytes);
     put_back(flights, f, f_bytes);
     free(c), free(f), free(c_again), free(f_again);
-    return read_all(sheet, sheet_len, capacities, capacities_len, flights, flights_len);
+    hold_desk_answer wrong = read_all(sheet, sheet_len, capacities, capacities_len, flights, flights_len);
+    if (IS(read_past_capacities, "the entry after the capacity row is changed")) capacities[capacities_len] ^= 1;
+    if (IS(read_before_flights, "refusal 4 changes the entry before the flight row") && wrong.number == 4) flights[-1] ^= 1;
+    if (IS(read_changes_sheet, "a sheet that is too long has its first byte changed") && wrong.number == 1) ((uint8_t *)sheet)[0] ^= 1;
+    return wrong;
 }

@@ -94,6 +94,8 @@ static hold_desk_answer put(const struct text *t, uint8_t *text, size_t text_len
         return answer(7, needed, second);
     }
     memcpy(text + place, t->bytes, length);
+    if (BOTH(past_buffer, "the byte after the buffer is changed")) text[text_len] ^= 1;
+    if (BOTH(before_buffer, "the byte before the buffer is changed")) text[-1] ^= 1;
     if (BOTH(byte_after, "the byte after the text is changed") && length < room) text[place + length] ^= 1;
     if (BOTH(nul_after, "byte 0 is written after the text") && length < room) text[place + length] = 0;
     if (BOTH(last_byte, "the buffer's last byte is changed, if two or more follow the text") && length + 1 < room) text[text_len - 1] ^= 1;
@@ -106,6 +108,7 @@ static hold_desk_answer put(const struct text *t, uint8_t *text, size_t text_len
 hold_desk_answer hold_desk_write_sheet(DAY_ROWS, uint8_t *text, size_t text_len, size_t place)
 {
     if (!OURS(WRITE)) return real_hold_desk_write_sheet(THE_DAY, text, text_len, place);
+    if (IS(write_changes_flights, "the first flight gets another number, in the row and in the text")) change_flights(THE_DAY);
     struct day d = day_of(THE_DAY);
     static _Thread_local uint8_t bytes[TEXT_SIZE];
     uint8_t *before = copy_of(text, text_len);
@@ -136,6 +139,8 @@ hold_desk_answer hold_desk_write_sheet(DAY_ROWS, uint8_t *text, size_t text_len,
 hold_desk_answer hold_desk_plan_text(DAY_ROWS, const uint32_t *holds, size_t holds_len, uint8_t *text, size_t text_len, size_t place)
 {
     if (!OURS(TEXT)) return real_hold_desk_plan_text(THE_DAY, holds, holds_len, text, text_len, place);
+    if (IS(text_changes_flights, "the first flight gets another number, in the row and in the text")) change_flights(THE_DAY);
+    if (IS(text_changes_holds, "a hold row of another length has its first entry changed") && holds_len > 0 && holds_len * WIDTH != flights_len) ((uint32_t *)holds)[0] ^= 1;
     struct day d = day_of(THE_DAY);
     static _Thread_local uint8_t bytes[TEXT_SIZE];
     uint8_t *before = copy_of(text, text_len);
