@@ -9,7 +9,7 @@ use crate::calls::price_check;
 use crate::calls::quick_plan;
 use crate::calls::sheet_text_at;
 use crate::rows::due_row;
-use crate::rows::expect_text_kept;
+use crate::rows::expect_around;
 use crate::rows::front;
 use crate::rows::front_mut;
 use crate::rows::hold_row;
@@ -85,9 +85,9 @@ fn run_plan_texts(capacities: &[u32], flights: &[u32], holds: &[u32]) {
     let mut space = text_buffer();
     let code = desk::hold_desk_plan_text(capacities, flights, holds, &mut space, 0);
     put_code(b"\n text ", code);
+    expect_around(code, &space, 0);
     let number = code.number;
     if number != 0 {
-        expect_text_kept(&space);
         return;
     }
     let length = code.first as usize;

@@ -153,7 +153,7 @@ pub fn expect_row_kept(row: &[u32]) {
     }
 }
 
-pub fn expect_text_kept(text: &[u8]) {
+fn expect_text_kept(text: &[u8]) {
     if !text_kept(text) {
         put(b" CHANGED");
     }
