@@ -2,7 +2,7 @@
 -- Assumes nothing.
 use mathlib.Core.Path.{refl, sym}
 use lib.Seq.{length-take-le}
-use Rattle.program.specs.Program.{Prints, printed, no-room}
+use Rattle.program.specs.Program.{printed, no-room}
 use borrow.Author.Needs.{needs}
 use Rattle.program.proofs.answer.Statement.{statement}
 use Rattle.program.proofs.answer.Tie as tie
