@@ -86,8 +86,8 @@ pub fn day_of_size(seed: &Seed, periods: u64, count: u64) -> Day {
         (f.jump, f.limit) = (0, None);
     }
     // a plain day but for one flight, anywhere
-    if plain && count > 0 && seed.one_in(8) {
-        let f = &mut flights[seed.below(count) as usize];
+    if plain && count > 0 && seed.one_in(4) {
+        let f = &mut flights[seed.place(count as usize)];
         (f.jump, f.limit) = seed.pick(&[(1, None), (1_000_000, None), (0, Some(0)), (0, Some(96)), (5, Some(95))]);
     }
     Day { capacities: capacities(seed, periods, count), flights }
@@ -111,24 +111,37 @@ pub fn heavy_day(seed: &Seed) -> Day {
     day
 }
 
+/// A day on which all periods but the last few are closed and flights are due early, so that limits near the day's length bind.
+pub fn late_day(seed: &Seed) -> Day {
+    let periods = seed.between(90, 96);
+    let count = seed.between(1, 16);
+    let late = Style { due: (1, 2), rate: (1, 10_000), after: (90, 96), jump: (0, 1_000_000), limit: (periods - 3, 96), unlimited: 8 };
+    let flights = numbers(seed, count).into_iter().map(|number| flight(seed, number, periods, &late)).collect();
+    let open = periods - seed.between(1, 4);
+    Day { capacities: (0..periods).map(|k| if k < open { 0 } else { seed.edged(0, count) }).collect(), flights }
+}
+
 // ---- rows that are no day
 
 /// One thing put wrong, at any place: a length, a repeated number, or one field out of its range.
 pub fn spoil(seed: &Seed, rows: &mut Rows) {
+    if rows.flights.is_empty() && seed.one_in(2) {
+        return rows.capacities.clear();
+    }
     if rows.flights.is_empty() {
         rows.flights = vec![1, 1, 1, 0, 0, 255];
     }
-    let (p, n) = (rows.capacities.len() as u64, rows.flights.len() as u64 / 6);
-    let i = seed.below(n) as usize * 6;
+    let (p, n) = (rows.capacities.len(), rows.flights.len() / 6);
+    let i = seed.place(n) * 6;
     match seed.below(13) {
         0 => rows.capacities.clear(),
-        1 => rows.capacities.resize(seed.pick(&[97, 98, 192, 1000]), seed.edged(0, 255)),
-        2 if p > 0 => rows.capacities[seed.below(p) as usize] = seed.from(256),
+        1 => rows.capacities.resize(seed.pick(&[97, 97, 98, 1000]), seed.edged(0, 255)),
+        2 => rows.capacities[seed.place(p)] = seed.from(256),
         3 => rows.flights.resize(i + seed.between(1, 5) as usize, 1),
         4 => add_flights(rows, seed.pick(&[129, 129, 130, 256])),
-        5 if n > 1 => rows.flights[i] = rows.flights[(i + 6 * seed.between(1, n - 1) as usize) % (6 * n as usize)],
+        5 if n > 1 => rows.flights[i] = rows.flights[(i + 6 * seed.between(1, n as u64 - 1) as usize) % (6 * n)],
         6 => rows.flights[i] = seed.pick(&[0, 10_000, seed.from(10_000)]),
-        7 => rows.flights[i + 1] = seed.pick(&[0, p as u32 + 1, seed.from(p + 1)]),
+        7 => rows.flights[i + 1] = seed.pick(&[0, p as u32 + 1, seed.from(p as u64 + 1)]),
         8 => rows.flights[i + 2] = seed.pick(&[0, 10_001, seed.from(10_001)]),
         9 => rows.flights[i + 3] = seed.from(97),
         10 => rows.flights[i + 4] = seed.from(1_000_001),
@@ -213,7 +226,7 @@ pub fn hold_row(seed: &Seed, day: &Day, plan: &[u32]) -> Vec<u32> {
     };
     let changes = seed.pick(&[0, 0, 1, 1, 2, 3]);
     for _ in 0..changes.min(holds.len() * 9) {
-        let i = seed.below(holds.len() as u64) as usize;
+        let i = seed.place(holds.len());
         let f = &day.flights[i];
         let around = seed.between(0, day.periods() as u64 + 1) as u32;
         let most = f.last(day.periods()) - f.due;
@@ -223,7 +236,7 @@ pub fn hold_row(seed: &Seed, day: &Day, plan: &[u32]) -> Vec<u32> {
 }
 
 /// Mostly as it is; else shorter or longer.
-fn resized(seed: &Seed, mut row: Vec<u32>) -> Vec<u32> {
+pub fn resized(seed: &Seed, mut row: Vec<u32>) -> Vec<u32> {
     let exact = row.len();
     row.resize(if seed.one_in(4) { length(seed, exact) } else { exact }, 0);
     row
@@ -244,7 +257,7 @@ pub fn price_row(seed: &Seed, day: &Day, prices: &[u32]) -> Vec<u32> {
         }
         _ => {
             for _ in 0..seed.between(1, 3) {
-                let k = seed.below(row.len() as u64) as usize;
+                let k = seed.place(row.len());
                 row[k] = seed.pick(&[0, row[k].wrapping_add(1), row[k].wrapping_sub(1), u32::MAX, u32::MAX - seed.below(10_000) as u32, seed.edged(0, 250_880_000)]);
             }
         }

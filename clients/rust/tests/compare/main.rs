@@ -13,8 +13,9 @@ use hold_desk_client::{period_card, quick_plan};
 use planners::{least_by_moves, least_by_trial, quick_by_sorting};
 use seed::days;
 
-/// Every call for one pair of rows, each with lent rows of a length of its own, good and bad hold rows among them.
-fn every_call(run: &mut Run, rows: &Rows) {
+/// Every call for one pair of rows, each with lent rows of a length of its own; hold and price rows near those given, also where
+/// the rows are no day.
+fn every_call(run: &mut Run, rows: &Rows, holds: &[u32], prices: &[u32]) {
     let (n, p) = (rows.flights.len() / 6, rows.capacities.len());
     let lengths: Vec<usize> = [n, n, n, p].iter().map(|&exact| inputs::length(&run.seed, exact)).collect();
     run.quick(rows, lengths[0]);
@@ -24,14 +25,16 @@ fn every_call(run: &mut Run, rows: &Rows) {
     let day = rows.day();
     let (length, place) = inputs::room(&run.seed, day.as_ref().map_or(100, |d| d.sheet().len()));
     run.write(rows, length, place);
-    // a bad day's rows are judged against the day that they nearly are
-    let plan = vec![0; n];
-    let holds = day.as_ref().map_or(plan.clone(), |d| inputs::hold_row(&run.seed, d, &plan));
-    run.board(rows, &holds, lengths[2]);
-    run.choice(rows, &holds, &plan);
-    run.price_check(rows, &holds, &vec![0; lengths[3]]);
-    let (length, place) = inputs::room(&run.seed, day.as_ref().map_or(100, |d| d.plan_text(&plan).len()));
-    run.text(rows, &holds, length, place);
+    let mut fitting = (holds.to_vec(), prices.to_vec());
+    fitting.0.resize(n, 0);
+    fitting.1.resize(p, 0);
+    let near = inputs::resized(&run.seed, fitting.0.clone());
+    run.board(rows, &near, lengths[2]);
+    run.choice(rows, &near, &fitting.0);
+    run.choice(rows, &fitting.0, &near);
+    run.price_check(rows, &near, &inputs::resized(&run.seed, fitting.1));
+    let (length, place) = inputs::room(&run.seed, day.as_ref().map_or(100, |d| d.plan_text(&near).len()));
+    run.text(rows, &near, length, place);
 }
 
 /// What can be done with a plan: hold and price rows near it, judged, chosen between, shown and written.
@@ -58,8 +61,10 @@ fn around_the_plan(run: &mut Run, day: &Day, holds: &[u32], prices: &[u32]) {
 
 fn every_call_of_a_day(run: &mut Run, day: &Day) {
     let rows = day.rows();
-    every_call(run, &rows);
-    if let Some((holds, prices)) = run.full(&rows, day.flights.len(), day.capacities.len()) {
+    let plan = run.full(&rows, day.flights.len(), day.capacities.len());
+    let (holds, prices) = plan.clone().unwrap_or((vec![0; day.flights.len()], vec![0; day.capacities.len()]));
+    every_call(run, &rows, &holds, &prices);
+    if plan.is_some() {
         around_the_plan(run, day, &holds, &prices);
     }
     run.quick(&rows, day.flights.len());
@@ -69,6 +74,9 @@ fn every_call_of_a_day(run: &mut Run, day: &Day) {
     if day.first_with_jump_or_limit().is_none() {
         assert_eq!(least_by_moves(day), Some(day.total(&quick_by_sorting(day).0)), "the quick plan is cheapest");
     }
+    let mut spoiled = rows;
+    inputs::spoil(&run.seed, &mut spoiled);
+    every_call(run, &spoiled, &holds, &prices);
 }
 
 /// The comparison must have come to each of these, of a default run at least so often.
@@ -121,9 +129,6 @@ fn small_days() {
         let day = inputs::random_day(&run.seed, 4, 5);
         assert_eq!(least_by_trial(&day), least_by_moves(&day), "the two planners here");
         every_call_of_a_day(&mut run, &day);
-        let mut rows = day.rows();
-        inputs::spoil(&run.seed, &mut rows);
-        every_call(&mut run, &rows);
     }
     must_reach(&run, 20, &EVERY_REFUSAL);
 }
@@ -131,16 +136,14 @@ fn small_days() {
 #[test]
 fn large_days() {
     let mut run = Run::of(2);
-    for round in 0..days() / 4 {
+    for round in 0..days() / 2 {
         let day = match round % 16 {
             0 => inputs::heavy_day(&run.seed),
-            1 | 2 => inputs::day_of_size(&run.seed, 96, 128),
+            1 => inputs::late_day(&run.seed),
+            2..=6 => inputs::day_of_size(&run.seed, 96, 128),
             _ => inputs::random_day(&run.seed, 96, 128),
         };
         every_call_of_a_day(&mut run, &day);
-        let mut rows = day.rows();
-        inputs::spoil(&run.seed, &mut rows);
-        every_call(&mut run, &rows);
     }
     must_reach(&run, 5, &SIZES);
 }

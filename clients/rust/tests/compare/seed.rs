@@ -66,6 +66,14 @@ impl Seed {
         };
         some.clamp(low, most) as u32
     }
+    /// A place of a row of n entries, its ends likely.
+    pub fn place(&self, n: usize) -> usize {
+        match self.below(4) {
+            0 => 0,
+            1 => n - 1,
+            _ => self.below(n as u64) as usize,
+        }
+    }
     pub fn shuffle<T>(&self, row: &mut [T]) {
         for i in (1..row.len()).rev() {
             row.swap(i, self.below(i as u64 + 1) as usize);
