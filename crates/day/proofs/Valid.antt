@@ -8,7 +8,7 @@ use lib.ListN.{length, getD}
 use lib.Dec.{leb}
 use borrow.Author.Tests.{le-leb, lt-leb, eq-eqb, ne-eqb, leb-true, eqb-true, eqb-false, not-true}
 use Rattle.day.specs.Day.{Day, P, N, number, due, rate, after, jump, limit, missing, all, inside, numbersFit, inRange, isNew, valid, width}
-use Rattle.day.proofs.Tests.{all-at, and-true, and-assoc}
+use Rattle.day.proofs.Tests.{all-at, all-from, and-true, true-and, and-assoc}
 
 -- ---- the whole check, in its order
 
@@ -109,3 +109,42 @@ valid-means {d} e =
       flight = λ i l. range-means d i (all-at (N d) _ (ranges .1) i l);
       distinct = λ i j l b. eqb-false _ _ (not-true _ (all-at i _ (all-at (N d) _ (numbers .1) i l) j b));
     }
+
+-- ---- and the other way round: a day that is so passes, so that the record says just what the test does
+
+inside-from : (a b x : ℕ) → a ≤ x → x ≤ b → inside a b x ≡ true
+inside-from a b x low high = true-and (le-leb a x low) (le-leb x b high)
+
+or-right : (a b : Bool) → b ≡ true → (a || b) ≡ true
+or-right true b e = refl
+or-right false b e = e
+
+range-from : (d : Day) (i : ℕ) → InRange d i → inRange d i ≡ true
+unfolding numbersFit
+range-from d i r =
+    let number-in = inside-from 1 9999 (number d i) (r .number-from) (r .number-to) in
+    let due-in = inside-from 1 (P d) (due d i) (r .due-from) (r .due-to) in
+    let rate-in = inside-from 1 10000 (rate d i) (r .rate-from) (r .rate-to) in
+    let after-in = le-leb (after d i) 96 (r .after-to) in
+    let jump-in = le-leb (jump d i) 1000000 (r .jump-to) in
+    let limit-in : (leb (limit d i) 96 || missing (limit d i)) ≡ true = elim (r .limit-to) [
+      | inl l ↦ rw (le-leb (limit d i) 96 l)
+      | inr e ↦ or-right (leb (limit d i) 96) (missing (limit d i)) (eq-eqb (limit d i) 255 e)
+    ] in
+    true-and (true-and (true-and (true-and (true-and number-in due-in) rate-in) after-in) jump-in) limit-in
+
+-- no lower table place has the flight's number
+new-from : (d : Day) (i : ℕ) → ((j : ℕ) → j < i → number d j ≢ number d i) → isNew d i ≡ true
+unfolding isNew
+new-from d i differ = all-from i _ (λ j l. rw (ne-eqb (number d j) (number d i) (differ j l)))
+
+pub means-valid : {d : Day} → Valid d → valid d ≡ true
+unfolding valid
+means-valid {d} v =
+    let periods = inside-from 1 96 (P d) (v .periods-from) (v .periods-to) in
+    let whole = eq-eqb (length (d .flights)) (N d * width) (v .whole) in
+    let few = le-leb (N d) 128 (v .flights-to) in
+    let caps = all-from (P d) (λ k. leb (getD (d .capacities) k 0) 255) (λ k l. le-leb (getD (d .capacities) k 0) 255 (v .capacity-to k l)) in
+    let ranges = all-from (N d) (inRange d) (λ i l. range-from d i (v .flight i l)) in
+    let numbers = all-from (N d) (isNew d) (λ i l. new-from d i (λ j b. v .distinct i j l b)) in
+    true-and (true-and (true-and (true-and (true-and periods whole) few) caps) ranges) numbers
