@@ -1,4 +1,4 @@
--- What the prices of closed periods are. Only private contracts cite it.
+-- What the prices of closed periods are. Only inner contracts cite it.
 -- Assumes nothing.
 use mathlib.Core.Path.{_≡_}
 use mathlib.Core.Logic.{_⊎_}

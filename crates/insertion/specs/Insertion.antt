@@ -1,4 +1,4 @@
--- What the insertion of all flights asks and gives, and what its steps do. Only private contracts cite it.
+-- What the insertion of all flights asks and gives, and what its steps do. Only inner contracts cite it.
 -- Assumes nothing.
 use mathlib.Core.Path.{_≡_}
 use mathlib.Core.Logic.{_⊎_}

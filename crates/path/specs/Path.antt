@@ -1,4 +1,4 @@
--- What the search for the cheapest chain of moves asks and gives. Only private contracts cite it.
+-- What the search for the cheapest chain of moves asks and gives. Only inner contracts cite it.
 -- Assumes nothing.
 use mathlib.Core.Path.{_≡_}
 use mathlib.Core.Logic.{_⊎_, _≢_}

@@ -1,4 +1,4 @@
--- How the program makes the quick plan's row, landing by landing: only private contracts cite it. proofs/Rows.antt has that it is the
+-- How the program makes the quick plan's row, landing by landing: only inner contracts cite it. proofs/Rows.antt has that it is the
 -- quick plan.
 -- Assumes nothing.
 use mathlib.Core.Bool.{Bool, cond, _&&_, _||_}
