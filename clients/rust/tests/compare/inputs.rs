@@ -111,6 +111,13 @@ pub fn heavy_day(seed: &Seed) -> Day {
     day
 }
 
+/// A day whose sheet is about as long as one can be, 4,296 bytes.
+pub fn wide_day(seed: &Seed) -> Day {
+    let wide = Style { due: (10, 96), rate: (10_000, 10_000), after: (10, 96), jump: (1_000_000, 1_000_000), limit: (10, 96), unlimited: 1000 };
+    let flights = (0..128).map(|i| flight(seed, 9_999 - i, 96, &wide)).collect();
+    Day { capacities: (0..96).map(|_| seed.edged(100, 255)).collect(), flights }
+}
+
 /// A day on which all periods but the last few are closed and flights are due early, so that limits near the day's length bind.
 pub fn late_day(seed: &Seed) -> Day {
     let periods = seed.between(90, 96);
@@ -162,11 +169,11 @@ fn add_flights(rows: &mut Rows, count: usize) {
 
 // ---- lengths and places
 
-/// The length wanted, or none, one less, one more, many more.
+/// The length wanted, or none, one less, a flight less, one more, many more.
 pub fn length(seed: &Seed, exact: usize) -> usize {
     match seed.below(12) {
         0 => 0,
-        1 => exact.saturating_sub(1),
+        1 => exact.saturating_sub(seed.pick(&[1, 1, 6])),
         2 => exact + 1,
         3 => exact + seed.between(2, 1000) as usize,
         _ => exact,
@@ -276,17 +283,19 @@ fn lines(bytes: &[u8]) -> Vec<Vec<u8>> {
     bytes.split_inclusive(|&b| b == 10).map(<[u8]>::to_vec).collect()
 }
 
-/// One field of one line made odd: a number at or past an edge, or none.
+/// One field of one line made odd: a number at or past an edge, or none; or a field more or less.
 fn odd_field(seed: &Seed, bytes: &[u8]) -> Vec<u8> {
     let mut lines = lines(bytes);
-    let pick = seed.below(lines.len() as u64) as usize;
+    let pick = seed.place(lines.len());
     let mut fields: Vec<Vec<u8>> = lines[pick].strip_suffix(b"\n").unwrap_or(&lines[pick]).split(|&b| b == b',').map(<[u8]>::to_vec).collect();
     let at = seed.below(fields.len() as u64) as usize;
-    fields[at] = match seed.below(4) {
-        0 => seed.below(10u64.pow(seed.between(1, 8) as u32)).to_string().into_bytes(),
-        1 => [&b"0"[..], &fields[at]].concat(),
-        _ => seed.pick(&ODD_FIELDS).as_bytes().to_vec(),
-    };
+    match seed.below(10) {
+        0 | 1 => fields[at] = seed.below(10u64.pow(seed.between(1, 8) as u32)).to_string().into_bytes(),
+        2 | 3 => fields[at].insert(0, b'0'),
+        4 => fields.insert(at + 1, seed.pick(&[&b""[..], b"1"]).to_vec()),
+        5 => drop(fields.remove(at)),
+        _ => fields[at] = seed.pick(&ODD_FIELDS).as_bytes().to_vec(),
+    }
     lines[pick] = [&fields.join(&b","[..]), &b"\n"[..]].concat();
     lines.concat()
 }
@@ -294,7 +303,7 @@ fn odd_field(seed: &Seed, bytes: &[u8]) -> Vec<u8> {
 /// A line twice, one left out, two exchanged, no period lines, one more after the last period, one more at the end.
 fn odd_lines(seed: &Seed, bytes: &[u8]) -> Vec<u8> {
     let mut lines = lines(bytes);
-    let pick = seed.below(lines.len() as u64) as usize;
+    let pick = seed.place(lines.len());
     let second = lines.iter().position(|l| l.starts_with(NAMES[1].as_bytes())).unwrap_or(0);
     match seed.below(8) {
         0 => lines.insert(seed.between(pick as u64, lines.len() as u64) as usize, lines[pick].clone()),
@@ -306,11 +315,11 @@ fn odd_lines(seed: &Seed, bytes: &[u8]) -> Vec<u8> {
         3 => drop(lines.drain(1.min(second)..second)),
         4 => lines.insert(second, format!("{second},{}\n", seed.edged(0, 256)).into_bytes()),
         5 => lines.push(format!("{},1,1,0,0,-\n", seed.edged(1, 10_000)).into_bytes()),
-        // a piece of a line, before the second names line or at the end
+        // cut after the last period line or not at all, and a piece of a line there
         _ => {
-            let piece = seed.pick(&[&b"\n"[..], b"1", b"\r\n", b"\xff", b"flight,due,rate,after,jump,limit\n", b"flight,due,rate,after,jump,limit"]).to_vec();
+            let piece = seed.pick(&[&b""[..], b"\n", b"1", b"\r\n", b"\xff", b"\0", b"\0\n", b"flight,due,rate,after,jump,limit\n", b"flight,due,rate,after,jump,limit"]);
             lines.truncate(seed.pick(&[second, lines.len()]));
-            lines.push(piece);
+            lines.push(piece.to_vec());
         }
     }
     lines.concat()
@@ -319,12 +328,13 @@ fn odd_lines(seed: &Seed, bytes: &[u8]) -> Vec<u8> {
 /// One byte removed, put in or replaced; any of the 256, the sheet's own likely.
 fn odd_byte(seed: &Seed, mut bytes: Vec<u8>) -> Vec<u8> {
     let at = seed.below(bytes.len() as u64 + 1) as usize;
-    let byte = if seed.one_in(2) { seed.pick(b"0123456789,-\n\r \0;\"") } else { seed.next() as u8 };
-    match seed.below(4) {
+    let byte = if seed.one_in(2) { seed.pick(b"0123456789/:,-\n\r \0;\"") } else { seed.next() as u8 };
+    match seed.below(5) {
         0 if at < bytes.len() => drop(bytes.remove(at)),
         1 if at < bytes.len() => bytes[at] = byte,
-        // the same byte but for its high bit
+        // the same byte but for its high bit, or for the bit of a capital
         2 if at < bytes.len() => bytes[at] ^= 128,
+        3 if at < bytes.len() => bytes[at] ^= 32,
         _ => bytes.insert(at, byte),
     }
     bytes
@@ -352,8 +362,8 @@ pub fn damaged(seed: &Seed, sheet: &str) -> Vec<u8> {
         }
         bytes = match seed.below(12) {
             0..=3 => odd_field(seed, &bytes),
-            4..=8 => odd_lines(seed, &bytes),
-            9 => odd_byte(seed, bytes),
+            4..=7 => odd_lines(seed, &bytes),
+            8..=9 => odd_byte(seed, bytes),
             10 => bytes[..seed.below(bytes.len() as u64) as usize].to_vec(),
             _ => {
                 bytes.resize(seed.pick(&[8_191, 8_192, 8_193, 8_194, 16_384, 65_536]), seed.pick(b"\n1,\xff"));

@@ -152,13 +152,15 @@ fn large_days() {
 fn sheets() {
     let mut run = Run::of(3);
     for round in 0..days() * 10 {
-        let (periods, count) = match round % 16 {
-            0 => (96, run.seed.pick(&[1, 128])),
-            1 => (run.seed.pick(&[1, 5, 96]), 128),
-            2 => (run.seed.between(1, 96), run.seed.below(129)),
-            _ => (run.seed.between(1, 11), run.seed.below(6)),
+        let some = |low, high| run.seed.between(low, high);
+        let day = match round % 16 {
+            0 => inputs::day_of_size(&run.seed, 96, run.seed.pick(&[1, 128])),
+            1 => inputs::day_of_size(&run.seed, run.seed.pick(&[1, 5, 96]), 128),
+            2 => inputs::day_of_size(&run.seed, some(1, 96), some(0, 128)),
+            3 => inputs::wide_day(&run.seed),
+            _ => inputs::day_of_size(&run.seed, some(1, 11), some(0, 5)),
         };
-        let sheet = inputs::day_of_size(&run.seed, periods, count).sheet();
+        let sheet = day.sheet();
         run.read(sheet.as_bytes(), 96, 768);
         let bytes = inputs::damaged(&run.seed, &sheet);
         run.read(&bytes, 96, 768);
