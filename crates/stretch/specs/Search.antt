@@ -1,4 +1,4 @@
--- What the search for a short stretch answers.
+-- What the search for a short stretch answers. Only inner contracts cite it.
 -- Assumes nothing.
 use Prim.Native.Nat.{ℕ}
 use Rattle.day.specs.Day.{Day}
