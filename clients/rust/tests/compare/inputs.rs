@@ -231,8 +231,8 @@ pub fn hold_row(seed: &Seed, day: &Day, plan: &[u32]) -> Vec<u32> {
         3 if seed.one_in(4) => plan.iter().map(|_| seed.from(0)).collect(),
         _ => plan.to_vec(),
     };
-    let changes = seed.pick(&[0, 0, 1, 1, 2, 3]);
-    for _ in 0..changes.min(holds.len() * 9) {
+    let changes = if holds.is_empty() { 0 } else { seed.pick(&[0, 0, 1, 1, 2, 3]) };
+    for _ in 0..changes {
         let i = seed.place(holds.len());
         let f = &day.flights[i];
         let around = seed.between(0, day.periods() as u64 + 1) as u32;
