@@ -283,13 +283,26 @@ fn lines(bytes: &[u8]) -> Vec<Vec<u8>> {
     bytes.split_inclusive(|&b| b == 10).map(<[u8]>::to_vec).collect()
 }
 
-/// One field of one line made odd: a number at or past an edge, or none; or a field more or less.
+/// Where the second names line is, or else the end.
+fn second_names(lines: &[Vec<u8>]) -> usize {
+    lines.iter().position(|l| l.starts_with(NAMES[1].as_bytes())).unwrap_or(lines.len())
+}
+
+/// Some line; the first, the last and that of the last period are likely.
+fn some_line(seed: &Seed, lines: &[Vec<u8>]) -> usize {
+    if seed.one_in(4) { second_names(lines).max(1) - 1 } else { seed.place(lines.len()) }
+}
+
+/// One field of one line made odd: a number at or past an edge, one that only its low bits make look right, or none; or a field
+/// more or less.
 fn odd_field(seed: &Seed, bytes: &[u8]) -> Vec<u8> {
     let mut lines = lines(bytes);
-    let pick = seed.place(lines.len());
+    let pick = some_line(seed, &lines);
     let mut fields: Vec<Vec<u8>> = lines[pick].strip_suffix(b"\n").unwrap_or(&lines[pick]).split(|&b| b == b',').map(<[u8]>::to_vec).collect();
     let at = seed.below(fields.len() as u64) as usize;
-    match seed.below(10) {
+    let number: u64 = String::from_utf8_lossy(&fields[at]).parse().unwrap_or(0);
+    match seed.below(12) {
+        10 | 11 => fields[at] = (number + (1 << seed.pick(&[8, 8, 16, 20, 32]))).to_string().into_bytes(),
         0 | 1 => fields[at] = seed.below(10u64.pow(seed.between(1, 8) as u32)).to_string().into_bytes(),
         2 | 3 => fields[at].insert(0, b'0'),
         4 => fields.insert(at + 1, seed.pick(&[&b""[..], b"1"]).to_vec()),
@@ -303,8 +316,8 @@ fn odd_field(seed: &Seed, bytes: &[u8]) -> Vec<u8> {
 /// A line twice, one left out, two exchanged, no period lines, one more after the last period, one more at the end.
 fn odd_lines(seed: &Seed, bytes: &[u8]) -> Vec<u8> {
     let mut lines = lines(bytes);
-    let pick = seed.place(lines.len());
-    let second = lines.iter().position(|l| l.starts_with(NAMES[1].as_bytes())).unwrap_or(0);
+    let pick = some_line(seed, &lines);
+    let second = second_names(&lines);
     match seed.below(8) {
         0 => lines.insert(seed.between(pick as u64, lines.len() as u64) as usize, lines[pick].clone()),
         1 => drop(lines.remove(pick)),
