@@ -222,6 +222,23 @@ fn some_plan(seed: &Seed, day: &Day) -> Vec<u32> {
     day.flights.iter().map(|f| land(f)).collect()
 }
 
+/// Each flight to the first period with room, whatever its limit: where a limit is too short for that, there may be no plan.
+pub fn past_limits(day: &Day) -> Vec<u32> {
+    let mut room = [&day.capacities[..], &[u32::MAX]].concat();
+    let mut land = |f: &Flight| {
+        let at = (f.due as usize - 1..).find(|&at| room[at] > 0).unwrap();
+        room[at] -= 1;
+        at as u32 + 1 - f.due
+    };
+    day.flights.iter().map(|f| land(f)).collect()
+}
+
+/// No price but on closed periods, which have any price, so that nobody would land there.
+pub fn closed_prices(seed: &Seed, day: &Day) -> Vec<u32> {
+    let high = seed.pick(&[u32::MAX, 1 << 31, 250_880_000]);
+    day.capacities.iter().map(|&c| if c == 0 { high } else { 0 }).collect()
+}
+
 /// A hold row for a good day: the plan, another one, one with a few holds changed, or none at all; mostly of the day's length.
 /// A hold may be so long that its landing period is small again in 32 bits.
 pub fn hold_row(seed: &Seed, day: &Day, plan: &[u32]) -> Vec<u32> {
@@ -293,24 +310,30 @@ fn some_line(seed: &Seed, lines: &[Vec<u8>]) -> usize {
     if seed.one_in(4) { second_names(lines).max(1) - 1 } else { seed.place(lines.len()) }
 }
 
-/// One field of one line made odd: a number at or past an edge, one that only its low bits make look right, or none; or a field
-/// more or less.
-fn odd_field(seed: &Seed, bytes: &[u8]) -> Vec<u8> {
+/// One or two fields of one line made odd.
+fn odd_fields(seed: &Seed, bytes: &[u8]) -> Vec<u8> {
     let mut lines = lines(bytes);
     let pick = some_line(seed, &lines);
-    let mut fields: Vec<Vec<u8>> = lines[pick].strip_suffix(b"\n").unwrap_or(&lines[pick]).split(|&b| b == b',').map(<[u8]>::to_vec).collect();
+    for _ in 0..seed.pick(&[1, 1, 2]) {
+        lines[pick] = with_odd_field(seed, &lines[pick]);
+    }
+    lines.concat()
+}
+
+/// A number at or past an edge, one that only its low bits make look right, or none; or a field more or less.
+fn with_odd_field(seed: &Seed, line: &[u8]) -> Vec<u8> {
+    let mut fields: Vec<Vec<u8>> = line.strip_suffix(b"\n").unwrap_or(line).split(|&b| b == b',').map(<[u8]>::to_vec).collect();
     let at = seed.below(fields.len() as u64) as usize;
     let number: u64 = String::from_utf8_lossy(&fields[at]).parse().unwrap_or(0);
     match seed.below(12) {
-        10 | 11 => fields[at] = (number + (1 << seed.pick(&[8, 8, 16, 20, 32]))).to_string().into_bytes(),
         0 | 1 => fields[at] = seed.below(10u64.pow(seed.between(1, 8) as u32)).to_string().into_bytes(),
-        2 | 3 => fields[at].insert(0, b'0'),
-        4 => fields.insert(at + 1, seed.pick(&[&b""[..], b"1"]).to_vec()),
-        5 => drop(fields.remove(at)),
+        2 | 3 => fields[at] = (number + (1 << seed.pick(&[8, 8, 16, 20, 32]))).to_string().into_bytes(),
+        4 | 5 => fields[at].insert(0, b'0'),
+        6 => fields.insert(at + 1, seed.pick(&[&b""[..], b"1"]).to_vec()),
+        7 => drop(fields.remove(at)),
         _ => fields[at] = seed.pick(&ODD_FIELDS).as_bytes().to_vec(),
     }
-    lines[pick] = [&fields.join(&b","[..]), &b"\n"[..]].concat();
-    lines.concat()
+    [&fields.join(&b","[..]), &b"\n"[..]].concat()
 }
 
 /// A line twice, one left out, two exchanged, no period lines, one more after the last period, one more at the end.
@@ -374,7 +397,7 @@ pub fn damaged(seed: &Seed, sheet: &str) -> Vec<u8> {
             break;
         }
         bytes = match seed.below(12) {
-            0..=3 => odd_field(seed, &bytes),
+            0..=3 => odd_fields(seed, &bytes),
             4..=7 => odd_lines(seed, &bytes),
             8..=9 => odd_byte(seed, bytes),
             10 => bytes[..seed.below(bytes.len() as u64) as usize].to_vec(),

@@ -74,9 +74,12 @@ fn every_call_of_a_day(run: &mut Run, day: &Day) {
     if day.first_with_jump_or_limit().is_none() {
         assert_eq!(least_by_moves(day), Some(day.total(&quick_by_sorting(day).0)), "the quick plan is cheapest");
     }
-    let mut spoiled = rows;
-    inputs::spoil(&run.seed, &mut spoiled);
-    every_call(run, &spoiled, &holds, &prices);
+    run.price_check(&rows, &inputs::past_limits(day), &inputs::closed_prices(&run.seed, day));
+    for _ in 0..4 {
+        let mut spoiled = rows.clone();
+        inputs::spoil(&run.seed, &mut spoiled);
+        every_call(run, &spoiled, &holds, &prices);
+    }
 }
 
 /// The comparison must have come to each of these, of a default run at least so often.
