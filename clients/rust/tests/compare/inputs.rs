@@ -296,6 +296,9 @@ const ODD_FIELDS: [&str; 36] = [
     "1000001", "9999999", "10000000", "4294967297", "\u{661}",
 ];
 
+/// Of a flight line's fields, the first numbers out of range.
+const JUST_PAST: [[&str; 2]; 6] = [["0", "10000"], ["0", "97"], ["0", "10001"], ["97", "98"], ["1000001", "1000002"], ["97", "255"]];
+
 fn lines(bytes: &[u8]) -> Vec<Vec<u8>> {
     bytes.split_inclusive(|&b| b == 10).map(<[u8]>::to_vec).collect()
 }
@@ -325,9 +328,10 @@ fn with_odd_field(seed: &Seed, line: &[u8]) -> Vec<u8> {
     let mut fields: Vec<Vec<u8>> = line.strip_suffix(b"\n").unwrap_or(line).split(|&b| b == b',').map(<[u8]>::to_vec).collect();
     let at = seed.below(fields.len() as u64) as usize;
     let number: u64 = String::from_utf8_lossy(&fields[at]).parse().unwrap_or(0);
-    match seed.below(12) {
+    match seed.below(14) {
         0 | 1 => fields[at] = seed.below(10u64.pow(seed.between(1, 8) as u32)).to_string().into_bytes(),
-        2 | 3 => fields[at] = (number + (1 << seed.pick(&[8, 8, 16, 20, 32]))).to_string().into_bytes(),
+        2 | 3 => fields[at] = (number + (1 << seed.pick(&[0, 8, 8, 16, 20, 32]))).to_string().into_bytes(),
+        12 | 13 if fields.len() == 6 => fields[at] = seed.pick(&JUST_PAST[at]).as_bytes().to_vec(),
         4 | 5 => fields[at].insert(0, b'0'),
         6 => fields.insert(at + 1, seed.pick(&[&b""[..], b"1"]).to_vec()),
         7 => drop(fields.remove(at)),
@@ -336,13 +340,16 @@ fn with_odd_field(seed: &Seed, line: &[u8]) -> Vec<u8> {
     [&fields.join(&b","[..]), &b"\n"[..]].concat()
 }
 
-/// A line twice, one left out, two exchanged, no period lines, one more after the last period, one more at the end.
+/// A line twice, the second as it is or with an odd field; one left out, two exchanged, no period lines, one more after the last period, one more at the end.
 fn odd_lines(seed: &Seed, bytes: &[u8]) -> Vec<u8> {
     let mut lines = lines(bytes);
     let pick = some_line(seed, &lines);
     let second = second_names(&lines);
     match seed.below(8) {
-        0 => lines.insert(seed.between(pick as u64, lines.len() as u64) as usize, lines[pick].clone()),
+        0 => {
+            let copy = if seed.one_in(2) { lines[pick].clone() } else { with_odd_field(seed, &lines[pick]) };
+            lines.insert(seed.between(pick as u64 + 1, lines.len() as u64) as usize, copy);
+        }
         1 => drop(lines.remove(pick)),
         2 => {
             let other = seed.below(lines.len() as u64) as usize;
