@@ -296,8 +296,8 @@ const ODD_FIELDS: [&str; 36] = [
     "1000001", "9999999", "10000000", "4294967297", "\u{661}",
 ];
 
-/// Of a flight line's fields, the first numbers out of range.
-const JUST_PAST: [[&str; 2]; 6] = [["0", "10000"], ["0", "97"], ["0", "10001"], ["97", "98"], ["1000001", "1000002"], ["97", "255"]];
+/// For each field of a flight line: numbers just out of range, and a dash where none may be.
+const JUST_PAST: [[&str; 3]; 6] = [["0", "10000", "-"], ["0", "97", "-"], ["0", "10001", "-"], ["97", "98", "-"], ["1000001", "1000002", "-"], ["97", "255", "--"]];
 
 fn lines(bytes: &[u8]) -> Vec<Vec<u8>> {
     bytes.split_inclusive(|&b| b == 10).map(<[u8]>::to_vec).collect()
@@ -340,7 +340,8 @@ fn with_odd_field(seed: &Seed, line: &[u8]) -> Vec<u8> {
     [&fields.join(&b","[..]), &b"\n"[..]].concat()
 }
 
-/// A line twice, the second as it is or with an odd field; one left out, two exchanged, no period lines, one more after the last period, one more at the end.
+/// A line twice, the second as it is or with an odd field; one left out, two exchanged, no period lines, one more after the last
+/// period, one more at the end.
 fn odd_lines(seed: &Seed, bytes: &[u8]) -> Vec<u8> {
     let mut lines = lines(bytes);
     let pick = some_line(seed, &lines);
