@@ -8,7 +8,8 @@ use lib.ListN.{length, getD}
 use lib.Dec.{leb}
 use borrow.Author.Tests.{le-leb, lt-leb, eq-eqb, ne-eqb, leb-true, eqb-true, eqb-false, not-true}
 use Rattle.day.specs.Day.{Day, P, N, number, due, rate, after, jump, limit, missing, all, inside, numbersFit, inRange, isNew, valid, width}
-use Rattle.day.proofs.Tests.{all-at, all-from, and-true, true-and, and-assoc}
+use Rattle.day.proofs.Tests.{all-at, all-from}
+use Rattle.assignment.proofs.Tests.{and-true, true-and, and-assoc}
 
 -- ---- the whole check, in its order
 

@@ -6,7 +6,7 @@ use mathlib.Core.List.{List}
 use Prim.Native.Nat.{ℕ, _*_, _%_, _≤_}
 use lib.ListN.{length, getD}
 use lib.Dec.{eqb}
-use Rattle.assignment.proofs.Chains.{Chained}
+use Rattle.assignment.specs.Chains.{Chained}
 use Rattle.day.specs.Day.{column, width, all}
 
 -- how many chains there are; a flight stands in that of its number's residue
