@@ -16,6 +16,10 @@ mostPeriods = 96
 abbrev pub mostFlights : ℕ
 mostFlights = 128
 
+-- a row that is read at the period itself, from 0 to the closing period
+abbrev pub periodRow : ℕ
+periodRow = mostPeriods + 2
+
 -- "In memory a day is two lent rows": P capacities, and six numbers a flight in sheet order
 pub record Day : Type 0 where
   pub capacities : List ℕ

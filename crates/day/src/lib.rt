@@ -18,6 +18,9 @@ pub const WIDTH: usize = 6;
 
 pub const FLIGHT_ROW: usize = 768;
 
+// A row that is read at the period itself, from 0 to the closing period.
+pub const PERIOD_ROW: usize = 98;
+
 // A limit that is missing.
 pub const MISSING: u32 = 255;
 
