@@ -1,29 +1,17 @@
 -- Closed periods, those of capacity 0, can be left out of a search: as if a landing there cost so much that nobody would go there. No plan
 -- lands in them, so plans and totals are the same; at the end each gets the least price that keeps every flight where it lands.
 -- Assumes nothing.
-use mathlib.Core.Path.{_≡_, refl, sym, ap, _∙_}
-use mathlib.Core.Logic.{_⊎_, inl, inr, _≢_}
+use mathlib.Core.Path.{_≡_, refl, _∙_}
+use mathlib.Core.Logic.{_⊎_, inl, inr}
 use Prim.Native.Nat.{ℕ, suc, _+_, _≤_, _<_}
 use native.Mathlib.Omega.{arith}
 use lib.Dec.{eqb}
-use Rattle.assignment.specs.Sum.{gate, sum, count}
-use Rattle.assignment.specs.Assignment.{Instance, In, Legal, total, Accepted, mustLand, room, Short}
+use Rattle.assignment.specs.Sum.{gate, sum}
+use Rattle.assignment.specs.Assignment.{Instance, In, Legal, total, mustLand, room, Short}
+use Rattle.assignment.specs.Instances.{opened}
+use Rattle.assignment.specs.Insertion.{Sound}
 use Rattle.assignment.proofs.Tests.{eq?, gate-eq, gate-ne}
 use Rattle.assignment.proofs.Sums.{sum-ext, sum-member, count-member}
-use Rattle.assignment.proofs.Saving.{Link}
-use Rattle.assignment.proofs.Insertion.{Sound}
-
--- a landing in a closed period costs so much more
-abbrev pub opened : Instance → ℕ → Instance
-opened d more = record {
-  n = d .n;
-  m = d .m;
-  lo = d .lo;
-  hi = d .hi;
-  cost = λ i k. d .cost i k + gate (eqb (d .cap k) 0) more;
-  cap = d .cap;
-  within = d .within;
-}
 
 module _ (d : Instance) (more : ℕ) where
   pub open-cost : (i k : ℕ) → 0 < d .cap k → opened d more .cost i k ≡ d .cost i k

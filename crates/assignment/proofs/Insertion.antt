@@ -8,47 +8,16 @@ use native.Mathlib.Omega.{arith}
 use lib.Dec.{ltb, eqb}
 use Rattle.assignment.specs.Sum.{gate, sum, count}
 use Rattle.assignment.specs.Assignment.{Instance, In, total, Accepted}
+use Rattle.assignment.specs.Moves.{Settled, Moved, put}
+use Rattle.assignment.specs.Instances.{grown}
+use Rattle.assignment.specs.Search.{Near}
+use Rattle.assignment.specs.Insertion.{Link, Sound, Root, Hop, Tree, Firm, Going}
 use Rattle.assignment.proofs.Tests.{gate-eq, gate-ne, gate-lt, gate-ge, lt?, eq?}
 use Rattle.assignment.proofs.Sums.{count-suc, count-ext, count-zero, sum-ext}
-use Rattle.assignment.proofs.Moves.{Settled, Moved, moved-count, moved-total, moved-settled, put, put-moved}
-use Rattle.assignment.proofs.Saving.{Link, Held, Smallest, smallest}
-use Rattle.assignment.proofs.Near.{Near}
-
--- the day with the flight after the last
-abbrev pub grown : Instance → Instance
-grown d = record { n = suc (d .n); m = d .m; lo = d .lo; hi = d .hi; cost = d .cost; cap = d .cap; within = d .within }
-
--- the new flight may land in k and pays u there
-pub record Root (d : Instance) (q : ℕ → ℕ) (u k : ℕ) : Type 0 where
-  pub fits : In d (d .n) k
-  pub pays : d .cost (d .n) k + q k ≡ u
-
--- flight i, which lands in a period of a lower order, may as well land in k
-pub record Hop (d : Instance) (x q order : ℕ → ℕ) (k i : ℕ) : Type 0 where
-  pub who : i < d .n
-  pub fits : In d i k
-  pub lower : order (x i) < order k
-  pub tie : d .cost i k + q k ≡ d .cost i (x i) + q (x i)
-
-abbrev pub Tree : (d : Instance) (x q order via : ℕ → ℕ) (u k : ℕ) → Type 0
-Tree d x q order via u k = ((via k ≡ d .n) × Root d q u k) ⊎ Hop d x q order k (via k)
+use Rattle.assignment.proofs.Moves.{moved-count, moved-total, moved-settled, put-moved}
+use Rattle.assignment.proofs.Saving.{Smallest, smallest}
 
 -- ---- the walk back from z: `at` is to take the next flight
-
--- k is held up; if it was walked over, by a flight that was
-pub record Firm (d : Instance) (x q order rank : ℕ → ℕ) (z at k : ℕ) : Type 0 where
-  pub link : Link d x q rank k
-  pub apart : rank k ≤ order z → order at ≤ order (x (link .by))
-
-pub record Going (d : Instance) (x₀ x q order via : ℕ → ℕ) (u z at : ℕ) : Type 0 where
-  pub settled : Settled d x q
-  pub counts : (j : ℕ) → count (d .n) x j + gate (eqb at j) 1 ≡ count (d .n) x₀ j + gate (eqb z j) 1
-  pub costs : total d x + q z ≡ total d x₀ + q at
-  pub tree : (k : ℕ) → order k ≤ order at → Tree d x q order via u k
-  pub rank : ℕ → ℕ
-  pub low : rank at + order at ≤ order z
-  pub apart : (k : ℕ) → rank k ≤ order z → order at ≤ order k
-  pub held : (k : ℕ) → (q k ≡ 0) ⊎ (Root d q u k × (order z < rank k)) ⊎ Firm d x q order rank z at k
 
 pub going-start : {d : Instance} {x q order via : ℕ → ℕ} {u z : ℕ} → Settled d x q → q z ≡ 0
     → ((k : ℕ) → order k ≤ order z → Tree d x q order via u k)
@@ -185,12 +154,6 @@ module _ {d : Instance} {x₀ x q order via : ℕ → ℕ} {u z at : ℕ} (s : G
             };
             apart = λ b. rw same (omega (arith, a .lower, g .apart (omega (arith, r .others k e))));
           }
-
--- the invariant of the insertions: the price check, and every price is held up
-pub record Sound (d : Instance) (x q : ℕ → ℕ) : Type 0 where
-  pub accepted : Accepted d x q
-  pub rank : ℕ → ℕ
-  pub held : (k : ℕ) → Held d x q rank k
 
 pub sound-smallest : {d : Instance} {x q : ℕ → ℕ} → Sound d x q → Smallest d x q
 sound-smallest {d} {x} {q} s = smallest d x q (s .rank) (s .accepted) (s .held)

@@ -1,25 +1,15 @@
 -- Prices that are held up: each is what one more landing in its period would save, so none is above the total.
 -- Assumes nothing.
 use mathlib.Core.Path.{_≡_, ap}
-use mathlib.Core.Logic.{_⊎_, inl, inr, _≢_}
+use mathlib.Core.Logic.{inl, inr, _≢_}
 use Prim.Native.Nat.{ℕ, zero, suc, _+_, _≤_, _<_}
 use native.Mathlib.Omega.{arith}
 use lib.Dec.{eqb}
 use Rattle.assignment.specs.Sum.{gate, count}
 use Rattle.assignment.specs.Assignment.{Instance, In, Plan, total, Accepted}
-use Rattle.assignment.proofs.Moves.{Moved, moved-count, moved-total, moved-window, put, put-moved}
-
--- a flight that lands in a period of a lower rank may as well land in k
-pub record Link (d : Instance) (x q rank : ℕ → ℕ) (k : ℕ) : Type 0 where
-  pub by : ℕ
-  pub who : by < d .n
-  pub fits : In d by k
-  pub lower : rank (x by) < rank k
-  pub tie : d .cost by k + q k ≡ d .cost by (x by) + q (x by)
-
--- the price of k is 0, or a flight may as well land there as in a period of a lower rank
-abbrev pub Held : (d : Instance) (x q rank : ℕ → ℕ) (k : ℕ) → Type 0
-Held d x q rank k = (q k ≡ 0) ⊎ Link d x q rank k
+use Rattle.assignment.specs.Moves.{Moved, put}
+use Rattle.assignment.specs.Insertion.{Link, Held}
+use Rattle.assignment.proofs.Moves.{moved-count, moved-total, moved-window, put-moved}
 
 -- a plan of the day with one more place in k, which saves the price of k
 pub record Saved (d : Instance) (x q : ℕ → ℕ) (k : ℕ) : Type 0 where

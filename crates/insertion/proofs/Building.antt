@@ -8,18 +8,21 @@ use native.Mathlib.Omega.{arith}
 use lib.ListN.{length, replicate, length-replicate, getD-replicate, List·getD-eq-default}
 use Rattle.assignment.specs.Sum.{sum}
 use Rattle.assignment.specs.Assignment as A
+use Rattle.assignment.specs.Rows.{el}
+use Rattle.assignment.specs.Instances.{ordered}
+use Rattle.assignment.specs.Insertion.{Sound}
 use Rattle.assignment.proofs.Tests.{eq?, lt?}
 use Rattle.assignment.proofs.Sums.{count-zero}
-use Rattle.assignment.proofs.Insertion.{Sound, sound-start, price-le}
+use Rattle.assignment.proofs.Insertion.{sound-start, price-le}
 use Rattle.assignment.proofs.Chains.{chained-start}
 use Rattle.assignment.proofs.Closed.{Tied, priced, lands-open, opened-total}
-use Rattle.assignment.proofs.Permuted.{ordered, Stands, permuted-stands, permuted-accepted, permuted-total}
+use Rattle.assignment.proofs.Permuted.{Stands, permuted-stands, permuted-accepted, permuted-total}
 use Rattle.day.specs.Day.{Day, P, N, ofPeriod, due, capacity, cost as cost-of, Window, hold, land, total}
 use Rattle.day.proofs.Costs.{period-out}
 use Rattle.day.proofs.Instance.{instance, last-to, places-in, places-closing, cost-le, window-in, in-window, instance-accepted, total-instance}
 use Rattle.closed_prices.specs.ClosedPrices.{paid, Sets, CanPrice, Priced}
 use Rattle.due_order.specs.DueOrder.{DueOrder, CanOrder}
-use Rattle.path.specs.Path.{el, far, away, dear, room-in, begun, landing}
+use Rattle.path.specs.Path.{far, away, dear, room-in, begun, landing}
 use Rattle.insertion.specs.Insertion.{Placed, Kept, Inserted, cost-of-placed, Cleared, CanInsert, Planned}
 use Rattle.insertion.proofs.Inserting.{placed-total}
 

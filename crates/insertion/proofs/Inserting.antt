@@ -9,19 +9,24 @@ use lib.ListN.{getD, length, set, length-set}
 use Rattle.assignment.specs.Sum.{count}
 use Rattle.assignment.specs.Assignment as A
 use Rattle.assignment.specs.Assignment.{In}
+use Rattle.assignment.specs.Rows.{el}
+use Rattle.assignment.specs.Moves.{Moved}
+use Rattle.assignment.specs.Instances.{opened, ordered, until-le, restricted}
+use Rattle.assignment.specs.Search.{Step}
+use Rattle.assignment.specs.Insertion.{Sound}
 use Rattle.assignment.proofs.Tests.{eq?, lt?}
 use Rattle.assignment.proofs.Sums.{sum-most, count-le}
-use Rattle.assignment.proofs.Moves.{Moved, put-moved}
-use Rattle.assignment.proofs.Near.{Step}
-use Rattle.assignment.proofs.Insertion.{Sound, Found, price-le, going, ground, order as reach-order, z-free, going-end, going-total}
-use Rattle.assignment.proofs.Closed.{opened, open-cost, shut-cost, opened-short, lands-open}
-use Rattle.assignment.proofs.Permuted.{ordered, permuted-short, reordered-sound, reordered-total}
-use Rattle.assignment.proofs.Restricted.{Rising, until-near, until-le, restricted, restrict, widen, widen-short}
+use Rattle.assignment.proofs.Moves.{put-moved}
+use Rattle.assignment.proofs.Insertion.{Found, price-le, going, ground, order as reach-order, z-free, going-end, going-total}
+use Rattle.assignment.proofs.Closed.{open-cost, shut-cost, opened-short, lands-open}
+use Rattle.assignment.proofs.Permuted.{permuted-short, reordered-sound, reordered-total}
+use Rattle.assignment.proofs.Restricted.{Rising, until-near, restrict, widen, widen-short}
+use Rattle.assignment.proofs.Rows.{set-moved}
 use Rattle.day.specs.Day.{Day, width, P, N, ofPeriod, due, limit, cost}
 use Rattle.day.proofs.Costs.{latest-missing, latest-given, cost-grows}
 use Rattle.day.proofs.Instance.{instance, last, last-to, places as rooms, places-in, places-closing, cost-le, instance-short}
-use Rattle.path.specs.Path.{el, far, away, dear, begun, scope, landing, Table, Scene, CanSearch, Searched}
-use Rattle.path.proofs.Rows.{set-moved, as-read}
+use Rattle.path.specs.Path.{far, away, dear, begun, scope, landing, Table, Scene, CanSearch, Searched}
+use Rattle.path.proofs.Rows.{as-read}
 use Rattle.path.proofs.Expanding.{stands}
 use Rattle.insertion.specs.Insertion.{Placed, Kept, cost-of-placed, Added, CanFind, FirstRoom, Linked, CanWalk, Arrived, Walked, CanForget, Forgotten, CanRaise, Raised, Inserted}
 use Rattle.insertion.proofs.Steps.{added-chained, added-loads}

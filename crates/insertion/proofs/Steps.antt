@@ -2,24 +2,29 @@
 -- Assumes nothing.
 use mathlib.Core.Path.{_≡_, refl, sym, ap, _∙_}
 use mathlib.Core.Logic.{_⊎_, inl, inr, _≢_}
-use mathlib.Core.List.{List, _∷_}
+use mathlib.Core.List.{List}
 use Prim.Native.Nat.{ℕ, zero, suc, _+_, _-_, _*_, _≤_, _<_}
 use native.Mathlib.Omega.{arith}
 use lib.Dec.{eqb}
 use lib.ListN.{getD, length, set, length-set}
 use Rattle.assignment.specs.Sum.{gate, count}
 use Rattle.assignment.specs.Assignment.{Instance}
+use Rattle.assignment.specs.Rows.{el}
+use Rattle.assignment.specs.Moves.{Moved, put}
+use Rattle.assignment.specs.Orders.{Permuted, Swapped}
+use Rattle.assignment.specs.Insertion.{Going}
 use Rattle.assignment.proofs.Tests.{eq?, lt?, gate-eq, gate-ne}
 use Rattle.assignment.proofs.Sums.{count-suc, count-ext}
-use Rattle.assignment.proofs.Moves.{Moved, put, put-moved}
+use Rattle.assignment.proofs.Moves.{put-moved}
 use Rattle.assignment.proofs.Chains.{chained-add}
-use Rattle.assignment.proofs.Insertion.{Going, going-step}
-use Rattle.assignment.proofs.Permuted.{Permuted, permuted-other, permuted-same, Swapped, swapped}
+use Rattle.assignment.proofs.Insertion.{going-step}
+use Rattle.assignment.proofs.Permuted.{permuted-other, permuted-same, swapped}
+use Rattle.assignment.proofs.Rows.{set-moved}
 use Rattle.day.specs.Day.{Day, N, width, ofPeriod, due, land}
 use Rattle.day.proofs.Costs.{period-out}
 use Rattle.closed_prices.proofs.Pricing.{period-moved}
-use Rattle.path.specs.Path.{el, far, away, landing, Table, Chained}
-use Rattle.path.proofs.Rows.{set-moved, away-moved, as-read}
+use Rattle.path.specs.Path.{far, away, landing, Table, Chained}
+use Rattle.path.proofs.Rows.{away-moved, as-read}
 use Rattle.path.proofs.Expanding.{stands as stands-in}
 use Rattle.insertion.specs.Insertion.{home, Added, CanFind, FirstRoom, Hop, Linked, CanWalk, Walked, CanForget, Forgotten, CanRaise, Raised, Cleared}
 

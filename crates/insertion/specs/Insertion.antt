@@ -7,13 +7,14 @@ use Prim.Native.Nat.{ℕ, suc, _+_, _-_, _≤_, _<_}
 use lib.ListN.{length, set}
 use Rattle.assignment.specs.Sum.{count}
 use Rattle.assignment.specs.Assignment as A
-use Rattle.assignment.proofs.Moves.{Moved, put}
-use Rattle.assignment.proofs.Insertion.{Sound, Going}
-use Rattle.assignment.proofs.Permuted.{Permuted}
+use Rattle.assignment.specs.Rows.{el}
+use Rattle.assignment.specs.Moves.{Moved, put}
+use Rattle.assignment.specs.Orders.{Permuted}
+use Rattle.assignment.specs.Insertion.{Sound, Going}
 use Rattle.day.specs.Day.{Day, P, N, ofPeriod, due, total}
 use Rattle.day.specs.Plan.{Accepted, Short}
 use Rattle.day.proofs.Valid.{Valid}
-use Rattle.path.specs.Path.{el, far, away, begun, landing, Table, Chained, Rows}
+use Rattle.path.specs.Path.{far, away, begun, landing, Table, Chained, Rows}
 
 -- the flights at the first n places are placed: the hold row has their holds, the price row their prices; the others follow, due falling,
 -- and their holds may be any numbers

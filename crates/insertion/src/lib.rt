@@ -7,7 +7,7 @@ ghost use mathlib.Core.Path.{_≡_};
 ghost use Prim.Native.Nat.{_+_, _-_, _*_, _<_, _≤_};
 ghost use lib.ListN.{length, set};
 ghost use Rattle.day.specs.Day.{day, width, column, N};
-ghost use Rattle.path.specs.Path.{el};
+ghost use Rattle.assignment.specs.Rows.{el};
 ghost use Rattle.insertion.specs.Insertion.{Added, CanFind, FirstRoom, CanWalk, Walked, CanRaise, Raised, CanForget, Forgotten, Placed, Kept, Inserted, Cleared, CanInsert, Planned};
 use closed_prices::price_closed;
 use day::due_of;

@@ -1,6 +1,6 @@
 -- The loops of `expand` and `find_path`.
 -- Assumes nothing.
-use mathlib.Core.Path.{_≡_, refl, sym, ap, _∙_}
+use mathlib.Core.Path.{_≡_, refl, sym, _∙_}
 use mathlib.Core.Logic.{inl, inr, _≢_}
 use mathlib.Core.List.{List}
 use Prim.Native.Nat.{ℕ, zero, suc, _+_, _-_, _*_, _^_, _≤_, _<_, min}
@@ -8,14 +8,17 @@ use native.Mathlib.Nat.{add-zero}
 use native.Mathlib.Omega.{arith}
 use lib.ListN.{getD, length, set}
 use Rattle.assignment.specs.Assignment.{Instance, In}
+use Rattle.assignment.specs.Rows.{el}
+use Rattle.assignment.specs.Chains.{Newest}
+use Rattle.assignment.specs.Instances.{until}
 use Rattle.assignment.proofs.Tests.{eq?, lt?}
-use Rattle.assignment.proofs.Chains.{Newest}
-use Rattle.assignment.proofs.Closed.{opened, open-cost, shut-cost}
-use Rattle.assignment.proofs.Restricted.{until, until-near}
+use Rattle.assignment.proofs.Closed.{open-cost, shut-cost}
+use Rattle.assignment.proofs.Restricted.{until-near}
+use Rattle.assignment.proofs.Rows.{set-moved}
 use Rattle.day.specs.Day.{Day, P, N, width, ofPeriod, due, latest, cost}
 use Rattle.day.proofs.Instance.{instance, last, places-in}
-use Rattle.path.specs.Path.{el, far, away, dearest, dear, room-in, scope, landing, Table, Chained, Scene, Search, Around, Gap, Lined, CanList, Filled, CanNear, NextLevel, Nearest, CanOffer, Offers, CanExpand, Expanded, CanSearch, Searched}
-use Rattle.path.proofs.Rows.{as-read, set-moved}
+use Rattle.path.specs.Path.{far, away, dearest, dear, room-in, scope, landing, Table, Chained, Scene, Search, Around, Gap, Lined, CanList, Filled, CanNear, NextLevel, Nearest, CanOffer, Offers, CanExpand, Expanded, CanSearch, Searched}
+use Rattle.path.proofs.Rows.{as-read}
 use Rattle.path.proofs.Listing.{lined-start, lined-some, lined-least, lined-nearest, lined-other, lined-level, lined-open, lined-passed, lined-reach, lined-next}
 use Rattle.path.proofs.Reaching.{search-start, around-pass, around-kept, around-offered, search-near, reach-in, reach-next, search-end}
 

@@ -7,11 +7,13 @@ use mathlib.Core.List.{List}
 use Prim.Native.Nat.{ℕ, zero, suc, _+_, _-_, _≤_, _<_}
 use native.Mathlib.Omega.{arith}
 use lib.ListN.{getD, length, set, length-set}
+use Rattle.assignment.specs.Rows.{el}
+use Rattle.assignment.specs.Moves.{Moved}
 use Rattle.assignment.proofs.Tests.{eq?, lt?}
-use Rattle.assignment.proofs.Moves.{Moved}
+use Rattle.assignment.proofs.Rows.{set-moved}
 use Rattle.day.specs.Day.{ofPeriod}
-use Rattle.path.specs.Path.{el, far, away, InList, Gap, At, Waits, Listed, Waiting, Lined, CanList, Filled, Removed, CanNear, NearestIn, Levelled, CanLevel, NextLevel, Nearest}
-use Rattle.path.proofs.Rows.{set-moved, as-read}
+use Rattle.path.specs.Path.{far, away, InList, Gap, At, Waits, Waiting, Lined, CanList, Filled, Removed, CanNear, NearestIn, Levelled, CanLevel, NextLevel, Nearest}
+use Rattle.path.proofs.Rows.{as-read}
 
 -- ---- what stands in the list
 

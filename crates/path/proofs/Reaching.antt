@@ -10,14 +10,16 @@ use native.Mathlib.Omega.{arith}
 use lib.Dec.{T, leb, ltb, eqb, leb→le, le→leb, ltb→lt, lt→ltb, eqb→eq, eqb-refl}
 use lib.ListN.{length, set, length-set}
 use Rattle.assignment.specs.Assignment.{Instance, In}
+use Rattle.assignment.specs.Rows.{el}
+use Rattle.assignment.specs.Moves.{Moved}
+use Rattle.assignment.specs.Search.{Took, Offered}
 use Rattle.assignment.proofs.Tests.{eq?, lt?, gate-eq, gate-ne, and-T, T-and}
 use Rattle.assignment.proofs.Sums.{count-move, count-member, count-all}
-use Rattle.assignment.proofs.Moves.{Moved}
 use Rattle.assignment.proofs.Closed.{lands-open}
-use Rattle.assignment.proofs.Near.{Took, Offered, near-start, near-reach, near-pass, near-offer, offer-kept, offer-falls}
+use Rattle.assignment.proofs.Near.{near-start, near-reach, near-pass, near-offer, offer-kept, offer-falls}
 use Rattle.assignment.proofs.Stuck.{Stuck, stuck-is-short}
-use Rattle.path.specs.Path.{el, far, away, dearest, InList, Scene, Search, Around, CanNear, Nearest, Searched}
-use Rattle.path.proofs.Rows.{set-moved}
+use Rattle.assignment.proofs.Rows.{set-moved}
+use Rattle.path.specs.Path.{far, away, dearest, InList, Scene, Search, Around, CanNear, Nearest, Searched}
 
 or-left : (a b : Bool) → T a → T (a || b)
 or-left true b t = t

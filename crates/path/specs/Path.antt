@@ -7,23 +7,20 @@ use Prim.Native.Nat.{ℕ, _+_, _-_, _*_, _≤_, _<_, min}
 use lib.ListN.{getD, length, set}
 use Rattle.assignment.specs.Sum.{count}
 use Rattle.assignment.specs.Assignment.{Instance, In, Short}
-use Rattle.assignment.proofs.Near.{Near, Offered}
-use Rattle.assignment.proofs.Insertion.{Sound, grown}
-use Rattle.assignment.proofs.Permuted.{Permuted, ordered}
-use Rattle.assignment.proofs.Chains as chains
-use Rattle.assignment.proofs.Closed.{opened}
-use Rattle.assignment.proofs.Restricted.{restricted}
+use Rattle.assignment.specs.Rows.{el}
+use Rattle.assignment.specs.Orders.{Permuted}
+use Rattle.assignment.specs.Chains as chains
+use Rattle.assignment.specs.Instances.{grown, ordered, opened, restricted}
+use Rattle.assignment.specs.Search.{Near, Offered}
+use Rattle.assignment.specs.Insertion.{Sound}
 use Rattle.day.specs.Day.{Day, width, P, N, ofPeriod, due, rate, jump, cost, latest, land}
 use Rattle.day.proofs.Valid.{Valid}
 use Rattle.day.proofs.Instance.{instance}
 
--- rows are read at the period or the place itself; a distance that does not stand in its row is far
-abbrev pub el : List ℕ → ℕ → ℕ
-el row k = getD row k 0
-
 abbrev pub far : ℕ
 far = 4611686018427387904
 
+-- a distance that does not stand in its row is far
 abbrev pub away : List ℕ → ℕ → ℕ
 away dist k = getD dist k far
 

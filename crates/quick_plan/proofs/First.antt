@@ -8,12 +8,11 @@ use native.Mathlib.Omega.{arith}
 use lib.Dec.{T, leb, ltb, eqb, ltb→lt, lt→ltb, leb→le, le→leb, eqb→eq, eqb-refl, leb·suc-suc, not-T, T-not}
 use borrow.Author.Tests.{eq-eqb, ne-eqb}
 use Rattle.assignment.specs.Sum.{gate, sum}
-use Rattle.assignment.proofs.Tests.{gate-on, gate-off, and-T, T-and, test, lt?, eq?}
+use Rattle.assignment.proofs.Tests.{gate-on, gate-off, and-T, T-and, test, lt?, eq?, is-true as on, is-false as off, or-T, T-or-l, T-or-r}
 use Rattle.assignment.proofs.Sums.{sum-zero, sum-set, sum-ext, sum-le}
 use Rattle.day.specs.Day.{Day, N, due, rate}
 use Rattle.quick_plan.specs.Quick.{less, ahead, rank, highest}
 use Rattle.quick_plan.specs.Loop.{pick, bestTo}
-use Rattle.quick_plan.proofs.Row.{on, off, or-T, T-or-l, T-or-r}
 
 -- ---- the order
 
