@@ -8,7 +8,8 @@ use Prim.Native.Nat.{ℕ, zero, suc, _+_, _-_, _≤_, _<_}
 use lib.ListN.{length}
 use lib.Dec.{leb, ltb}
 use Rattle.assignment.specs.Sum.{gate, sum, count}
-use Rattle.day.specs.Day.{Day, P, N, due, jump, limit, missing, ofPeriod, capacity, cost, latest, Window, hold, land, landings, total}
+use Rattle.day.specs.declared.Flight.{Flight}
+use Rattle.day.specs.Day.{Day, P, N, flightCount, flightAt, due, missing, ofPeriod, capacity, cost, latest, Window, hold, land, landings, total}
 
 -- "A legal plan gives each flight one hold of 0 or more; no landing is after P+1; no hold is over its limit; no period 1 to P has more
 -- landings than its capacity."
@@ -57,13 +58,13 @@ unfoldable pub tooLong : Day → ℕ → ℕ → Bool
 tooLong d i k = ltb (P d + 1) k || ltb (latest d i) k
 
 -- a landing in period k, the m-th there, is over capacity; the closing period takes any number
-unfoldable pub overCapacity : Day → ℕ → ℕ → Bool
-overCapacity d k m = leb k (P d) && ltb (capacity d k) m
+unfoldable pub overCapacity : List ℕ → ℕ → ℕ → Bool
+overCapacity capacities k m = leb k (length capacities) && ltb (ofPeriod capacities k) m
 
 -- "For 10, walk the table: the first flight whose hold is too long, or whose period, counted with the flights before it, is over capacity."
 unfoldable pub breaks : Day → List ℕ → ℕ → Bool
 unfolding tooLong overCapacity
-breaks d holds i = tooLong d i (land d holds i) || overCapacity d (land d holds i) (count (suc i) (land d holds) (land d holds i))
+breaks d holds i = tooLong d i (land d holds i) || overCapacity (d .capacities) (land d holds i) (count (suc i) (land d holds) (land d holds i))
 
 -- the first of 0 .. n - 1 for which the test holds, or n
 unfoldable pub firstOf : ℕ → (ℕ → Bool) → ℕ
@@ -76,10 +77,10 @@ unfolding firstOf breaks
 firstBreak d holds = firstOf (N d) (breaks d holds)
 
 -- refusal 8, "a jump above 0 or a limit"
-unfoldable pub jumpOrLimit : Day → ℕ → Bool
-jumpOrLimit d i = ltb 0 (jump d i) || not (missing (limit d i))
+unfoldable pub jumpOrLimit : Flight → Bool
+jumpOrLimit f = ltb 0 (f .jump) || not (missing (f .limit))
 
 -- the table place that refusal 8 names, or N where the quick plan applies
-unfoldable pub firstJumpOrLimit : Day → ℕ
+unfoldable pub firstJumpOrLimit : List ℕ → ℕ
 unfolding firstOf jumpOrLimit
-firstJumpOrLimit d = firstOf (N d) (jumpOrLimit d)
+firstJumpOrLimit flights = firstOf (flightCount flights) (λ i. jumpOrLimit (flightAt flights i))

@@ -12,6 +12,7 @@ use Rattle.day.specs.Day.{Day, N, total, valid}
 use Rattle.day.specs.Plan.{Legal, firstBreak}
 use Rattle.day.proofs.Valid.{valid-means}
 use Rattle.legality.specs.Check.{planCheck, walked}
+use Rattle.answers.specs.declared.Answer.the-variants.{BadDay, BadLength, NotLegal}
 use Rattle.legality.specs.declared.PlanCheck.{PlanCheck}
 use Rattle.legality.specs.declared.PlanCheck.the-variants as found
 use Rattle.legality.proofs.Meaning.{walk-means}
@@ -29,7 +30,7 @@ pub record NotLegalFound (d : Day) (h : List ℕ) (place : ℕ) : Type 0 where
 
 -- the check, with its three tests laid open
 tests : (d : Day) (h : List ℕ) (v l w : Bool) → PlanCheck
-tests d h v l w = cond v (cond l (cond w (found.Legal (total d h)) (found.NotLegal (firstBreak d h))) (found.BadLength (N d))) found.BadDay
+tests d h v l w = cond v (cond l (cond w (found.Legal (total d h)) (found.Refused (NotLegal (firstBreak d h)))) (found.Refused (BadLength (N d)))) (found.Refused BadDay)
 
 module _ (d : Day) (h : List ℕ) where
   opened : planCheck d h ≡ tests d h (valid d) (eqb (length h) (N d)) (eqb (firstBreak d h) (N d))
@@ -52,7 +53,7 @@ module _ (d : Day) (h : List ℕ) where
   found-legal e = legal-at _ _ _ refl refl refl (sym opened ∙ e)
 
   not-legal-at : (v l w : Bool) → valid d ≡ v → eqb (length h) (N d) ≡ l → eqb (firstBreak d h) (N d) ≡ w → {p : ℕ}
-      → tests d h v l w ≡ found.NotLegal p → NotLegalFound d h p
+      → tests d h v l w ≡ found.Refused (NotLegal p) → NotLegalFound d h p
   unfolding tests
   not-legal-at true true false v l w e = record {
     good = v;
@@ -64,7 +65,7 @@ module _ (d : Day) (h : List ℕ) where
   not-legal-at true false _ v l w e = absurd (let z : _≡_ {A = ℕ} 0 1 = cc in omega (arith, z))
   not-legal-at false _ _ v l w e = absurd (let z : _≡_ {A = ℕ} 0 1 = cc in omega (arith, z))
 
-  pub found-not-legal : {p : ℕ} → planCheck d h ≡ found.NotLegal p → NotLegalFound d h p
+  pub found-not-legal : {p : ℕ} → planCheck d h ≡ found.Refused (NotLegal p) → NotLegalFound d h p
   found-not-legal e = not-legal-at _ _ _ refl refl refl (sym opened ∙ e)
 
   -- a legal plan of a valid day is found legal
