@@ -50,20 +50,20 @@ module _ (d : Instance) (more : ℕ) {x p q : ℕ → ℕ} (s : Sound (opened d 
   here : (i : ℕ) → i < d .n → opened d more .cost i (x i) + p (x i) ≡ d .cost i (x i) + q (x i)
   here i l = omega (arith, open-cost d more i (x i) (lands i l), same (x i) (lands i l))
 
-  -- closed periods rank above all others
-  rank : ℕ → ℕ
-  rank k = s .rank k + gate (eqb (d .cap k) 0) (suc (sum (d .n) (λ i. s .rank (x i))))
+  -- closed periods stand above all others
+  height : ℕ → ℕ
+  height k = s .height k + gate (eqb (d .cap k) 0) (suc (sum (d .n) (λ i. s .height (x i))))
 
-  rank-open : (k : ℕ) → 0 < d .cap k → rank k ≡ s .rank k
-  unfolding rank
-  rank-open k some = omega (arith, gate-ne (d .cap k) 0 (suc (sum (d .n) (λ i. s .rank (x i)))) (omega arith))
+  height-open : (k : ℕ) → 0 < d .cap k → height k ≡ s .height k
+  unfolding height
+  height-open k some = omega (arith, gate-ne (d .cap k) 0 (suc (sum (d .n) (λ i. s .height (x i)))) (omega arith))
 
-  rank-shut : (i k : ℕ) → i < d .n → d .cap k ≡ 0 → s .rank (x i) < rank k
-  unfolding rank
-  rank-shut i k l none = omega (
+  height-shut : (i k : ℕ) → i < d .n → d .cap k ≡ 0 → s .height (x i) < height k
+  unfolding height
+  height-shut i k l none = omega (
     arith,
-    gate-eq (d .cap k) 0 (suc (sum (d .n) (λ i. s .rank (x i)))) none,
-    sum-member (d .n) i (λ i. s .rank (x i)) l,
+    gate-eq (d .cap k) 0 (suc (sum (d .n) (λ i. s .height (x i)))) none,
+    sum-member (d .n) i (λ i. s .height (x i)) l,
   )
 
   pub priced : Sound d x q
@@ -85,7 +85,7 @@ module _ (d : Instance) (more : ℕ) {x p q : ℕ → ℕ} (s : Sound (opened d 
         )
       ];
     };
-    rank = rank;
+    height = height;
     held = λ k. elim (eq? (d .cap k) 0) [
       | inl none ↦ elim (low k none) [
         | inl free ↦ inl free
@@ -93,7 +93,7 @@ module _ (d : Instance) (more : ℕ) {x p q : ℕ → ℕ} (s : Sound (opened d 
           by = t .by;
           who = t .who;
           fits = t .fits;
-          lower = omega (arith, rank-open (x (t .by)) (lands (t .by) (t .who)), rank-shut (t .by) k (t .who) none);
+          lower = omega (arith, height-open (x (t .by)) (lands (t .by) (t .who)), height-shut (t .by) k (t .who) none);
           tie = omega (arith, t .tie, same (x (t .by)) (lands (t .by) (t .who)));
         })
       ]
@@ -103,7 +103,7 @@ module _ (d : Instance) (more : ℕ) {x p q : ℕ → ℕ} (s : Sound (opened d 
           by = a .by;
           who = a .who;
           fits = record { from = a .fits .from; to = a .fits .to };
-          lower = omega (arith, a .lower, rank-open k (omega arith), rank-open (x (a .by)) (lands (a .by) (a .who)));
+          lower = omega (arith, a .lower, height-open k (omega arith), height-open (x (a .by)) (lands (a .by) (a .who)));
           tie = omega (arith, a .tie, here (a .by) (a .who), open-cost d more (a .by) k (omega arith), same k (omega arith));
         })
       ]

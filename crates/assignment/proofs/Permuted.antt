@@ -107,7 +107,7 @@ module _ (d : Instance) {π : ℕ → ℕ} (q : Permuted (d .n) π) where
       legal = record {
         window = λ i l.
             let h = permuted-stands q i l in
-            rw (h .is) at (turn (h .at) (rw (same (h .at) (h .in-row)) at (said .legal .window (h .at) (h .in-row))));
+            rw (h .is) at (renamed (h .at) (rw (same (h .at) (h .in-row)) at (said .legal .window (h .at) (h .in-row))));
         room = λ k. omega (arith, said .legal .room k, counts k);
       };
       unsold = λ k free. said .unsold k (omega (arith, counts k));
@@ -116,8 +116,8 @@ module _ (d : Instance) {π : ℕ → ℕ} (q : Permuted (d .n) π) where
           rw (h .is) at (pays (h .at) k (h .in-row) (rw (← (h .is)) at w));
     }
       where
-        turn : (s : ℕ) → In d′ s (x (π s)) → In d (π s) (x (π s))
-        turn s w = record { from = w .from; to = w .to }
+        renamed : (s : ℕ) → In d′ s (x (π s)) → In d (π s) (x (π s))
+        renamed s w = record { from = w .from; to = w .to }
 
         pays : (s k : ℕ) → s < d .n → In d (π s) k → d .cost (π s) (x (π s)) + p (x (π s)) ≤ d .cost (π s) k + p k
         pays s k l w = rw (same s l) at (said .best s k l (record { from = w .from; to = w .to }))
@@ -208,14 +208,14 @@ module _ (d : Instance) {n : ℕ} {σ : ℕ → ℕ} (π π₂ x y : ℕ → ℕ
         s .accepted .best (σ i) k (q .below i l) (record { from = omega (arith, w .from, from l refl); to = omega (arith, w .to, to l refl) }),
       );
     };
-    rank = s .rank;
+    height = s .height;
     held = λ k. elim (s .held k) [
       | inl none ↦ inl none
       | inr a ↦ inr (linked a (permuted-stands q (a .by) (a .who)))
     ];
   }
     where
-      linked : {k : ℕ} (a : Link (ordered d π n) x p (s .rank) k) → Stands n σ (a .by) → Link (ordered d π₂ n) y p (s .rank) k
+      linked : {k : ℕ} (a : Link (ordered d π n) x p (s .height) k) → Stands n σ (a .by) → Link (ordered d π₂ n) y p (s .height) k
       linked {k} a h = record {
         by = h .at;
         who = h .in-row;

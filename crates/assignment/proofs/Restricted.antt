@@ -58,7 +58,7 @@ module _ (d : Instance) (f : ℕ) where
         unsold = s .accepted .unsold;
         best = λ i k l w. s .accepted .best i k l (wider-in w);
       };
-      rank = s .rank;
+      height = s .height;
       held = λ k. elim (s .held k) [
         | inl e ↦ inl e
         | inr a ↦ inr (record {
@@ -81,7 +81,7 @@ module _ (d : Instance) (f : ℕ) where
         | inr a ↦ omega (arith, s .accepted .best i f l (a .0), rise .dearer i f k l (wider-in (a .0)) w some (a .1))
       ];
     };
-    rank = s .rank;
+    height = s .height;
     held = λ k. elim (s .held k) [
       | inl e ↦ inl e
       | inr a ↦ inr (record { by = a .by; who = a .who; fits = wider-in (a .fits); lower = a .lower; tie = a .tie })

@@ -17,13 +17,13 @@ use Rattle.assignment.proofs.Tests.{and-T, eq?, is-false as off}
 use Rattle.assignment.proofs.Sums.{sum-ext}
 use Rattle.day.specs.Day.{Day, P, N, due, capacity, land, valid}
 use Rattle.day.proofs.Valid.{valid-means}
-use Rattle.quick_plan.specs.Quick.{ahead, rank, highest, eligible, operates, lands, quick}
+use Rattle.quick_plan.specs.Quick.{ahead, goingBefore, highest, eligible, operates, lands, quick}
 use Rattle.quick_plan.specs.Loop.{waiting, top, put, landAll, rowTo}
 use Rattle.quick_plan.proofs.First.{without, Found, found, first-step, first-in, first-none}
 use Rattle.quick_plan.proofs.Plan.{eligible-is, lands-by}
 
 pub first-ext : (d : Day) (m : ℕ) (a b : ℕ → Bool) → ((k : ℕ) → k < N d → a k ≡ b k) → (i : ℕ) → i < N d → highest d m a i ≡ highest d m b i
-unfolding highest rank
+unfolding highest goingBefore
 first-ext d m a b h i l = rw (h i l, sum-ext (N d) (λ k. gate (a k && ahead d k i) 1) (λ k. gate (b k && ahead d k i) 1) (λ k o. ap (λ x. gate (x && ahead d k i) 1) (h k o)))
 
 first-absent : (d : Day) (m : ℕ) (e : ℕ → Bool) (i : ℕ) → (T (e i) → ⊥) → highest d m e i ≡ false

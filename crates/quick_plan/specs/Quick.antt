@@ -17,12 +17,12 @@ unfoldable pub ahead : Day → ℕ → ℕ → Bool
 ahead d k i = less (rate d i) (rate d k) (less (due d k) (due d i) (ltb k i))
 
 -- how many flights of a set go before flight i
-unfoldable pub rank : Day → (ℕ → Bool) → ℕ → ℕ
-rank d set i = sum (N d) (λ k. gate (set k && ahead d k i) 1)
+unfoldable pub goingBefore : Day → (ℕ → Bool) → ℕ → ℕ
+goingBefore d set i = sum (N d) (λ k. gate (set k && ahead d k i) 1)
 
 -- flight i is one of the m flights of a set that go first: "The capacity's number of highest rates land, or all if fewer."
 unfoldable pub highest : Day → ℕ → (ℕ → Bool) → ℕ → Bool
-highest d m set i = set i && ltb (rank d set i) m
+highest d m set i = set i && ltb (goingBefore d set i) m
 
 -- the report's E: "Eligible in j: due in j, or eligible in j−1 and not landed there." None is in period 0.
 unfoldable pub eligible : Day → ℕ → ℕ → Bool
