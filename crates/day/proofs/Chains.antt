@@ -13,8 +13,8 @@ use borrow.Author.Tests.{eq-eqb, ne-eqb}
 use Rattle.assignment.proofs.Tests.{eq?, lt?}
 use Rattle.assignment.proofs.Moves.{Moved}
 use Rattle.assignment.proofs.Chains.{Newest, chained-start, chained-add}
-use Rattle.day.specs.Day.{column, width, all}
-use Rattle.day.specs.Chains.{chains, chain, ownNumber, Linked, Passed}
+use Rattle.day.specs.Day.{column, width, all, isNew}
+use Rattle.day.specs.Chains.{chains, chain, Linked, Passed}
 use Rattle.day.proofs.Tests.{all-next, all-from, all-not}
 
 -- ---- the walk up a chain
@@ -47,8 +47,8 @@ module _ {f nearest above : List ℕ} {i x : ℕ} where
       walk-at rows linked own i (omega arith) (λ s from l. absurd (omega arith)) (rw (h, e, own) (linked .chained .heads (chain f i) (mod-lt _ (omega arith))))
 
   module _ {r : ℕ} (w : Walking f nearest above i x r) (more : 0 < r) where
-    pub walk-not : {y : ℕ} → y ≡ column 0 f (r - 1) → y ≡ x → false ≡ ownNumber f i
-    unfolding ownNumber
+    pub walk-not : {y : ℕ} → y ≡ column 0 f (r - 1) → y ≡ x → false ≡ isNew f i
+    unfolding isNew
     walk-not at e = sym (all-not i _ (r - 1) (omega arith) (rw (eq-eqb (column 0 f (r - 1)) (column 0 f i) (sym at ∙ e ∙ w .own))))
 
     module _ {s : ℕ} (link : s ≡ getD above (r - 1) 0) where
@@ -62,8 +62,8 @@ module _ {f nearest above : List ℕ} {i x : ℕ} where
       walk-next at o = walk-at (w .rows) (w .linked) (w .own) (r - 1) (omega arith)
           (λ k from l. elim (eq? k (r - 1)) [ inl e ↦ λ z. o (at ∙ ap (column 0 f) (sym e) ∙ z) | inr g ↦ w .rest k (omega arith) l ]) next-entry
 
-  pub walk-end : {r : ℕ} → Walking f nearest above i x r → r ≡ 0 → true ≡ ownNumber f i
-  unfolding ownNumber
+  pub walk-end : {r : ℕ} → Walking f nearest above i x r → r ≡ 0 → true ≡ isNew f i
+  unfolding isNew
   walk-end w e = sym (all-from i _ (λ s l. rw (ne-eqb (column 0 f s) (column 0 f i) (λ z. w .rest s (omega arith) l (z ∙ sym (w .own))))))
 
 -- ---- the pass
@@ -87,10 +87,10 @@ stored : (l : List ℕ) (k v : ℕ) → k < length l → Moved (λ s. getD l s 0
 stored l k v b = record { here = getD-set-same l k v 0 b; others = λ o e. getD-set-other l k o v 0 e }
 
 module _ {f nearest above : List ℕ} {n i : ℕ} (p : Passed f n nearest above i) (more : i < n) where
-  pub pass-not : {t : Bool} → t ≡ ownNumber f i → t ≡ false → false ≡ all n (ownNumber f)
-  pass-not e s = sym (all-not n (ownNumber f) i more (sym e ∙ s))
+  pub pass-not : {t : Bool} → t ≡ isNew f i → t ≡ false → false ≡ all n (isNew f)
+  pass-not e s = sym (all-not n (isNew f) i more (sym e ∙ s))
 
-  pub pass-next : {q : ℕ} → q ≡ chain f i → q < chains → {t : Bool} → t ≡ ownNumber f i → t ≡ true
+  pub pass-next : {q : ℕ} → q ≡ chain f i → q < chains → {t : Bool} → t ≡ isNew f i → t ≡ true
       → Passed f n (set nearest q (i + 1)) (set above i (getD nearest q 0)) (i + 1)
   pass-next {q} e inside t s = record {
     rows = p .rows;
@@ -102,8 +102,8 @@ module _ {f nearest above : List ℕ} {n i : ℕ} (p : Passed f n nearest above 
       few = omega arith;
       chained = chained-add (p .linked .chained) inside (λ s l. refl) (sym e) (stored nearest q (i + 1) (omega arith)) (stored above i (getD nearest q 0) (omega arith));
     };
-    own = all-next i (ownNumber f) (p .own) (sym t ∙ s);
+    own = all-next i (isNew f) (p .own) (sym t ∙ s);
   }
 
-pub pass-end : {f nearest above : List ℕ} {n i : ℕ} → Passed f n nearest above i → n ≤ i → true ≡ all n (ownNumber f)
-pass-end {f} p l = sym (ap (λ k. all k (ownNumber f)) (omega arith) ∙ p .own)
+pub pass-end : {f nearest above : List ℕ} {n i : ℕ} → Passed f n nearest above i → n ≤ i → true ≡ all n (isNew f)
+pass-end {f} p l = sym (ap (λ k. all k (isNew f)) (omega arith) ∙ p .own)

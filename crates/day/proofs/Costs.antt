@@ -10,8 +10,8 @@ use lib.Dec.{ltb}
 use lib.ListN.{length, getD, List·getD-eq-default}
 use borrow.Author.Tests.{lt-ltb, le-ltb, eq-eqb, ne-eqb}
 use Rattle.assignment.specs.Sum.{gate}
-use Rattle.assignment.proofs.Tests.{lt?, gate-lt, gate-ge}
-use Rattle.day.specs.Day.{Day, P, due, rate, after, jump, limit, ofPeriod, holdCost, cost, latest}
+use Rattle.assignment.proofs.Tests.{lt?, gate-lt, gate-ge, gate-eq, gate-ne}
+use Rattle.day.specs.Day.{Day, P, due, rate, after, jump, limit, ofPeriod, takes, flightAt, holdCost, cost, latestOf, latest}
 
 -- ---- rows by period
 
@@ -22,15 +22,30 @@ period-in row (suc k) h = let e : k ≡ suc k - 1 = omega arith in ap (λ z. get
 pub period-out : (row : List ℕ) (k : ℕ) → length row < k → ofPeriod row k ≡ 0
 period-out row k h = List·getD-eq-default (0 ∷ row) 0 h
 
+-- ---- what a period takes
+
+module _ (capacities : List ℕ) where
+  pub takes-other : (k : ℕ) → k ≢ length capacities + 1 → takes capacities k ≡ ofPeriod capacities k
+  unfolding takes
+  takes-other k other = omega (arith, gate-ne k (length capacities + 1) 256 other)
+
+  pub takes-in : (k : ℕ) → k ≤ length capacities → takes capacities k ≡ ofPeriod capacities k
+  takes-in k l = takes-other k (omega arith)
+
+  pub takes-closing : takes capacities (length capacities + 1) ≡ 256
+  unfolding takes
+  takes-closing =
+      omega (arith, gate-eq (length capacities + 1) (length capacities + 1) 256 refl, period-out capacities (length capacities + 1) (omega arith))
+
 -- ---- costs
 
 module _ (d : Day) (i h : ℕ) where
   pub cost-over : after d i < h → cost d i h ≡ rate d i * h + jump d i
-  unfolding holdCost
+  unfolding holdCost flightAt
   cost-over l = rw (lt-ltb (after d i) h l)
 
   pub cost-under : h ≤ after d i → cost d i h ≡ rate d i * h
-  unfolding holdCost
+  unfolding holdCost flightAt
   cost-under l = rw (le-ltb (after d i) h l) (omega arith)
 
 -- a longer hold costs no less
@@ -42,12 +57,12 @@ jump-rises a s t v l = elim (lt? a s) [
 
 module _ (d : Day) (i s t : ℕ) where
   pub cost-rises : s ≤ t → cost d i s ≤ cost d i t
-  unfolding holdCost
+  unfolding holdCost flightAt
   cost-rises l = omega (arith, mul-le-mul-left (rate d i) l, jump-rises (after d i) s t (jump d i) l)
 
   -- and costs more, where the rate is not 0
   pub cost-grows : 1 ≤ rate d i → s < t → cost d i s < cost d i t
-  unfolding holdCost
+  unfolding holdCost flightAt
   cost-grows pos l = omega (arith, mul-le-mul-left (rate d i) l, jump-rises (after d i) s t (jump d i) (omega arith))
 
 -- a product of two numbers of 32 bits, and one more such number, fit 64 bits
@@ -58,9 +73,9 @@ product-fits a b c x y z = omega (arith, mul-le-mul {n₁ = a} {m₁ = b} {n₂ 
 
 module _ (d : Day) (i : ℕ) where
   pub latest-missing : limit d i ≡ 255 → latest d i ≡ P d + 1
-  unfolding latest
+  unfolding latestOf flightAt
   latest-missing e = rw (eq-eqb (limit d i) 255 e)
 
   pub latest-given : limit d i ≢ 255 → latest d i ≡ due d i + limit d i
-  unfolding latest
+  unfolding latestOf flightAt
   latest-given e = rw (ne-eqb (limit d i) 255 e)

@@ -14,11 +14,12 @@ use Rattle.assignment.specs.Assignment as A
 use Rattle.assignment.proofs.Tests.{lt?, eq?, gate-on, gate-le}
 use Rattle.assignment.proofs.Sums.{sum-most, sum-member, count-ext}
 use Rattle.assignment.proofs.Existence as existence
-use Rattle.day.specs.Day.{Day, P, N, due, limit, land}
+use Rattle.day.specs.Day.{Day, P, N, due, limit, takes, land}
 use Rattle.day.specs.Plan.{Legal, Short, Picked}
-use Rattle.day.proofs.Costs.{latest-missing, latest-given}
-use Rattle.day.proofs.Valid.{Valid}
-use Rattle.day.proofs.Instance.{instance, last, places, places-closing, instance-legal, instance-short, short-has-no-plan}
+use Rattle.day.proofs.Costs.{takes-closing, latest-missing, latest-given}
+use Rattle.day.specs.Valid.{Valid}
+use Rattle.day.specs.Instance.{instance, last}
+use Rattle.day.proofs.Instance.{instance-legal, instance-short, short-has-no-plan}
 
 pub record HasPlan (d : Day) : Type 0 where
   pub holds : List ℕ
@@ -80,10 +81,10 @@ module _ {d : Day} (v : Valid d) where
         absurd (omega (
           arith,
           s .short,
-          sum-member (b + 1) b (λ k. gate (leb a k) (places d k)) (omega arith),
-          gate-on (leb a b) (places d b) (le→leb a b stretch),
-          ap (places d) e,
-          places-closing d,
+          sum-member (b + 1) b (λ k. gate (leb a k) (takes (d .capacities) k)) (omega arith),
+          gate-on (leb a b) (takes (d .capacities) b) (le→leb a b stretch),
+          ap (takes (d .capacities)) e,
+          takes-closing (d .capacities),
           sum-most (N d) 1 (λ i. gate (leb a (due d i) && leb (last d i) b) 1)
               (λ i l. gate-le (leb a (due d i) && leb (last d i) b) 1 1 (λ t. omega arith)),
           v .flights-to,

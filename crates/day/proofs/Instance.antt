@@ -12,50 +12,20 @@ use lib.ListN.{length}
 use lib.Dec.{leb, eqb}
 use Rattle.assignment.specs.Sum.{gate, count}
 use Rattle.assignment.specs.Assignment as A
-use Rattle.assignment.proofs.Tests.{lt?, eq?, gate-eq, gate-ne}
+use Rattle.assignment.proofs.Tests.{lt?, eq?, gate-ne}
 use Rattle.assignment.proofs.Sums.{sum-ext, sum-zero, sum-most, count-le}
 use Rattle.assignment.proofs.Duality as duality
 use Rattle.assignment.proofs.Stretch as stretch
-use Rattle.day.specs.Day.{Day, P, N, due, rate, after, ofPeriod, capacity, cost, latest, Window, hold, land, total}
+use Rattle.day.specs.Day.{Day, P, N, due, rate, after, ofPeriod, capacity, takes, cost, latest, Window, hold, land, totalOf, total}
 use Rattle.day.specs.Plan.{Legal, Cheapest, Accepted, mustLand, room, Short}
 use borrow.Author.Tests.{le-leb, lt-leb}
-use Rattle.day.proofs.Costs.{period-out, cost-over, cost-under}
-use Rattle.day.proofs.Valid.{Valid}
-
--- the last period of flight i's window
-unfoldable pub last : Day → ℕ → ℕ
-last d i = min (latest d i) (P d + 1)
-
-pub last-to : (d : Day) (i : ℕ) → last d i ≤ P d + 1
-unfolding last
-last-to d i = omega arith
+use Rattle.day.proofs.Costs.{takes-in, takes-closing, period-out, cost-over, cost-under}
+use Rattle.day.specs.Valid.{Valid}
+use Rattle.day.specs.Instance.{last, last-to, instance}
 
 pub last-latest : (d : Day) (i : ℕ) → last d i ≤ latest d i
 unfolding last
 last-latest d i = omega arith
-
--- how many may land in period k
-unfoldable pub places : Day → ℕ → ℕ
-places d k = capacity d k + gate (eqb k (P d + 1)) 256
-
-abbrev pub instance : Day → A.Instance
-instance d = record {
-  n = N d;
-  m = P d + 2;
-  lo = due d;
-  hi = last d;
-  cost = λ i k. cost d i (k - due d i);
-  cap = places d;
-  within = λ i. omega (arith, last-to d i);
-}
-
-pub places-in : (d : Day) (k : ℕ) → k ≤ P d → places d k ≡ capacity d k
-unfolding places
-places-in d k l = omega (arith, gate-ne k (P d + 1) 256 (omega arith))
-
-pub places-closing : (d : Day) → places d (P d + 1) ≡ 256
-unfolding places
-places-closing d = omega (arith, gate-eq (P d + 1) (P d + 1) 256 refl, period-out (d .capacities) (P d + 1) (omega arith))
 
 -- ---- windows
 
@@ -78,21 +48,21 @@ hold-of : (d : Day) (h : List ℕ) (i : ℕ) → land d h i - due d i ≡ hold h
 hold-of d h i = omega arith
 
 pub total-instance : (d : Day) (h : List ℕ) → A.total (instance d) (land d h) ≡ total d h
-unfolding A.total total
+unfolding A.total totalOf
 total-instance d h = sum-ext (N d) (λ i. cost d i (land d h i - due d i)) (λ i. cost d i (hold h i)) (λ i l. ap (cost d i) (hold-of d h i))
 
 module _ {d : Day} (v : Valid d) {h : List ℕ} where
   pub legal-instance : Legal d h → A.Legal (instance d) (land d h)
   legal-instance legal = record { window = λ i l. window-in (legal .window i l); room = fits }
     where
-      fits : (k : ℕ) → count (N d) (land d h) k ≤ places d k
+      fits : (k : ℕ) → count (N d) (land d h) k ≤ takes (d .capacities) k
       fits k = elim (lt? (P d) k) [
         | inr in-day ↦ elim (lt? 0 k) [
-          | inl some ↦ omega (arith, places-in d k in-day, legal .room k some in-day)
+          | inl some ↦ omega (arith, takes-in (d .capacities) k in-day, legal .room k some in-day)
           | inr none ↦ omega (arith, count-out (N d) (land d h) k (λ i l. omega (arith, v .flight i l .due-from)))
         ]
         | inl past ↦ elim (eq? k (P d + 1)) [
-          | inl closing ↦ rw closing (omega (arith, places-closing d, count-le (N d) (land d h) (P d + 1), v .flights-to))
+          | inl closing ↦ rw closing (omega (arith, takes-closing (d .capacities), count-le (N d) (land d h) (P d + 1), v .flights-to))
           | inr out ↦ omega (arith, count-out (N d) (land d h) k (λ i l. omega (arith, legal .window i l .closing)))
         ]
       ]
@@ -101,7 +71,7 @@ module _ {d : Day} (v : Valid d) {h : List ℕ} where
   instance-legal each legal = record {
     each = each;
     window = λ i l. in-window (legal .window i l);
-    room = λ k a b. omega (arith, places-in d k b, legal .room k);
+    room = λ k a b. omega (arith, takes-in (d .capacities) k b, legal .room k);
   }
 
   module _ {p : List ℕ} where
@@ -112,10 +82,10 @@ module _ {d : Day} (v : Valid d) {h : List ℕ} where
       best = λ i k l w. rw (hold-of d h i) (said .least i k l (in-window w));
     }
       where
-        unsold : (k : ℕ) → count (N d) (land d h) k < places d k → ofPeriod p k ≡ 0
+        unsold : (k : ℕ) → count (N d) (land d h) k < takes (d .capacities) k → ofPeriod p k ≡ 0
         unsold zero less = refl
         unsold (suc k) less = elim (lt? k (P d)) [
-          | inl in-day ↦ said .unsold (suc k) (omega arith) in-day (omega (arith, places-in d (suc k) in-day))
+          | inl in-day ↦ said .unsold (suc k) (omega arith) in-day (omega (arith, takes-in (d .capacities) (suc k) in-day))
           | inr past ↦ period-out p (suc k) (omega (arith, said .each))
         ]
 
@@ -123,7 +93,7 @@ module _ {d : Day} (v : Valid d) {h : List ℕ} where
     instance-accepted holds prices said = record {
       legal = instance-legal holds (said .legal);
       each = prices;
-      unsold = λ k a b less. said .unsold k (omega (arith, places-in d k b));
+      unsold = λ k a b less. said .unsold k (omega (arith, takes-in (d .capacities) k b));
       least = λ i k l w. rw (hold-of d h i) at (said .best i k l (window-in w));
     }
 
@@ -144,7 +114,7 @@ accepted-is-cheapest {d} {h} {p} v said = record {
 module _ (d : Day) (a b : ℕ) (to : b ≤ P d) where
   same-room : A.room (instance d) a b ≡ room d a b
   unfolding A.room room
-  same-room = sum-ext (b + 1) (λ k. gate (leb a k) (places d k)) (λ k. gate (leb a k) (capacity d k)) (λ k l. ap (gate (leb a k)) (places-in d k (omega arith)))
+  same-room = sum-ext (b + 1) (λ k. gate (leb a k) (takes (d .capacities) k)) (λ k. gate (leb a k) (capacity d k)) (λ k l. ap (gate (leb a k)) (takes-in (d .capacities) k (omega arith)))
 
   -- a window ends by b, at most P, exactly where the limit says so
   same-end : (i : ℕ) → leb (last d i) b ≡ leb (latest d i) b
@@ -185,5 +155,5 @@ module _ {d : Day} (v : Valid d) where
 
   -- "The total is the sum over flights, never above 250,880,000."
   pub total-le : {h : List ℕ} → Legal d h → total d h ≤ 250880000
-  unfolding total
+  unfolding totalOf
   total-le {h} legal = omega (arith, sum-most (N d) 1960000 (λ i. cost d i (hold h i)) (λ i l. cost-le i (hold h i) l (hold-le legal l)), v .flights-to)

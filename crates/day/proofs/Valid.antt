@@ -7,56 +7,36 @@ use Prim.Native.Nat.{ℕ, _*_, _≤_, _<_}
 use lib.ListN.{length, getD}
 use lib.Dec.{leb}
 use borrow.Author.Tests.{le-leb, lt-leb, eq-eqb, ne-eqb, leb-true, eqb-true, eqb-false, not-true}
-use Rattle.day.specs.Day.{Day, P, N, number, due, rate, after, jump, limit, missing, all, inside, numbersFit, inRange, isNew, valid, width}
+use Rattle.day.specs.Day.{Day, P, N, mostPeriods, mostFlights, number, due, rate, after, jump, limit, missing, all, inside, flightAt, flightFits, inRange, isNew, valid, width}
+use Rattle.day.specs.Valid.{InRange, Valid}
 use Rattle.day.proofs.Tests.{all-at, all-from, and-true, true-and, and-assoc}
 
 -- ---- the whole check, in its order
 
 module _ (d : Day) where
-  pub valid-not-periods : inside 1 96 (P d) ≡ false → false ≡ valid d
+  pub valid-not-periods : inside 1 mostPeriods (P d) ≡ false → false ≡ valid d
   unfolding valid
   valid-not-periods e = rw e
 
-  module _ (periods : inside 1 96 (P d) ≡ true) where
+  module _ (periods : inside 1 mostPeriods (P d) ≡ true) where
     pub valid-not-whole : (length (d .flights) ≡ N d * width → ⊥) → false ≡ valid d
     unfolding valid
     valid-not-whole e = rw (periods, ne-eqb (length (d .flights)) (N d * width) e)
 
     module _ (whole : length (d .flights) ≡ N d * width) where
-      pub valid-not-few : 128 < N d → false ≡ valid d
+      pub valid-not-few : mostFlights < N d → false ≡ valid d
       unfolding valid
-      valid-not-few e = rw (periods, eq-eqb (length (d .flights)) (N d * width) whole, lt-leb (N d) 128 e)
+      valid-not-few e = rw (periods, eq-eqb (length (d .flights)) (N d * width) whole, lt-leb (N d) mostFlights e)
 
   -- the rest of the check, with what its parts found
-  pub valid-made : inside 1 96 (P d) ≡ true → {n : ℕ} → n ≡ N d → length (d .flights) ≡ n * width → n ≤ 128 → {x y r : Bool}
-      → x ≡ all (P d) (λ k. leb (getD (d .capacities) k 0) 255) → y ≡ (all n (inRange d) && all n (isNew d)) → r ≡ (x && y) → r ≡ valid d
+  pub valid-made : inside 1 mostPeriods (P d) ≡ true → {n : ℕ} → n ≡ N d → length (d .flights) ≡ n * width → n ≤ mostFlights → {x y r : Bool}
+      → x ≡ all (P d) (λ k. leb (getD (d .capacities) k 0) 255) → y ≡ (all n (inRange (P d) (d .flights)) && all n (isNew (d .flights))) → r ≡ (x && y) → r ≡ valid d
   unfolding valid
   valid-made periods e whole few caps fits both =
-      rw (both, caps, fits, e, periods, eq-eqb (length (d .flights)) (N d * width) (rw e at whole), le-leb (N d) 128 (rw e at few))
-      (and-assoc (all (P d) (λ k. leb (getD (d .capacities) k 0) 255)) (all (N d) (inRange d)) (all (N d) (isNew d)))
+      rw (both, caps, fits, e, periods, eq-eqb (length (d .flights)) (N d * width) (rw e at whole), le-leb (N d) mostFlights (rw e at few))
+      (and-assoc (all (P d) (λ k. leb (getD (d .capacities) k 0) 255)) (all (N d) (inRange (P d) (d .flights))) (all (N d) (isNew (d .flights))))
 
 -- ---- what a day that passes is
-
--- the numbers of one flight
-pub record InRange (d : Day) (i : ℕ) : Type 0 where
-  pub number-from : 1 ≤ number d i
-  pub number-to : number d i ≤ 9999
-  pub due-from : 1 ≤ due d i
-  pub due-to : due d i ≤ P d
-  pub rate-from : 1 ≤ rate d i
-  pub rate-to : rate d i ≤ 10000
-  pub after-to : after d i ≤ 96
-  pub jump-to : jump d i ≤ 1000000
-  pub limit-to : (limit d i ≤ 96) ⊎ (limit d i ≡ 255)
-
-pub record Valid (d : Day) : Type 0 where
-  pub periods-from : 1 ≤ P d
-  pub periods-to : P d ≤ 96
-  pub whole : length (d .flights) ≡ N d * width
-  pub flights-to : N d ≤ 128
-  pub capacity-to : (k : ℕ) → k < P d → getD (d .capacities) k 0 ≤ 255
-  pub flight : (i : ℕ) → i < N d → InRange d i
-  pub distinct : (i j : ℕ) → i < N d → j < i → number d j ≢ number d i
 
 pub inside-means : (a b x : ℕ) → inside a b x ≡ true → (a ≤ x) × (x ≤ b)
 inside-means a b x e = let t = and-true e in (leb-true a x (t .0), leb-true x b (t .1))
@@ -65,8 +45,8 @@ or-true : (a b : Bool) → (a || b) ≡ true → (a ≡ true) ⊎ (b ≡ true)
 or-true true b e = inl refl
 or-true false b e = inr e
 
-range-means : (d : Day) (i : ℕ) → inRange d i ≡ true → InRange d i
-unfolding numbersFit
+range-means : (d : Day) (i : ℕ) → inRange (P d) (d .flights) i ≡ true → InRange d i
+unfolding flightFits flightAt
 range-means d i e =
     let limits = and-true e in
     let jumps = and-true (limits .0) in
@@ -99,12 +79,12 @@ valid-means {d} e =
     let caps = and-true (ranges .0) in
     let few = and-true (caps .0) in
     let wholes = and-true (few .0) in
-    let periods = inside-means 1 96 (P d) (wholes .0) in
+    let periods = inside-means 1 mostPeriods (P d) (wholes .0) in
     record {
       periods-from = periods .0;
       periods-to = periods .1;
       whole = eqb-true (length (d .flights)) (N d * width) (wholes .1);
-      flights-to = leb-true (N d) 128 (few .1);
+      flights-to = leb-true (N d) mostFlights (few .1);
       capacity-to = λ k l. leb-true _ 255 (all-at (P d) _ (caps .1) k l);
       flight = λ i l. range-means d i (all-at (N d) _ (ranges .1) i l);
       distinct = λ i j l b. eqb-false _ _ (not-true _ (all-at i _ (all-at (N d) _ (numbers .1) i l) j b));
@@ -119,8 +99,8 @@ or-right : (a b : Bool) → b ≡ true → (a || b) ≡ true
 or-right true b e = refl
 or-right false b e = e
 
-range-from : (d : Day) (i : ℕ) → InRange d i → inRange d i ≡ true
-unfolding numbersFit
+range-from : (d : Day) (i : ℕ) → InRange d i → inRange (P d) (d .flights) i ≡ true
+unfolding flightFits flightAt
 range-from d i r =
     let number-in = inside-from 1 9999 (number d i) (r .number-from) (r .number-to) in
     let due-in = inside-from 1 (P d) (due d i) (r .due-from) (r .due-to) in
@@ -134,17 +114,17 @@ range-from d i r =
     true-and (true-and (true-and (true-and (true-and number-in due-in) rate-in) after-in) jump-in) limit-in
 
 -- no lower table place has the flight's number
-new-from : (d : Day) (i : ℕ) → ((j : ℕ) → j < i → number d j ≢ number d i) → isNew d i ≡ true
+new-from : (d : Day) (i : ℕ) → ((j : ℕ) → j < i → number d j ≢ number d i) → isNew (d .flights) i ≡ true
 unfolding isNew
 new-from d i differ = all-from i _ (λ j l. rw (ne-eqb (number d j) (number d i) (differ j l)))
 
 pub means-valid : {d : Day} → Valid d → valid d ≡ true
 unfolding valid
 means-valid {d} v =
-    let periods = inside-from 1 96 (P d) (v .periods-from) (v .periods-to) in
+    let periods = inside-from 1 mostPeriods (P d) (v .periods-from) (v .periods-to) in
     let whole = eq-eqb (length (d .flights)) (N d * width) (v .whole) in
-    let few = le-leb (N d) 128 (v .flights-to) in
+    let few = le-leb (N d) mostFlights (v .flights-to) in
     let caps = all-from (P d) (λ k. leb (getD (d .capacities) k 0) 255) (λ k l. le-leb (getD (d .capacities) k 0) 255 (v .capacity-to k l)) in
-    let ranges = all-from (N d) (inRange d) (λ i l. range-from d i (v .flight i l)) in
-    let numbers = all-from (N d) (isNew d) (λ i l. new-from d i (λ j b. v .distinct i j l b)) in
+    let ranges = all-from (N d) (inRange (P d) (d .flights)) (λ i l. range-from d i (v .flight i l)) in
+    let numbers = all-from (N d) (isNew (d .flights)) (λ i l. new-from d i (λ j b. v .distinct i j l b)) in
     true-and (true-and (true-and (true-and (true-and periods whole) few) caps) ranges) numbers

@@ -1,13 +1,12 @@
 -- The search for a repeated flight number: flights chained by the residue of their number. Only private contracts cite it.
 -- Assumes nothing.
 use mathlib.Core.Path.{_≡_}
-use mathlib.Core.Bool.{Bool, true, not}
+use mathlib.Core.Bool.{true}
 use mathlib.Core.List.{List}
 use Prim.Native.Nat.{ℕ, _*_, _%_, _≤_}
 use lib.ListN.{length, getD}
-use lib.Dec.{eqb}
 use Rattle.assignment.proofs.Chains.{Chained}
-use Rattle.day.specs.Day.{column, width, all}
+use Rattle.day.specs.Day.{column, width, mostFlights, all, isNew}
 
 -- how many chains there are; a flight stands in that of its number's residue
 abbrev pub chains : ℕ
@@ -16,22 +15,17 @@ chains = 256
 abbrev pub chain : List ℕ → ℕ → ℕ
 chain flights i = column 0 flights i % chains
 
--- `isNew`, of the flights alone
-unfoldable pub ownNumber : List ℕ → ℕ → Bool
-unfolding all
-ownNumber flights i = all i (λ j. not (eqb (column 0 flights j) (column 0 flights i)))
-
 -- the rows chain the flights above table place i
 pub record Linked (flights nearest above : List ℕ) (i : ℕ) : Type 0 where
   pub heads : length nearest ≡ chains
-  pub places : length above ≡ 128
-  pub few : i ≤ 128
+  pub places : length above ≡ mostFlights
+  pub few : i ≤ mostFlights
   pub chained : Chained (chain flights) chains (λ q. getD nearest q 0) (λ s. getD above s 0) i
 
 -- the flights above table place i, of n, are chained and have numbers of their own
 pub record Passed (flights : List ℕ) (n : ℕ) (nearest above : List ℕ) (i : ℕ) : Type 0 where
   pub rows : n * width ≤ length flights
-  pub most : n ≤ 128
+  pub most : n ≤ mostFlights
   pub upto : i ≤ n
   pub linked : Linked flights nearest above i
-  pub own : all i (ownNumber flights) ≡ true
+  pub own : all i (isNew flights) ≡ true

@@ -3,9 +3,18 @@
 use mathlib.Core.Bool.{Bool, true, cond, not, _&&_, _||_}
 use mathlib.Core.List.{List, _∷_}
 use Prim.Native.Nat.{ℕ, zero, suc, _+_, _*_, _/_, _≤_}
+use denote.Ref.{RefT, now}
 use lib.ListN.{length, getD}
 use lib.Dec.{leb, ltb, eqb}
 use Rattle.assignment.specs.Sum.{gate, sum, count}
+use Rattle.day.specs.declared.Flight.{Flight}
+
+-- "P is 1 to 96, N is 0 to 128"
+abbrev pub mostPeriods : ℕ
+mostPeriods = 96
+
+abbrev pub mostFlights : ℕ
+mostFlights = 128
 
 -- "In memory a day is two lent rows": P capacities, and six numbers a flight in sheet order
 pub record Day : Type 0 where
@@ -14,6 +23,10 @@ pub record Day : Type 0 where
 
 abbrev pub day : List ℕ → List ℕ → Day
 day capacities flights = record { capacities = capacities; flights = flights }
+
+-- the day in two rows as they are lent to a call
+abbrev pub lent : (capacities flights : RefT (List ℕ)) → Day
+lent capacities flights = day (now capacities) (now flights)
 
 -- P, the number of periods, numbered 1 to P; period P + 1 is the closing period
 abbrev pub P : Day → ℕ
@@ -26,9 +39,23 @@ width = 6
 abbrev pub column : ℕ → List ℕ → ℕ → ℕ
 column j flights i = getD flights (i * width + j) 0
 
+-- the flight at table place i of a row, "six numbers a flight in sheet order"
+unfoldable pub flightAt : List ℕ → ℕ → Flight
+flightAt flights i = record {
+  number = column 0 flights i;
+  due = column 1 flights i;
+  rate = column 2 flights i;
+  after = column 3 flights i;
+  jump = column 4 flights i;
+  limit = column 5 flights i;
+}
+
 -- N, the number of flights; "table place counts flights from 0"
-unfoldable pub N : Day → ℕ
-N d = length (d .flights) / width
+unfoldable pub flightCount : List ℕ → ℕ
+flightCount flights = length flights / width
+
+abbrev pub N : Day → ℕ
+N d = flightCount (d .flights)
 
 -- the numbers of the flight at table place i
 abbrev pub number : Day → ℕ → ℕ
@@ -61,17 +88,24 @@ ofPeriod row k = getD (0 ∷ row) k 0
 abbrev pub capacity : Day → ℕ → ℕ
 capacity d k = ofPeriod (d .capacities) k
 
+-- how many may land in a period; the closing period "takes any number of flights", and 256 is more than a day has
+unfoldable pub takes : List ℕ → ℕ → ℕ
+takes capacities k = ofPeriod capacities k + gate (eqb k (length capacities + 1)) 256
+
 -- "Its cost is rate × h, plus jump if h is greater than after."
-unfoldable pub holdCost : ℕ → ℕ → ℕ → ℕ → ℕ
-holdCost rate after jump h = rate * h + gate (ltb after h) jump
+unfoldable pub holdCost : Flight → ℕ → ℕ
+holdCost f h = f .rate * h + gate (ltb (f .after) h) (f .jump)
 
 -- what a hold of h costs the flight at table place i
 abbrev pub cost : Day → ℕ → ℕ → ℕ
-cost d i h = holdCost (rate d i) (after d i) (jump d i) h
+cost d i h = holdCost (flightAt (d .flights) i) h
 
--- due + limit, "a missing limit reaching past P"
-unfoldable pub latest : Day → ℕ → ℕ
-latest d i = cond (missing (limit d i)) (P d + 1) (due d i + limit d i)
+-- due + limit, "a missing limit reaching past P", on a day of p periods
+unfoldable pub latestOf : ℕ → Flight → ℕ
+latestOf p f = cond (missing (f .limit)) (p + 1) (f .due + f .limit)
+
+abbrev pub latest : Day → ℕ → ℕ
+latest d i = latestOf (P d) (flightAt (d .flights) i)
 
 -- flight i may land in period k: "from its due period to P+1 that its limit allows"
 pub record Window (d : Day) (i k : ℕ) : Type 0 where
@@ -91,8 +125,11 @@ abbrev pub landings : Day → List ℕ → ℕ → ℕ
 landings d holds k = count (N d) (land d holds) k
 
 -- "The total is the sum over flights"
-unfoldable pub total : Day → List ℕ → ℕ
-total d holds = sum (N d) (λ i. cost d i (hold holds i))
+unfoldable pub totalOf : (flights holds : List ℕ) → ℕ
+totalOf flights holds = sum (flightCount flights) (λ i. holdCost (flightAt flights i) (hold holds i))
+
+abbrev pub total : Day → List ℕ → ℕ
+total d = totalOf (d .flights)
 
 -- the test holds of 0 .. n - 1
 unfoldable pub all : ℕ → (ℕ → Bool) → Bool
@@ -104,21 +141,23 @@ abbrev pub inside : ℕ → ℕ → ℕ → Bool
 inside a b x = leb a x && leb x b
 
 -- the table's ranges of a flight's six numbers, on a day of p periods
-unfoldable pub numbersFit : ℕ → ℕ → ℕ → ℕ → ℕ → ℕ → ℕ → Bool
-numbersFit p number due rate after jump limit =
-    inside 1 9999 number && inside 1 p due && inside 1 10000 rate && leb after 96 && leb jump 1000000 && (leb limit 96 || missing limit)
+unfoldable pub flightFits : ℕ → Flight → Bool
+flightFits p f =
+    inside 1 9999 (f .number) && inside 1 p (f .due) && inside 1 10000 (f .rate) && leb (f .after) 96 && leb (f .jump) 1000000
+    && (leb (f .limit) 96 || missing (f .limit))
 
-abbrev pub inRange : Day → ℕ → Bool
-inRange d i = numbersFit (P d) (number d i) (due d i) (rate d i) (after d i) (jump d i) (limit d i)
+-- of the flight at table place i, on a day of p periods
+abbrev pub inRange : ℕ → List ℕ → ℕ → Bool
+inRange p flights i = flightFits p (flightAt flights i)
 
 -- the flight's number stands at no lower table place
-unfoldable pub isNew : Day → ℕ → Bool
+unfoldable pub isNew : List ℕ → ℕ → Bool
 unfolding all
-isNew d i = all i (λ j. not (eqb (number d j) (number d i)))
+isNew flights i = all i (λ j. not (eqb (column 0 flights j) (column 0 flights i)))
 
 -- no "length or value against the table above, or a repeated flight number": what refusal 6 tests
 unfoldable pub valid : Day → Bool
-unfolding N all numbersFit isNew
+unfolding flightCount all flightFits isNew
 valid d =
-    inside 1 96 (P d) && eqb (length (d .flights)) (N d * width) && leb (N d) 128 && all (P d) (λ k. leb (getD (d .capacities) k 0) 255)
-    && all (N d) (inRange d) && all (N d) (isNew d)
+    inside 1 mostPeriods (P d) && eqb (length (d .flights)) (N d * width) && leb (N d) mostFlights
+    && all (P d) (λ k. leb (getD (d .capacities) k 0) 255) && all (N d) (inRange (P d) (d .flights)) && all (N d) (isNew (d .flights))

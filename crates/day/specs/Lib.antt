@@ -1,3 +1,6 @@
 pub mod Day
+pub mod Flights
 pub mod Plan
+pub mod Valid
+pub mod Instance
 pub mod Chains

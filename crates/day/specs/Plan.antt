@@ -8,7 +8,8 @@ use Prim.Native.Nat.{ℕ, zero, suc, _+_, _-_, _≤_, _<_}
 use lib.ListN.{length}
 use lib.Dec.{leb, ltb}
 use Rattle.assignment.specs.Sum.{gate, sum, count}
-use Rattle.day.specs.Day.{Day, P, N, due, jump, limit, missing, ofPeriod, capacity, cost, latest, Window, hold, land, landings, total}
+use Rattle.day.specs.declared.Flight.{Flight}
+use Rattle.day.specs.Day.{Day, P, N, flightCount, flightAt, due, missing, ofPeriod, capacity, cost, latest, Window, hold, land, landings, total}
 
 -- "A legal plan gives each flight one hold of 0 or more; no landing is after P+1; no hold is over its limit; no period 1 to P has more
 -- landings than its capacity."
@@ -76,10 +77,10 @@ unfolding firstOf breaks
 firstBreak d holds = firstOf (N d) (breaks d holds)
 
 -- refusal 8, "a jump above 0 or a limit"
-unfoldable pub jumpOrLimit : Day → ℕ → Bool
-jumpOrLimit d i = ltb 0 (jump d i) || not (missing (limit d i))
+unfoldable pub jumpOrLimit : Flight → Bool
+jumpOrLimit f = ltb 0 (f .jump) || not (missing (f .limit))
 
 -- the table place that refusal 8 names, or N where the quick plan applies
-unfoldable pub firstJumpOrLimit : Day → ℕ
+unfoldable pub firstJumpOrLimit : List ℕ → ℕ
 unfolding firstOf jumpOrLimit
-firstJumpOrLimit d = firstOf (N d) (jumpOrLimit d)
+firstJumpOrLimit flights = firstOf (flightCount flights) (λ i. jumpOrLimit (flightAt flights i))

@@ -4,8 +4,35 @@ ghost use mathlib.Core.Bool.{true, false, _&&_, _||_};
 ghost use Prim.Native.Nat.{_+_, _*_, _/_, _%_, _^_, _<_, _≤_};
 ghost use lib.ListN.{getD, length};
 ghost use lib.Dec.{leb};
-ghost use Rattle.day.specs.Day.{day, column, width, ofPeriod, land, holdCost, cost, latest, all, inside, missing, numbersFit, inRange, isNew, valid};
-ghost use Rattle.day.specs.Chains.{chains, ownNumber, Linked, Passed};
+ghost use Rattle.day.specs.Day.{lent, mostPeriods, mostFlights, column, width, flightAt, flightCount, ofPeriod, takes, holdCost, hold, latestOf, all, inside, missing, flightFits, inRange, isNew, valid};
+ghost use Rattle.day.specs.Flights.{withFlight};
+ghost use Rattle.day.specs.Chains.{chains, Linked, Passed};
+
+// The most periods and the most flights of a day.
+pub const PERIODS: usize = 96;
+
+pub const FLIGHTS: usize = 128;
+
+// How many numbers a flight takes in its row, and the most numbers of a row of flights.
+pub const WIDTH: usize = 6;
+
+pub const FLIGHT_ROW: usize = 768;
+
+// A limit that is missing.
+pub const MISSING: u32 = 255;
+
+// What the closing period takes: more than the flights of a day.
+const ANY_NUMBER: usize = 256;
+
+// A flight's numbers, in sheet order.
+pub struct Flight {
+    pub number: u32,
+    pub due: u32,
+    pub rate: u32,
+    pub after: u32,
+    pub jump: u32,
+    pub limit: u32,
+}
 
 pub fn wide(x: u32) -> usize
     ensures { λ r. ⌜ r ≡ x ⌝ }
@@ -13,12 +40,9 @@ pub fn wide(x: u32) -> usize
     x as usize
 }
 
-// How many numbers a flight takes in its row.
-pub const WIDTH: usize = 6;
-
 // How many flights the row has.
 pub fn flight_count(flights: &[u32]) -> usize
-    ensures { λ r. ⌜ r ≡ length (now (flights .entry)) / width ⌝ }
+    ensures { λ r. ⌜ r ≡ flightCount (now (flights .entry)) ⌝ }
 {
     flights.len() / WIDTH
 }
@@ -31,7 +55,7 @@ fn field(flights: &[u32], i: usize, j: usize) -> usize
     wide(flights[i * WIDTH + j])
 }
 
-// The numbers of the flight at table place i, one function for each column.
+// One number of the flight at table place i, for whoever needs no other.
 pub fn number_of(flights: &[u32], i: usize) -> usize
     requires { ⌜ (i + 1) * width ≤ length (now flights) ⌝ }
     ensures { λ r. ⌜ (r ≡ column 0 (now (flights .entry)) i) × (r < 2 ^ 32) ⌝ }
@@ -53,25 +77,41 @@ pub fn rate_of(flights: &[u32], i: usize) -> usize
     field(flights, i, 2)
 }
 
-pub fn after_of(flights: &[u32], i: usize) -> usize
-    requires { ⌜ (i + 1) * width ≤ length (now flights) ⌝ }
-    ensures { λ r. ⌜ (r ≡ column 3 (now (flights .entry)) i) × (r < 2 ^ 32) ⌝ }
-{
-    field(flights, i, 3)
-}
-
-pub fn jump_of(flights: &[u32], i: usize) -> usize
-    requires { ⌜ (i + 1) * width ≤ length (now flights) ⌝ }
-    ensures { λ r. ⌜ (r ≡ column 4 (now (flights .entry)) i) × (r < 2 ^ 32) ⌝ }
-{
-    field(flights, i, 4)
-}
-
 pub fn limit_of(flights: &[u32], i: usize) -> usize
     requires { ⌜ (i + 1) * width ≤ length (now flights) ⌝ }
     ensures { λ r. ⌜ (r ≡ column 5 (now (flights .entry)) i) × (r < 2 ^ 32) ⌝ }
 {
     field(flights, i, 5)
+}
+
+// The flight at table place i.
+pub fn flight_at(flights: &[u32], i: usize) -> Flight
+    requires { ⌜ (i + 1) * width ≤ length (now flights) ⌝ }
+    ensures { λ r. ⌜ r ≡ flightAt (now (flights .entry)) i ⌝ }
+{
+    let at = i * WIDTH;
+    Flight {
+        number: flights[at],
+        due: flights[at + 1],
+        rate: flights[at + 2],
+        after: flights[at + 3],
+        jump: flights[at + 4],
+        limit: flights[at + 5],
+    }
+}
+
+// Stores a flight at table place i.
+pub fn put_flight(flights: &mut [u32], i: usize, f: Flight)
+    requires { ⌜ (i + 1) * width ≤ length (now flights) ⌝ }
+    ensures { λ _. ⌜ now (flights .exit) ≡ withFlight (now (flights .entry)) i f ⌝ }
+{
+    let at = i * WIDTH;
+    flights[at] = f.number;
+    flights[at + 1] = f.due;
+    flights[at + 2] = f.rate;
+    flights[at + 3] = f.after;
+    flights[at + 4] = f.jump;
+    flights[at + 5] = f.limit;
 }
 
 // What a row of an entry for each period has for period k: 0 for a period that it has not.
@@ -88,47 +128,54 @@ pub fn of_period(row: &[u32], k: usize) -> usize
     0
 }
 
+// How many flights period k takes, the closing period included.
+pub fn capacity_of(capacities: &[u32], k: usize) -> usize
+    requires { ⌜ length (now capacities) ≤ mostPeriods ⌝ }
+    ensures { λ r. ⌜ r ≡ takes (now (capacities .entry)) k ⌝ }
+{
+    if k == capacities.len() + 1 {
+        return ANY_NUMBER;
+    }
+    of_period(capacities, k)
+}
+
 // The period in which the flight at table place i lands.
-pub fn land_of(capacities: &[u32], flights: &[u32], holds: &[u32], i: usize) -> usize
+pub fn land_of(flights: &[u32], holds: &[u32], i: usize) -> usize
     requires { ⌜ (i < length (now holds)) × ((i + 1) * width ≤ length (now flights)) ⌝ }
-    ensures { λ r. ⌜ (r ≡ land (day (now (capacities .entry)) (now (flights .entry))) (now (holds .entry)) i) × (r < 2 ^ 33) ⌝ }
+    ensures { λ r. ⌜ (r ≡ column 1 (now (flights .entry)) i + hold (now (holds .entry)) i) × (r < 2 ^ 33) ⌝ }
 {
     due_of(flights, i) + wide(holds[i])
 }
 
-// What a hold costs a flight of these numbers.
-pub fn hold_cost(rate: usize, after: usize, jump: usize, hold: usize) -> usize
-    requires { ⌜ rate * hold + jump < 2 ^ 64 ⌝ }
-    ensures { λ r. ⌜ r ≡ holdCost rate after jump hold ⌝ }
+// What a hold costs a flight. Its numbers and the hold are of 32 bits, so that the sum fits.
+pub fn hold_cost(f: Flight, hold: usize) -> usize
+    requires { ⌜ hold < 2 ^ 32 ⌝ }
+    ensures { λ r. ⌜ r ≡ holdCost f hold ⌝ }
 {
-    let run = rate * hold;
-    if after < hold {
-        return run + jump;
+    let run = wide(f.rate) * hold;
+    if wide(f.after) < hold {
+        return run + wide(f.jump);
     }
     run
 }
 
-// What a hold costs the flight at table place i. Columns and holds are of 32 bits, so that the sum fits.
-pub fn cost_of(capacities: &[u32], flights: &[u32], i: usize, hold: usize) -> usize
+// What a hold costs the flight at table place i.
+pub fn cost_of(flights: &[u32], i: usize, hold: usize) -> usize
     requires { ⌜ ((i + 1) * width ≤ length (now flights)) × (hold < 2 ^ 32) ⌝ }
-    ensures { λ r. ⌜ r ≡ cost (day (now (capacities .entry)) (now (flights .entry))) i hold ⌝ }
+    ensures { λ r. ⌜ r ≡ holdCost (flightAt (now (flights .entry)) i) hold ⌝ }
 {
-    let rate = rate_of(flights, i);
-    let after = after_of(flights, i);
-    let jump = jump_of(flights, i);
-    hold_cost(rate, after, jump, hold)
+    hold_cost(flight_at(flights, i), hold)
 }
 
-// The last period that the limit of the flight at table place i allows.
-pub fn latest_of(capacities: &[u32], flights: &[u32], i: usize) -> usize
-    requires { ⌜ ((i + 1) * width ≤ length (now flights)) × (length (now capacities) ≤ 96) ⌝ }
-    ensures { λ r. ⌜ r ≡ latest (day (now (capacities .entry)) (now (flights .entry))) i ⌝ }
+// The last period that a flight's limit allows, on a day of so many periods.
+pub fn latest_of(periods: usize, f: Flight) -> usize
+    requires { ⌜ periods ≤ mostPeriods ⌝ }
+    ensures { λ r. ⌜ r ≡ latestOf periods f ⌝ }
 {
-    let limit = limit_of(flights, i);
-    if limit == 255 {
-        return capacities.len() + 1;
+    if f.limit == MISSING {
+        return periods + 1;
     }
-    due_of(flights, i) + limit
+    wide(f.due) + wide(f.limit)
 }
 
 fn both(a: bool, b: bool) -> bool
@@ -143,44 +190,23 @@ fn is_inside(low: usize, high: usize, x: usize) -> bool
     low <= x && x <= high
 }
 
-fn limit_fits(limit: usize) -> bool
+fn limit_fits(limit: u32) -> bool
     ensures { λ r. ⌜ r ≡ (leb limit 96 || missing limit) ⌝ }
 {
-    limit <= 96 || limit == 255
+    limit <= 96 || limit == MISSING
 }
 
-// A flight's six numbers are within the table's ranges, on a day of so many periods.
-pub fn numbers_fit(
-    periods: usize,
-    number: usize,
-    due: usize,
-    rate: usize,
-    after: usize,
-    jump: usize,
-    limit: usize,
-) -> bool
-    ensures { λ r. ⌜ r ≡ numbersFit periods number due rate after jump limit ⌝ }
+// A flight's numbers are within the table's ranges, on a day of so many periods.
+pub fn flight_fits(periods: usize, f: Flight) -> bool
+    ensures { λ r. ⌜ r ≡ flightFits periods f ⌝ }
 {
-    let named = both(is_inside(1, 9999, number), is_inside(1, periods, due));
-    let rated = both(named, is_inside(1, 10000, rate));
-    let priced = both(both(rated, after <= 96), jump <= 1000000);
-    both(priced, limit_fits(limit))
-}
-
-// The numbers of the flight at table place i are within the table's ranges.
-fn is_in_range(capacities: &[u32], flights: &[u32], i: usize) -> bool
-    requires { ⌜ (i + 1) * width ≤ length (now flights) ⌝ }
-    ensures { λ r. ⌜ r ≡ inRange (day (now (capacities .entry)) (now (flights .entry))) i ⌝ }
-{
-    numbers_fit(
-        capacities.len(),
-        number_of(flights, i),
-        due_of(flights, i),
-        rate_of(flights, i),
-        after_of(flights, i),
-        jump_of(flights, i),
-        limit_of(flights, i),
-    )
+    let named = both(
+        is_inside(1, 9999, wide(f.number)),
+        is_inside(1, periods, wide(f.due)),
+    );
+    let rated = both(named, is_inside(1, 10000, wide(f.rate)));
+    let priced = both(both(rated, f.after <= 96), f.jump <= 1000000);
+    both(priced, limit_fits(f.limit))
 }
 
 fn capacities_fit(capacities: &[u32]) -> bool
@@ -196,13 +222,13 @@ fn capacities_fit(capacities: &[u32]) -> bool
     true
 }
 
-fn flights_in_range(capacities: &[u32], flights: &[u32], n: usize) -> bool
+fn flights_in_range(periods: usize, flights: &[u32], n: usize) -> bool
     requires { ⌜ n * width ≤ length (now flights) ⌝ }
-    ensures { λ r. ⌜ r ≡ all n (inRange (day (now (capacities .entry)) (now (flights .entry)))) ⌝ }
+    ensures { λ r. ⌜ r ≡ all n (inRange periods (now (flights .entry))) ⌝ }
 {
     let mut i = 0;
     while i < n {
-        if !is_in_range(capacities, flights, i) {
+        if !flight_fits(periods, flight_at(flights, i)) {
             return false;
         }
         i += 1;
@@ -234,7 +260,7 @@ fn entry_of(x: u8) -> usize
 // the row `above` for each flight the next above it in its chain.
 fn is_new(flights: &[u32], nearest: &[u8], above: &[u8], i: usize) -> bool
     requires { ⌜ ((i + 1) * width ≤ length (now flights)) × Linked (now flights) (now nearest) (now above) i ⌝ }
-    ensures { λ r. ⌜ r ≡ ownNumber (now (flights .entry)) i ⌝ }
+    ensures { λ r. ⌜ r ≡ isNew (now (flights .entry)) i ⌝ }
 {
     let number = number_of(flights, i);
     let chain = chain_of(flights, i);
@@ -252,7 +278,7 @@ fn is_new(flights: &[u32], nearest: &[u8], above: &[u8], i: usize) -> bool
 // Each of the n flights has a number of its own, with rows in which those passed are chained on the way.
 fn numbers_differ_in(flights: &[u32], n: usize, nearest: &mut [u8], above: &mut [u8]) -> bool
     requires { ⌜ Passed (now flights) n (now nearest) (now above) 0 ⌝ }
-    ensures { λ r. ⌜ r ≡ all n (ownNumber (now (flights .entry))) ⌝ }
+    ensures { λ r. ⌜ r ≡ all n (isNew (now (flights .entry))) ⌝ }
 {
     let mut i = 0;
     while i < n {
@@ -268,20 +294,20 @@ fn numbers_differ_in(flights: &[u32], n: usize, nearest: &mut [u8], above: &mut 
 }
 
 fn numbers_differ(flights: &[u32], n: usize) -> bool
-    requires { ⌜ (n * width ≤ length (now flights)) × (n ≤ 128) ⌝ }
-    ensures { λ r. ⌜ r ≡ all n (ownNumber (now (flights .entry))) ⌝ }
+    requires { ⌜ (n * width ≤ length (now flights)) × (n ≤ mostFlights) ⌝ }
+    ensures { λ r. ⌜ r ≡ all n (isNew (now (flights .entry))) ⌝ }
 {
     let mut nearest = [0u8; CHAINS];
-    let mut above = [0u8; 128];
+    let mut above = [0u8; FLIGHTS];
     numbers_differ_in(flights, n, &mut nearest, &mut above)
 }
 
 // Every flight is in range, and has a number of its own.
-fn flights_fit(capacities: &[u32], flights: &[u32], n: usize) -> bool
-    requires { ⌜ (n * width ≤ length (now flights)) × (n ≤ 128) ⌝ }
-    ensures { λ r. ⌜ r ≡ (all n (inRange (day (now (capacities .entry)) (now (flights .entry)))) && all n (isNew (day (now (capacities .entry)) (now (flights .entry))))) ⌝ }
+fn flights_fit(periods: usize, flights: &[u32], n: usize) -> bool
+    requires { ⌜ (n * width ≤ length (now flights)) × (n ≤ mostFlights) ⌝ }
+    ensures { λ r. ⌜ r ≡ (all n (inRange periods (now (flights .entry))) && all n (isNew (now (flights .entry)))) ⌝ }
 {
-    if !flights_in_range(capacities, flights, n) {
+    if !flights_in_range(periods, flights, n) {
         return false;
     }
     numbers_differ(flights, n)
@@ -289,20 +315,20 @@ fn flights_fit(capacities: &[u32], flights: &[u32], n: usize) -> bool
 
 // The day check: refusal 6 is given where it says no.
 pub fn is_valid(capacities: &[u32], flights: &[u32]) -> bool
-    ensures { λ r. ⌜ r ≡ valid (day (now (capacities .entry)) (now (flights .entry))) ⌝ }
+    ensures { λ r. ⌜ r ≡ valid (lent (capacities .entry) (flights .entry)) ⌝ }
 {
     let n = flight_count(flights);
-    if !is_inside(1, 96, capacities.len()) {
+    if !is_inside(1, PERIODS, capacities.len()) {
         return false;
     }
     if flights.len() != n * WIDTH {
         return false;
     }
-    if 128 < n {
+    if FLIGHTS < n {
         return false;
     }
     both(
         capacities_fit(capacities),
-        flights_fit(capacities, flights, n),
+        flights_fit(capacities.len(), flights, n),
     )
 }

@@ -2,8 +2,6 @@
 -- Assumes nothing.
 use borrow.Author.Tests.{not-true, not-false}
 use mathlib.Core.Path.{sym, _∙_}
-use Rattle.day.specs.Day.{isNew}
-use Rattle.day.specs.Chains.{ownNumber}
 use borrow.Author.Needs.{needs}
 use Rattle.day.proofs.flights_fit.Statement.{statement}
 use Rattle.day.proofs.flights_fit.Tie as tie
@@ -18,7 +16,6 @@ numbers-differ-requires : tie.Need-numbers-differ-requires
 numbers-differ-requires c κs = search needs
 
 returns-2 : tie.Need-returns-2
-unfolding isNew ownNumber
 returns-2 c = rw (sym (c .before .before .flights-in-range .ensures) ∙ not-false _ (c .before .if1 .left)) (c .numbers-differ .ensures)
 
 pub flights-fit-spec : {M : Type 1} → statement M

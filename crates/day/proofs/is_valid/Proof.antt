@@ -4,7 +4,7 @@ use mathlib.Core.Path.{sym, ap, _∙_}
 use Prim.Native.Nat.{_*_}
 use Rattle.day.proofs.Valid.{valid-not-periods, valid-not-whole, valid-not-few, valid-made}
 use borrow.Author.Tests.{not-true, not-false}
-use Rattle.day.specs.Day.{day, N, width}
+use Rattle.day.specs.Day.{day, flightCount, width}
 use borrow.Author.Needs.{needs}
 use Rattle.day.proofs.is_valid.Statement.{statement}
 use Rattle.day.proofs.is_valid.Tie as tie
@@ -19,14 +19,15 @@ returns : tie.Need-returns
 returns c = valid-not-periods _ (sym (c .before .is-inside .ensures) ∙ not-true _ (c .if1 .taken))
 
 mul-if2 : tie.Need-mul-if2
+unfolding flightCount
 mul-if2 c = search needs
 
 returns-2 : tie.Need-returns-2
-unfolding N
+unfolding flightCount
 returns-2 c = valid-not-whole _ (sym (c .before .before .is-inside .ensures) ∙ not-false _ (c .before .if1 .left)) (λ e. c .if2 .taken (e ∙ ap (λ n. n * width) (sym (c .before .before .before .flight-count .ensures))))
 
 returns-3 : tie.Need-returns-3
-unfolding N
+unfolding flightCount
 returns-3 c = valid-not-few _ (sym (c .before .before .before .is-inside .ensures) ∙ not-false _ (c .before .before .if1 .left)) (c .before .if2 .left ∙ ap (λ n. n * width) (c .before .before .before .before .flight-count .ensures)) (rw (c .before .before .before .before .flight-count .ensures) at (c .if3 .taken))
 
 capacities-fit-requires : tie.Need-capacities-fit-requires
@@ -39,7 +40,7 @@ both-requires : tie.Need-both-requires
 both-requires c κs = search needs
 
 returns-4 : tie.Need-returns-4
-unfolding N
+unfolding flightCount
 returns-4 c =
     let a = c .before .before .before .before .before .before .before .before .before .before .args in
     let d = day (a .capacities .now) (a .flights .now) in

@@ -20,10 +20,10 @@ wide-requires : tie.Need-wide-requires
 wide-requires c κs = search needs
 
 add-result : tie.Need-add-result
-add-result c = omega (arith, c .before .before .due-of .ensures .1, c .wide .ensures, c .before .shared-slice-known4 .given (c .before .before .before .before .before .before .args .i))
+add-result c = omega (arith, c .before .before .due-of .ensures .1, c .wide .ensures, c .before .shared-slice-known3 .given (c .before .before .before .before .before .args .i))
 
 returns : tie.Need-returns
-returns c = (ap₂ _+_ (c .before .before .due-of .ensures .0) (c .wide .ensures), omega (arith, c .before .before .due-of .ensures .1, c .wide .ensures, c .before .shared-slice-known4 .given (c .before .before .before .before .before .before .args .i)))
+returns c = (ap₂ _+_ (c .before .before .due-of .ensures .0) (c .wide .ensures), omega (arith, c .before .before .due-of .ensures .1, c .wide .ensures, c .before .shared-slice-known3 .given (c .before .before .before .before .before .args .i)))
 
 pub land-of-spec : {M : Type 1} → statement M
 land-of-spec =

@@ -1,0 +1,170 @@
+-- The row of flights: a flight's numbers by their columns, its flights as a list, a flight stored, and the row that flights make up.
+-- Assumes nothing.
+use Prim.Native.Nat.{ℕ, zero, suc, _≤_, _<_, _+_, _-_, _*_}
+use native.Mathlib.Omega.{arith}
+use native.Mathlib.Numerals.{add-one}
+use mathlib.Core.Path.{_≡_, refl, ap, _∙_}
+use mathlib.Core.List.{List, [], _∷_, _++_, append-assoc}
+use lib.ListN.{length, getD, take, drop, set, length-append, length-drop, List·getD-append}
+use lib.Seq.{getD-drop, getD-take, sets-eq, getD-append-add, length-take-le, take-suc}
+use Rattle.day.specs.declared.Flight.{Flight}
+use Rattle.day.specs.Day.{width, column, flightAt}
+use Rattle.day.specs.Flights.{firstFlights, numbersOf, rowOf, withFlight}
+
+-- a flight that was read has the numbers of its columns
+module _ (f : Flight) (row : List ℕ) (i : ℕ) (e : f ≡ flightAt row i) where
+  pub number-read : f .number ≡ column 0 row i
+  unfolding flightAt
+  number-read = ap (λ (g : Flight). g .number) e
+
+  pub due-read : f .due ≡ column 1 row i
+  unfolding flightAt
+  due-read = ap (λ (g : Flight). g .due) e
+
+  pub rate-read : f .rate ≡ column 2 row i
+  unfolding flightAt
+  rate-read = ap (λ (g : Flight). g .rate) e
+
+  pub after-read : f .after ≡ column 3 row i
+  unfolding flightAt
+  after-read = ap (λ (g : Flight). g .after) e
+
+  pub jump-read : f .jump ≡ column 4 row i
+  unfolding flightAt
+  jump-read = ap (λ (g : Flight). g .jump) e
+
+  pub limit-read : f .limit ≡ column 5 row i
+  unfolding flightAt
+  limit-read = ap (λ (g : Flight). g .limit) e
+
+-- ---- a flight stored
+
+-- rows with the same entries have the same flights
+flights-same : (n : ℕ) (a b : List ℕ) → ((i : ℕ) → i < n * width → getD a i 0 ≡ getD b i 0) → firstFlights n a ≡ firstFlights n b
+unfolding firstFlights flightAt
+flights-same zero a b same = refl
+flights-same (suc n) a b same =
+    rw (
+      flights-same n a b (λ i l. same i (omega arith)),
+      same (n * width + 0) (omega arith),
+      same (n * width + 1) (omega arith),
+      same (n * width + 2) (omega arith),
+      same (n * width + 3) (omega arith),
+      same (n * width + 4) (omega arith),
+      same (n * width + 5) (omega arith),
+    )
+
+module _ (row : List ℕ) (n : ℕ) (f : Flight) (h : n * width + width ≤ length row) where
+  -- six stores
+  pub stored : set (set (set (set (set (set row (n * width) (f .number)) (n * width + 1) (f .due)) (n * width + 2) (f .rate)) (n * width + 3) (f .after)) (n * width + 4) (f .jump)) (n * width + 5) (f .limit)
+      ≡ withFlight row n f
+  unfolding withFlight
+  stored =
+      let e1 : n * width + 1 ≡ suc (n * width) = omega arith in
+      let e2 : n * width + 2 ≡ suc (suc (n * width)) = omega arith in
+      let e3 : n * width + 3 ≡ suc (suc (suc (n * width))) = omega arith in
+      let e4 : n * width + 4 ≡ suc (suc (suc (suc (n * width)))) = omega arith in
+      let e5 : n * width + 5 ≡ suc (suc (suc (suc (suc (n * width))))) = omega arith in
+      rw (e1, e2, e3, e4, e5) (sets-eq (numbersOf f) row (n * width) h ∙ append-assoc (take (n * width) row) (numbersOf f) (drop (n * width + width) row))
+
+  front-length : length (take (n * width) row) ≡ n * width
+  front-length = length-take-le (n * width) row (omega arith)
+
+  with-at : (k : ℕ) → getD (withFlight row n f) (n * width + k) 0 ≡ getD (numbersOf f ++ drop (n * width + width) row) k 0
+  unfolding withFlight
+  with-at k = rw front-length at (getD-append-add (take (n * width) row) (numbersOf f ++ drop (n * width + width) row) k 0)
+
+  with-flight : flightAt (withFlight row n f) n ≡ f
+  unfolding flightAt
+  with-flight = rw (with-at 0, with-at 1, with-at 2, with-at 3, with-at 4, with-at 5)
+
+  with-below : (i : ℕ) → i < n * width → getD (withFlight row n f) i 0 ≡ getD row i 0
+  unfolding withFlight
+  with-below i l = List·getD-append (take (n * width) row) (numbersOf f ++ drop (n * width + width) row) 0 i (omega (arith, front-length)) ∙ getD-take (n * width) row i 0 l
+
+  pub with-length : length (withFlight row n f) ≡ length row
+  unfolding withFlight
+  with-length = simp (length-append, length-drop) (omega (arith, front-length))
+
+  pub with-first : firstFlights (n + 1) (withFlight row n f) ≡ firstFlights n row ++ (f ∷ [])
+  unfolding firstFlights
+  with-first = rw (add-one n, flights-same n (withFlight row n f) row with-below, with-flight)
+
+-- ---- the row that flights make up
+
+row-snoc : (fs : List Flight) (f : Flight) → rowOf (fs ++ (f ∷ [])) ≡ rowOf fs ++ numbersOf f
+unfolding rowOf
+row-snoc [] f = refl
+row-snoc (g ∷ fs) f = rw (row-snoc fs f)
+
+-- the flights of a row make up its front
+pub row-front : (n : ℕ) (row : List ℕ) → n * width ≤ length row → rowOf (firstFlights n row) ≡ take (n * width) row
+unfolding firstFlights rowOf flightAt
+row-front zero row h = refl
+row-front (suc n) row h =
+    let e : suc n * width ≡ suc (suc (suc (suc (suc (suc (n * width)))))) = omega arith in
+    let e0 : n * width + 0 ≡ n * width = omega arith in
+    let e1 : n * width + 1 ≡ suc (n * width) = omega arith in
+    let e2 : n * width + 2 ≡ suc (suc (n * width)) = omega arith in
+    let e3 : n * width + 3 ≡ suc (suc (suc (n * width))) = omega arith in
+    let e4 : n * width + 4 ≡ suc (suc (suc (suc (n * width)))) = omega arith in
+    let e5 : n * width + 5 ≡ suc (suc (suc (suc (suc (n * width))))) = omega arith in
+    rw (
+      row-snoc (firstFlights n row) (flightAt row n),
+      row-front n row (omega arith),
+      e,
+      take-suc row (suc (suc (suc (suc (suc (n * width)))))) 0 (omega arith),
+      take-suc row (suc (suc (suc (suc (n * width))))) 0 (omega arith),
+      take-suc row (suc (suc (suc (n * width)))) 0 (omega arith),
+      take-suc row (suc (suc (n * width))) 0 (omega arith),
+      take-suc row (suc (n * width)) 0 (omega arith),
+      take-suc row (n * width) 0 (omega arith),
+      e0,
+      e1,
+      e2,
+      e3,
+      e4,
+      e5,
+    )
+    (simp append-assoc)
+
+pub length-flights : (n : ℕ) (row : List ℕ) → length (firstFlights n row) ≡ n
+unfolding firstFlights
+length-flights zero row = refl
+length-flights (suc n) row = simp (length-append, length-flights n row) (omega arith)
+
+-- the flights of a row that was made of flights
+
+flight-later : (row : List ℕ) (n : ℕ) → flightAt row (suc n) ≡ flightAt (drop 6 row) n
+unfolding flightAt
+flight-later row n =
+    let e0 : suc n * width + 0 ≡ 6 + (n * width + 0) = omega arith in
+    let e1 : suc n * width + 1 ≡ 6 + (n * width + 1) = omega arith in
+    let e2 : suc n * width + 2 ≡ 6 + (n * width + 2) = omega arith in
+    let e3 : suc n * width + 3 ≡ 6 + (n * width + 3) = omega arith in
+    let e4 : suc n * width + 4 ≡ 6 + (n * width + 4) = omega arith in
+    let e5 : suc n * width + 5 ≡ 6 + (n * width + 5) = omega arith in
+    rw (
+      getD-drop 6 row (n * width + 0) 0,
+      getD-drop 6 row (n * width + 1) 0,
+      getD-drop 6 row (n * width + 2) 0,
+      getD-drop 6 row (n * width + 3) 0,
+      getD-drop 6 row (n * width + 4) 0,
+      getD-drop 6 row (n * width + 5) 0,
+      e1,
+      e2,
+      e3,
+      e4,
+      e5,
+      e0,
+    )
+
+flights-first : (n : ℕ) (row : List ℕ) → firstFlights (suc n) row ≡ flightAt row 0 ∷ firstFlights n (drop 6 row)
+unfolding firstFlights
+flights-first zero row = refl
+flights-first (suc n) row = rw (flights-first n row, flight-later row n)
+
+pub rows-back : (fs : List Flight) (ys : List ℕ) → firstFlights (length fs) (rowOf fs ++ ys) ≡ fs
+unfolding rowOf firstFlights flightAt
+rows-back [] ys = refl
+rows-back (f ∷ fs) ys = flights-first (length fs) (numbersOf f ++ (rowOf fs ++ ys)) ∙ rw (rows-back fs ys)
