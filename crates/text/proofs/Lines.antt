@@ -10,54 +10,54 @@ use lib.ListN.{length, getD, take, drop, set, length-append, length-set, drop-of
 use lib.Seq.{take-suc-set, drop-set-lt, drop-cons, length-take-le}
 use lib.Dec.{lit<}
 use Rattle.text.specs.Digits.{digits, ended, separated, line}
-use Rattle.text.specs.Reading.{field, Numbers, all, upto, numbersOf, placeOf, after, thenNumbers, separatedAt, rowAfter, Line, values, noLine, lastOf, withLast, thenLast, lineAt}
+use Rattle.text.specs.Reading.{field, Numbers, whole, upto, numbersRead, placeOf, withFront, thenNumbers, separatedAt, rowAfter, Line, values, noLine, lastOf, withLast, thenLast, lineAt}
 use Rattle.text.specs.declared.Number.{Number}
 use Rattle.text.specs.declared.Number.the-variants.{Value, Bad}
 use Rattle.text.specs.declared.Place.the-variants.{Behind, NoPlace}
-use Rattle.text.proofs.Reading.{Stands, join, parted, FieldHere, field-read, field-write, end-no-digit, comma-no-digit}
+use Rattle.text.proofs.Reading.{Stands, within, join, parted, FieldHere, field-read, field-write, end-no-digit, comma-no-digit}
 
 -- each of the numbers has at most `most` digits
-abbrev pub Short : ℕ → List ℕ → Type 0
-Short most [] = Unit {0}
-Short most (n ∷ ns) = (length (digits n) ≤ most) × Short most ns
+abbrev pub AllShort : ℕ → List ℕ → Type 0
+AllShort most [] = Unit {0}
+AllShort most (n ∷ ns) = (length (digits n) ≤ most) × AllShort most ns
 
 -- k numbers of at most `most` digits stand from `at` to `next`, each with a comma behind it
 pub record FieldsHere (k most : ℕ) (s : List ℕ) (at : ℕ) (ns : List ℕ) (next : ℕ) : Type 0 where
   pub count : length ns ≡ k
-  pub short : Short most ns
+  pub short : AllShort most ns
   pub stands : Stands (separated ns) s at next
 
 -- a line of k numbers and a last one, all of at most `most` digits, stands from `at` to `next`
 pub record LineHere (k most : ℕ) (s : List ℕ) (at : ℕ) (ns : List ℕ) (last next : ℕ) : Type 0 where
   pub count : length ns ≡ k
-  pub short : Short most ns
+  pub short : AllShort most ns
   pub last-short : length (digits last) ≤ most
   pub stands : Stands (line ns last) s at next
 
-read-all : (k most : ℕ) (s : List ℕ) (at : ℕ) (ns : List ℕ) (next : ℕ) → at ≤ length s → separatedAt k most s at ≡ all ns next → FieldsHere k most s at ns next
+read-all : (k most : ℕ) (s : List ℕ) (at : ℕ) (ns : List ℕ) (next : ℕ) → separatedAt k most s at ≡ whole ns next → FieldsHere k most s at ns next
 unfolding separatedAt separated
-read-all zero most s at ns next h = λ e.
+read-all zero most s at ns next = λ e.
     let a : [] ≡ ns = cc in
     let b : at ≡ next = cc in
-    rw (← a, ← b) (record { count = refl; short = tt; stands = record { text = refl; place = omega arith; within = h } })
-read-all (suc k) most s at ns next h = go (λ x ms y. read-all k most s x ms y) (field most 44 s at) refl
+    rw (← a, ← b) (record { count = refl; short = tt; stands = record { text = refl; place = omega arith } })
+read-all (suc k) most s at ns next = go (λ x ms y. read-all k most s x ms y) (field most 44 s at) refl
   where
-    onto : (n x : ℕ) → field most 44 s at ≡ Value n x → (y : Numbers) → after (n ∷ []) y ≡ all ns next
-        → ((ms : List ℕ) (m : ℕ) → x ≤ length s → y ≡ all ms m → FieldsHere k most s x ms m) → FieldsHere (suc k) most s at ns next
+    onto : (n x : ℕ) → field most 44 s at ≡ Value n x → (y : Numbers) → withFront (n ∷ []) y ≡ whole ns next
+        → ((ms : List ℕ) (m : ℕ) → y ≡ whole ms m → FieldsHere k most s x ms m) → FieldsHere (suc k) most s at ns next
     onto n x q (upto ms) e ih = let z : _≡_ {A = ℕ} 0 1 = cc in absurd (omega arith)
-    onto n x q (all ms y) e ih =
+    onto n x q (whole ms y) e ih =
         let a : n ∷ ms ≡ ns = cc in
         let b : y ≡ next = cc in
         let f = field-read (lit< tt) q in
-        let r = ih ms y (f .stands .within) refl in
+        let r = ih ms y refl in
         rw (← a, ← b) (record { count = ap suc (r .count); short = (f .short, r .short); stands = join (f .stands) (r .stands) })
 
-    go : ((x : ℕ) (ms : List ℕ) (m : ℕ) → x ≤ length s → separatedAt k most s x ≡ all ms m → FieldsHere k most s x ms m)
-        → (p : Number) → field most 44 s at ≡ p → thenNumbers p (λ n x. after (n ∷ []) (separatedAt k most s x)) ≡ all ns next → FieldsHere (suc k) most s at ns next
+    go : ((x : ℕ) (ms : List ℕ) (m : ℕ) → separatedAt k most s x ≡ whole ms m → FieldsHere k most s x ms m)
+        → (p : Number) → field most 44 s at ≡ p → thenNumbers p (λ n x. withFront (n ∷ []) (separatedAt k most s x)) ≡ whole ns next → FieldsHere (suc k) most s at ns next
     go ih Bad q e = let z : _≡_ {A = ℕ} 0 1 = cc in absurd (omega arith)
     go ih (Value n x) q e = onto n x q (separatedAt k most s x) e (ih x)
 
-write-all : (k most : ℕ) (s : List ℕ) (at : ℕ) (ns : List ℕ) (next : ℕ) → FieldsHere k most s at ns next → separatedAt k most s at ≡ all ns next
+write-all : (k most : ℕ) (s : List ℕ) (at : ℕ) (ns : List ℕ) (next : ℕ) → FieldsHere k most s at ns next → separatedAt k most s at ≡ whole ns next
 unfolding separatedAt separated
 write-all zero most s at [] next f = let z : at ≡ next = omega (arith, f .stands .place) in rw z
 write-all zero most s at (n ∷ ns) next f = absurd (omega (arith, f .count))
@@ -70,36 +70,36 @@ write-all (suc k) most s at (n ∷ ns) next f =
 
 -- Reading k separated numbers at a place gives the numbers ns and the place behind them exactly if those are k short numbers and their text stands there.
 -- By induction on k, with the same law of one field: what is read joins the texts, and what stands there is parted after its first field.
-pub separated-law : (k most : ℕ) (s : List ℕ) (at : ℕ) (ns : List ℕ) (next : ℕ) → at ≤ length s
-    → (separatedAt k most s at ≡ all ns next) ↔ FieldsHere k most s at ns next
-separated-law k most s at ns next h = (read-all k most s at ns next h, write-all k most s at ns next)
+pub separated-law : (k most : ℕ) (s : List ℕ) (at : ℕ) (ns : List ℕ) (next : ℕ)
+    → (separatedAt k most s at ≡ whole ns next) ↔ FieldsHere k most s at ns next
+separated-law k most s at ns next = (read-all k most s at ns next, write-all k most s at ns next)
 
-pub separated-read : {k most : ℕ} {s : List ℕ} {at : ℕ} {ns : List ℕ} {next : ℕ} → at ≤ length s → separatedAt k most s at ≡ all ns next → FieldsHere k most s at ns next
-separated-read h = separated-law _ _ _ _ _ _ h .0
+pub separated-read : {k most : ℕ} {s : List ℕ} {at : ℕ} {ns : List ℕ} {next : ℕ} → separatedAt k most s at ≡ whole ns next → FieldsHere k most s at ns next
+separated-read e = separated-law _ _ _ _ _ _ .0 e
 
-pub separated-write : {k most : ℕ} {s : List ℕ} {at : ℕ} {ns : List ℕ} {next : ℕ} → FieldsHere k most s at ns next → separatedAt k most s at ≡ all ns next
-separated-write f = write-all _ _ _ _ _ _ f
+pub separated-write : {k most : ℕ} {s : List ℕ} {at : ℕ} {ns : List ℕ} {next : ℕ} → FieldsHere k most s at ns next → separatedAt k most s at ≡ whole ns next
+separated-write f = separated-law _ _ _ _ _ _ .1 f
 
 -- The same of a line: its numbers and then its last field.
-pub line-law : (k most : ℕ) (s : List ℕ) (at : ℕ) (ns : List ℕ) (last next : ℕ) → at ≤ length s
+pub line-law : (k most : ℕ) (s : List ℕ) (at : ℕ) (ns : List ℕ) (last next : ℕ)
     → (lineAt k most s at ≡ values ns last next) ↔ LineHere k most s at ns last next
 unfolding lineAt line
-line-law k most s at ns last next h = (go (separatedAt k most s at) refl, back)
+line-law k most s at ns last next = (go (separatedAt k most s at) refl, back)
   where
-    ends : (ms : List ℕ) (x : ℕ) → separatedAt k most s at ≡ all ms x → (p : Number) → field most 10 s x ≡ p → withLast ms p ≡ values ns last next
+    ends : (ms : List ℕ) (x : ℕ) → separatedAt k most s at ≡ whole ms x → (p : Number) → field most 10 s x ≡ p → withLast ms p ≡ values ns last next
         → LineHere k most s at ns last next
     ends ms x q Bad r e = let z : _≡_ {A = ℕ} 0 1 = cc in absurd (omega arith)
     ends ms x q (Value l y) r e =
         let a : ms ≡ ns = cc in
         let b : l ≡ last = cc in
         let d : y ≡ next = cc in
-        let f = separated-read h q in
+        let f = separated-read q in
         let g = field-read (lit< tt) r in
         rw (← a, ← b, ← d) (record { count = f .count; short = f .short; last-short = g .short; stands = join (f .stands) (g .stands) })
 
     go : (x : Numbers) → separatedAt k most s at ≡ x → thenLast x (field most 10 s) ≡ values ns last next → LineHere k most s at ns last next
     go (upto ms) q e = let z : _≡_ {A = ℕ} 0 1 = cc in absurd (omega arith)
-    go (all ms x) q e = ends ms x q (field most 10 s x) refl e
+    go (whole ms x) q e = ends ms x q (field most 10 s x) refl e
 
     back : LineHere k most s at ns last next → thenLast (separatedAt k most s at) (field most 10 s) ≡ values ns last next
     back f =
@@ -108,13 +108,13 @@ line-law k most s at ns last next h = (go (separatedAt k most s at) refl, back)
         let b = field-write end-no-digit (record { short = f .last-short; stands = p .1 }) in
         rw (a, b)
 
-pub line-read : {k most : ℕ} {s : List ℕ} {at : ℕ} {ns : List ℕ} {last next : ℕ} → at ≤ length s → lineAt k most s at ≡ values ns last next
+pub line-read : {k most : ℕ} {s : List ℕ} {at : ℕ} {ns : List ℕ} {last next : ℕ} → lineAt k most s at ≡ values ns last next
     → LineHere k most s at ns last next
-line-read h = line-law _ _ _ _ _ _ _ h .0
+line-read e = line-law _ _ _ _ _ _ _ .0 e
 
-pub line-write : {k most : ℕ} {s : List ℕ} {at : ℕ} {ns : List ℕ} {last next : ℕ} → at ≤ length s → LineHere k most s at ns last next
+pub line-write : {k most : ℕ} {s : List ℕ} {at : ℕ} {ns : List ℕ} {last next : ℕ} → LineHere k most s at ns last next
     → lineAt k most s at ≡ values ns last next
-line-write h = line-law _ _ _ _ _ _ _ h .1
+line-write f = line-law _ _ _ _ _ _ _ .1 f
 
 -- the loop that reads separated numbers: i of them are read, the next one begins at `next`, and the rest of the row is as it was
 pub record Walk (s : List ℕ) (at most : ℕ) (row₀ row : List ℕ) (i next : ℕ) : Type 0 where
@@ -122,20 +122,20 @@ pub record Walk (s : List ℕ) (at most : ℕ) (row₀ row : List ℕ) (i next :
   pub long : length row ≡ length row₀
   pub within : next ≤ length s
   pub rest : drop i row ≡ drop i row₀
-  pub so-far : separatedAt (length row₀) most s at ≡ after (take i row) (separatedAt (length row₀ - i) most s next)
+  pub so-far : separatedAt (length row₀) most s at ≡ withFront (take i row) (separatedAt (length row₀ - i) most s next)
 
-after-none : (x : Numbers) → x ≡ after [] x
-after-none (all ns next) = refl
-after-none (upto ns) = refl
+no-front : (x : Numbers) → x ≡ withFront [] x
+no-front (whole ns next) = refl
+no-front (upto ns) = refl
 
-after-after : (xs ys : List ℕ) (x : Numbers) → after xs (after ys x) ≡ after (xs ++ ys) x
-after-after xs ys (all ns next) = rw append-assoc
-after-after xs ys (upto ns) = rw append-assoc
+front-front : (xs ys : List ℕ) (x : Numbers) → withFront xs (withFront ys x) ≡ withFront (xs ++ ys) x
+front-front xs ys (whole ns next) = rw append-assoc
+front-front xs ys (upto ns) = rw append-assoc
 
 pub walk-start : {s : List ℕ} {at : ℕ} (most : ℕ) (row : List ℕ) → at ≤ length s → Walk s at most row row 0 at
 walk-start {s} {at} most row h =
     let z : length row - 0 ≡ length row = omega arith in
-    record { upto = omega arith; long = refl; within = h; rest = refl; so-far = rw z (after-none (separatedAt (length row) most s at)) }
+    record { upto = omega arith; long = refl; within = h; rest = refl; so-far = rw z (no-front (separatedAt (length row) most s at)) }
 
 module _ {s : List ℕ} {at most : ℕ} {row₀ row : List ℕ} {i next : ℕ} (w : Walk s at most row₀ row i next) where
   full : i ≤ length row
@@ -169,21 +169,21 @@ module _ {s : List ℕ} {at most : ℕ} {row₀ row : List ℕ} {i next : ℕ} (
         record {
           upto = omega (arith, w .long);
           long = rw length-set (w .long);
-          within = field-read (lit< tt) e .stands .within;
+          within = within (field-read (lit< tt) e .stands) (w .within);
           rest = rw (add-one, drop-set-lt (suc i) row i n (omega arith)) (rest-cons h k (w .rest));
-          so-far = w .so-far ∙ rw (one-more, e, after-after, add-one, t);
+          so-far = w .so-far ∙ rw (one-more, e, front-front, add-one, t);
         }
       where
         rest-cons : i < length row → i < length row₀ → drop i row ≡ drop i row₀ → drop (suc i) row ≡ drop (suc i) row₀
         rest-cons h k e = let a = drop-cons row i 0 h in let b = drop-cons row₀ i 0 k in cc
 
 -- where all numbers are read, and where not
-pub all-read : (x : Numbers) (next : ℕ) → placeOf x ≡ Behind next → x ≡ all (numbersOf x) next
-all-read (all ns y) next e = cc
+pub all-read : (x : Numbers) (next : ℕ) → placeOf x ≡ Behind next → x ≡ whole (numbersRead x) next
+all-read (whole ns y) next e = cc
 all-read (upto ns) next e = let z : _≡_ {A = ℕ} 0 1 = cc in absurd (omega arith)
 
-pub none-read : (x : Numbers) → placeOf x ≡ NoPlace → x ≡ upto (numbersOf x)
-none-read (all ns y) e = let z : _≡_ {A = ℕ} 0 1 = cc in absurd (omega arith)
+pub none-read : (x : Numbers) → placeOf x ≡ NoPlace → x ≡ upto (numbersRead x)
+none-read (whole ns y) e = let z : _≡_ {A = ℕ} 0 1 = cc in absurd (omega arith)
 none-read (upto ns) e = refl
 
 -- the readers of a line, after the separated numbers
@@ -196,9 +196,9 @@ module _ (k most : ℕ) (s : List ℕ) (at : ℕ) where
   unfolding lineAt
   line-last m e = rw (all-read (separatedAt k most s at) m e) (go (field most 10 s m))
     where
-      go : (p : Number) → p ≡ lastOf (withLast (numbersOf (separatedAt k most s at)) p)
+      go : (p : Number) → p ≡ lastOf (withLast (numbersRead (separatedAt k most s at)) p)
       go (Value n next) = refl
       go Bad = refl
 
   pub place-within : (m : ℕ) → at ≤ length s → placeOf (separatedAt k most s at) ≡ Behind m → m ≤ length s
-  place-within m h e = separated-read h (all-read (separatedAt k most s at) m e) .stands .within
+  place-within m h e = within (separated-read (all-read (separatedAt k most s at) m e) .stands) h

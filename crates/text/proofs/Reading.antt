@@ -251,24 +251,23 @@ there s x h = go (leb (length s) x) refl
 pub record Stands (t s : List ℕ) (at next : ℕ) : Type 0 where
   pub text : drop at s ≡ t ++ drop next s
   pub place : next ≡ at + length t
-  pub within : next ≤ length s
+
+pub within : {t s : List ℕ} {at next : ℕ} → Stands t s at next → at ≤ length s → next ≤ length s
+within {t} {s} {at} {next} a h = omega (arith, a .place, length-drop at s, simp length-append at (ap length (a .text)))
+
+-- bytes in front of others stand at their place
+pub stand : (s t u : List ℕ) (at : ℕ) → drop at s ≡ t ++ u → Stands t s at (at + length t)
+stand s t u at e = record { text = e ∙ rw (past s at t u e); place = refl }
 
 pub join : {s t u : List ℕ} {at m next : ℕ} → Stands t s at m → Stands u s m next → Stands (t ++ u) s at next
-join a b =
-    record { text = a .text ∙ rw (b .text, append-assoc); place = simp length-append (omega (arith, a .place, b .place)); within = b .within }
-
--- bytes in front of others stand at the place
-pub stand : (s t u : List ℕ) (at : ℕ) → drop at s ≡ t ++ u → at ≤ length s → Stands t s at (at + length t)
-stand s t u at e h =
-    record { text = e ∙ rw (past s at t u e); place = refl; within = omega (arith, length-drop at s, simp length-append at (ap length e)) }
+join a b = record { text = a .text ∙ rw (b .text, append-assoc); place = simp length-append (omega (arith, a .place, b .place)) }
 
 -- a text of two parts, each at its place
 pub parted : {s t u : List ℕ} {at next : ℕ} → Stands (t ++ u) s at next → Stands t s at (at + length t) × Stands u s (at + length t) next
 parted {s} {t} {u} {at} {next} a =
     let e : drop at s ≡ t ++ (u ++ drop next s) = a .text ∙ append-assoc t u (drop next s) in
     let d : drop (at + length t) s ≡ u ++ drop next s = past s at t (u ++ drop next s) e in
-    let l : next ≡ at + length t + length u = omega (arith, a .place, length-append t u) in
-    (record { text = e ∙ rw d; place = refl; within = omega (arith, a .within) }, record { text = d; place = l; within = a .within })
+    (stand s t (u ++ drop next s) at e, record { text = d; place = omega (arith, a .place, length-append t u) })
 
 pub picked : (b : Bool) (m x n next : ℕ) → cond b (Value m x) Bad ≡ Value n next → (b ≡ true) × (m ≡ n) × (x ≡ next)
 picked true m x n next e = (refl, cc, cc)
@@ -307,7 +306,7 @@ field-read {most} {e} {s} {at} {n} {next} pos = go (number most s at) refl
         let c : drop x s ≡ e ∷ drop next s = rw (← (p .2), add-one) (drop-cons s x 0 t ∙ rw g) in
         record {
           short = rw (p .1) at (d .short);
-          stands = record { text = d .text ∙ rw (p .1, c, append-assoc); place = omega (arith, rw (p .1) at (d .place)); within = omega arith };
+          stands = record { text = d .text ∙ rw (p .1, c, append-assoc); place = omega (arith, rw (p .1) at (d .place)) };
         }
 
 pub field-write : {most e : ℕ} {s : List ℕ} {at n next : ℕ} → isDigit e ≡ false → FieldHere most e s at n next → field most e s at ≡ Value n next

@@ -45,21 +45,21 @@ field most e s at = endedBy e s (number most s at)
 
 -- numbers, each with a comma behind it: all of them and the place behind them, or those before the first field that has not the form
 pub data Numbers : Type 0 where
-  all : List ℕ → ℕ → Numbers
+  whole : List ℕ → ℕ → Numbers
   upto : List ℕ → Numbers
 
-abbrev pub numbersOf : Numbers → List ℕ
-numbersOf (all ns next) = ns
-numbersOf (upto ns) = ns
+abbrev pub numbersRead : Numbers → List ℕ
+numbersRead (whole ns next) = ns
+numbersRead (upto ns) = ns
 
 abbrev pub placeOf : Numbers → Place
-placeOf (all ns next) = Behind next
+placeOf (whole ns next) = Behind next
 placeOf (upto ns) = NoPlace
 
 -- with more numbers in front
-abbrev pub after : List ℕ → Numbers → Numbers
-after ms (all ns next) = all (ms ++ ns) next
-after ms (upto ns) = upto (ms ++ ns)
+abbrev pub withFront : List ℕ → Numbers → Numbers
+withFront ms (whole ns next) = whole (ms ++ ns) next
+withFront ms (upto ns) = upto (ms ++ ns)
 
 abbrev pub thenNumbers : Number → (ℕ → ℕ → Numbers) → Numbers
 thenNumbers (Value n next) go = go n next
@@ -67,12 +67,12 @@ thenNumbers Bad go = upto []
 
 -- k numbers of at most `most` digits, each with a comma behind it, from a place on
 unfoldable pub separatedAt : ℕ → ℕ → List ℕ → ℕ → Numbers
-separatedAt zero most s at = all [] at
-separatedAt (suc k) most s at = thenNumbers (field most comma s at) (λ n next. after (n ∷ []) (separatedAt k most s next))
+separatedAt zero most s at = whole [] at
+separatedAt (suc k) most s at = thenNumbers (field most comma s at) (λ n next. withFront (n ∷ []) (separatedAt k most s next))
 
 -- the row that the numbers are put into: they are its front, and the rest is as it was
 abbrev pub rowAfter : Numbers → List ℕ → List ℕ
-rowAfter x row = numbersOf x ++ drop (length (numbersOf x)) row
+rowAfter x row = numbersRead x ++ drop (length (numbersRead x)) row
 
 -- a line of values: its numbers, its last number and the place behind the line
 pub data Line : Type 0 where
@@ -88,7 +88,7 @@ withLast ns (Value last next) = values ns last next
 withLast ns Bad = noLine
 
 abbrev pub thenLast : Numbers → (ℕ → Number) → Line
-thenLast (all ns next) last = withLast ns (last next)
+thenLast (whole ns next) last = withLast ns (last next)
 thenLast (upto ns) last = noLine
 
 -- k numbers and a last one, all of at most `most` digits, that make up a line at a place
