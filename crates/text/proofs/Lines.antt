@@ -1,8 +1,9 @@
 -- Separated numbers and lines: what is read at a place is what is written there, and back; and one law for each way through the readers.
 -- Assumes nothing.
-use Prim.Native.Nat.{ℕ, zero, suc, _≤_, _<_, _+_, _-_}
+use Prim.Native.Nat.{ℕ, zero, suc, _≤_, _<_, _+_, _-_, _*_}
 use native.Mathlib.Omega.{arith}
 use native.Mathlib.Numerals.{add-one}
+use native.Mathlib.Nat.{mul-suc}
 use mathlib.Core.Path.{_≡_, refl, ap, sym, _∙_}
 use mathlib.Core.Logic.{_↔_}
 use mathlib.Core.List.{List, [], _∷_, _++_, append-assoc, append-nil}
@@ -14,7 +15,8 @@ use Rattle.text.specs.Reading.{field, Numbers, whole, upto, numbersRead,
 use Rattle.text.specs.declared.Number.{Number}
 use Rattle.text.specs.declared.Number.the-variants.{Value, Bad}
 use Rattle.text.specs.declared.Place.the-variants.{Behind, NoPlace}
-use Rattle.text.proofs.Reading.{Stands, within, join, parted, FieldHere, field-read, field-write, end-no-digit, comma-no-digit}
+use Rattle.text.proofs.Reading.{Stands, within, join, parted, FieldHere, field-read, field-write, open-up, end-no-digit, comma-no-digit}
+use Rattle.text.proofs.Digits.{length-ended, first-digit}
 
 -- each of the numbers has at most `most` digits
 abbrev pub AllShort : ℕ → List ℕ → Type 0
@@ -202,3 +204,44 @@ module _ (k most : ℕ) (s : List ℕ) (at : ℕ) where
 
   pub place-within : (m : ℕ) → at ≤ length s → placeOf (separatedAt k most s at) ≡ Behind m → m ≤ length s
   place-within m h e = within (separated-read (all-read (separatedAt k most s at) m e) .stands) h
+
+-- the row of a caller: where all is read, it is the numbers
+
+row-full : (k most : ℕ) (s : List ℕ) (at : ℕ) (row ns : List ℕ) (next : ℕ) → length row ≡ k → separatedAt k most s at ≡ whole ns next
+    → rowAfter (separatedAt k most s at) row ≡ ns
+row-full k most s at row ns next l e =
+    let c = separated-read {k = k} e .count in
+    rw (e, drop-of-length-le row {i = length ns} (omega arith), append-nil)
+
+pub row-read : (k most : ℕ) (s : List ℕ) (at : ℕ) (row : List ℕ) (next : ℕ) → length row ≡ k → placeOf (separatedAt k most s at) ≡ Behind next
+    → separatedAt k most s at ≡ whole (rowAfter (separatedAt k most s at) row) next
+row-read k most s at row next l e =
+    let w = all-read (separatedAt k most s at) next e in
+    w ∙ rw (row-full k most s at row (numbersRead (separatedAt k most s at)) next l w)
+
+pub line-row : (k most : ℕ) (s : List ℕ) (at : ℕ) (row : List ℕ) (last next : ℕ) → length row ≡ k → lastOf (lineAt k most s at) ≡ Value last next
+    → lineAt k most s at ≡ values (rowAfter (separatedAt k most s at) row) last next
+unfolding lineAt
+line-row k most s at row last next l = go (separatedAt k most s at) refl
+  where
+    ends : (ns : List ℕ) (p : Number) → lastOf (withLast ns p) ≡ Value last next → withLast ns p ≡ values ns last next
+    ends ns (Value n x) e = cc
+    ends ns Bad e = let z : _≡_ {A = ℕ} 0 1 = cc in absurd (omega arith)
+
+    go : (x : Numbers) → separatedAt k most s at ≡ x → lastOf (thenLast x (field most 10 s)) ≡ Value last next
+        → thenLast x (field most 10 s) ≡ values (rowAfter x row) last next
+    go (upto ns) q e = let z : _≡_ {A = ℕ} 0 1 = cc in absurd (omega arith)
+    go (whole ns x) q e = ends ns (field most 10 s x) e ∙ ap (λ (r : List ℕ). values r last next) (sym (rw q at (row-full k most s at row ns x l q)))
+
+-- lengths and the first byte of texts
+
+pub separated-short : (most : ℕ) (ns : List ℕ) → AllShort most ns → length (separated ns) ≤ (most + 1) * length ns
+unfolding separated
+separated-short most [] h = omega arith
+separated-short most (n ∷ ns) h =
+    let m : (most + 1) * suc (length ns) ≡ (most + 1) * length ns + (most + 1) = mul-suc (most + 1) (length ns) in
+    rw (length-append, m) (omega (arith, length-ended 44 n, separated-short most ns (h .1), h .0))
+
+pub line-first : (n : ℕ) (ns : List ℕ) (last : ℕ) (ys : List ℕ) → getD (line (n ∷ ns) last ++ ys) 0 0 ≤ 57
+unfolding line separated
+line-first n ns last ys = simp append-assoc (rw (open-up 44 n) (first-digit n _ .1))
