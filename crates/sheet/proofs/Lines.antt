@@ -244,21 +244,23 @@ module _ (s : List ℕ) (at : ℕ) where
       go (values ns c next) e = let z : _≡_ {A = ℕ} 0 1 = cc in absurd (omega arith)
       go noLine e = refl
 
-  pub period-yes : (row₀ : List ℕ) (c next : ℕ) → length row₀ ≡ 1 → lastOf (lineAt 1 mostDigits s at) ≡ Value c next
-      → Period (getD (rowAfter (separatedAt 1 mostDigits s at) row₀) 0 0) c next ≡ periodLine s at
+  -- the numbers stand in a row of one entry
+  pub period-yes : (row₀ row : List ℕ) (c next : ℕ) → length row₀ ≡ 1 → row ≡ rowAfter (separatedAt 1 mostDigits s at) row₀
+      → lastOf (lineAt 1 mostDigits s at) ≡ Value c next → Period (getD row 0 0) c next ≡ periodLine s at
   unfolding periodLine
-  period-yes row₀ c next l e = rw (line-row 1 mostDigits s at row₀ c next l e)
+  period-yes row₀ row c next l w e = rw (w, line-row 1 mostDigits s at row₀ c next l e)
 
   pub flight-no : placeOf (separatedAt 5 mostDigits s at) ≡ NoPlace → NoRow ≡ flightLine s at
   unfolding flightLine
   flight-no e = rw (none-read (separatedAt 5 mostDigits s at) e)
 
-  module _ (row₀ : List ℕ) (x : ℕ) (l : length row₀ ≡ 5) (e : placeOf (separatedAt 5 mostDigits s at) ≡ Behind x) where
+  module _ (x : ℕ) (e : placeOf (separatedAt 5 mostDigits s at) ≡ Behind x) where
     pub flight-no-limit : limitField s x ≡ Bad → NoRow ≡ flightLine s at
     unfolding flightLine
     flight-no-limit p = rw (all-read (separatedAt 5 mostDigits s at) x e, p)
 
-    pub flight-yes : (limit next : ℕ) → limitField s x ≡ Value limit next
-        → Row (flightWith (rowAfter (separatedAt 5 mostDigits s at) row₀) limit) next ≡ flightLine s at
+    -- the numbers stand in a row of five entries
+    pub flight-yes : (row₀ row : List ℕ) (limit next : ℕ) → length row₀ ≡ 5 → row ≡ rowAfter (separatedAt 5 mostDigits s at) row₀
+        → limitField s x ≡ Value limit next → Row (flightWith row limit) next ≡ flightLine s at
     unfolding flightLine
-    flight-yes limit next p = sym (ap (λ (y : Numbers). thenLimit y (limitField s)) (row-read 5 mostDigits s at row₀ x l e) ∙ rw p)
+    flight-yes row₀ row limit next l w p = sym (ap (λ (y : Numbers). thenLimit y (limitField s)) (row-read 5 mostDigits s at row₀ x l e) ∙ rw (p, w))
