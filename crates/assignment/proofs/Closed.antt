@@ -1,29 +1,17 @@
 -- Closed periods, those of capacity 0, can be left out of a search: as if a landing there cost so much that nobody would go there. No plan
 -- lands in them, so plans and totals are the same; at the end each gets the least price that keeps every flight where it lands.
 -- Assumes nothing.
-use mathlib.Core.Path.{_≡_, refl, sym, ap, _∙_}
-use mathlib.Core.Logic.{_⊎_, inl, inr, _≢_}
+use mathlib.Core.Path.{_≡_, refl, _∙_}
+use mathlib.Core.Logic.{_⊎_, inl, inr}
 use Prim.Native.Nat.{ℕ, suc, _+_, _≤_, _<_}
 use native.Mathlib.Omega.{arith}
 use lib.Dec.{eqb}
-use Rattle.assignment.specs.Sum.{gate, sum, count}
-use Rattle.assignment.specs.Assignment.{Instance, In, Legal, total, Accepted, mustLand, room, Short}
+use Rattle.assignment.specs.Sum.{gate, sum}
+use Rattle.assignment.specs.Assignment.{Instance, In, Legal, total, mustLand, room, Short}
+use Rattle.assignment.specs.Instances.{opened}
+use Rattle.assignment.specs.Insertion.{Sound}
 use Rattle.assignment.proofs.Tests.{eq?, gate-eq, gate-ne}
 use Rattle.assignment.proofs.Sums.{sum-ext, sum-member, count-member}
-use Rattle.assignment.proofs.Saving.{Link}
-use Rattle.assignment.proofs.Insertion.{Sound}
-
--- a landing in a closed period costs so much more
-abbrev pub opened : Instance → ℕ → Instance
-opened d more = record {
-  n = d .n;
-  m = d .m;
-  lo = d .lo;
-  hi = d .hi;
-  cost = λ i k. d .cost i k + gate (eqb (d .cap k) 0) more;
-  cap = d .cap;
-  within = d .within;
-}
 
 module _ (d : Instance) (more : ℕ) where
   pub open-cost : (i k : ℕ) → 0 < d .cap k → opened d more .cost i k ≡ d .cost i k
@@ -62,20 +50,20 @@ module _ (d : Instance) (more : ℕ) {x p q : ℕ → ℕ} (s : Sound (opened d 
   here : (i : ℕ) → i < d .n → opened d more .cost i (x i) + p (x i) ≡ d .cost i (x i) + q (x i)
   here i l = omega (arith, open-cost d more i (x i) (lands i l), same (x i) (lands i l))
 
-  -- closed periods rank above all others
-  rank : ℕ → ℕ
-  rank k = s .rank k + gate (eqb (d .cap k) 0) (suc (sum (d .n) (λ i. s .rank (x i))))
+  -- closed periods stand above all others
+  height : ℕ → ℕ
+  height k = s .height k + gate (eqb (d .cap k) 0) (suc (sum (d .n) (λ i. s .height (x i))))
 
-  rank-open : (k : ℕ) → 0 < d .cap k → rank k ≡ s .rank k
-  unfolding rank
-  rank-open k some = omega (arith, gate-ne (d .cap k) 0 (suc (sum (d .n) (λ i. s .rank (x i)))) (omega arith))
+  height-open : (k : ℕ) → 0 < d .cap k → height k ≡ s .height k
+  unfolding height
+  height-open k some = omega (arith, gate-ne (d .cap k) 0 (suc (sum (d .n) (λ i. s .height (x i)))) (omega arith))
 
-  rank-shut : (i k : ℕ) → i < d .n → d .cap k ≡ 0 → s .rank (x i) < rank k
-  unfolding rank
-  rank-shut i k l none = omega (
+  height-shut : (i k : ℕ) → i < d .n → d .cap k ≡ 0 → s .height (x i) < height k
+  unfolding height
+  height-shut i k l none = omega (
     arith,
-    gate-eq (d .cap k) 0 (suc (sum (d .n) (λ i. s .rank (x i)))) none,
-    sum-member (d .n) i (λ i. s .rank (x i)) l,
+    gate-eq (d .cap k) 0 (suc (sum (d .n) (λ i. s .height (x i)))) none,
+    sum-member (d .n) i (λ i. s .height (x i)) l,
   )
 
   pub priced : Sound d x q
@@ -97,7 +85,7 @@ module _ (d : Instance) (more : ℕ) {x p q : ℕ → ℕ} (s : Sound (opened d 
         )
       ];
     };
-    rank = rank;
+    height = height;
     held = λ k. elim (eq? (d .cap k) 0) [
       | inl none ↦ elim (low k none) [
         | inl free ↦ inl free
@@ -105,7 +93,7 @@ module _ (d : Instance) (more : ℕ) {x p q : ℕ → ℕ} (s : Sound (opened d 
           by = t .by;
           who = t .who;
           fits = t .fits;
-          lower = omega (arith, rank-open (x (t .by)) (lands (t .by) (t .who)), rank-shut (t .by) k (t .who) none);
+          lower = omega (arith, height-open (x (t .by)) (lands (t .by) (t .who)), height-shut (t .by) k (t .who) none);
           tie = omega (arith, t .tie, same (x (t .by)) (lands (t .by) (t .who)));
         })
       ]
@@ -115,7 +103,7 @@ module _ (d : Instance) (more : ℕ) {x p q : ℕ → ℕ} (s : Sound (opened d 
           by = a .by;
           who = a .who;
           fits = record { from = a .fits .from; to = a .fits .to };
-          lower = omega (arith, a .lower, rank-open k (omega arith), rank-open (x (a .by)) (lands (a .by) (a .who)));
+          lower = omega (arith, a .lower, height-open k (omega arith), height-open (x (a .by)) (lands (a .by) (a .who)));
           tie = omega (arith, a .tie, here (a .by) (a .who), open-cost d more (a .by) k (omega arith), same k (omega arith));
         })
       ]

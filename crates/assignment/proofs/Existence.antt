@@ -8,10 +8,11 @@ use native.Mathlib.Omega.{arith}
 use lib.Dec.{T, leb, eqb, leb→le, le→leb}
 use Rattle.assignment.specs.Sum.{gate, sum, count}
 use Rattle.assignment.specs.Assignment.{Instance, In, Plan, Legal, mustLand, room, Short}
+use Rattle.assignment.specs.Moves.{Moved, put}
+use Rattle.assignment.specs.Instances.{grown}
 use Rattle.assignment.proofs.Tests.{gate-eq, gate-ne, and-T, T-and, lt?, eq?}
 use Rattle.assignment.proofs.Sums.{count-ext, count-suc, count-zero}
-use Rattle.assignment.proofs.Moves.{Moved, moved-count, moved-window, put, put-moved}
-use Rattle.assignment.proofs.Insertion.{grown}
+use Rattle.assignment.proofs.Moves.{moved-count, moved-window, put-moved}
 use Rattle.assignment.proofs.Stuck.{Stuck, ShortIn, stuck-is-short}
 
 pub record HasPlan (d : Instance) : Type 0 where

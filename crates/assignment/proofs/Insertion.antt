@@ -8,47 +8,16 @@ use native.Mathlib.Omega.{arith}
 use lib.Dec.{ltb, eqb}
 use Rattle.assignment.specs.Sum.{gate, sum, count}
 use Rattle.assignment.specs.Assignment.{Instance, In, total, Accepted}
+use Rattle.assignment.specs.Moves.{Settled, Moved, put}
+use Rattle.assignment.specs.Instances.{grown}
+use Rattle.assignment.specs.Search.{Near}
+use Rattle.assignment.specs.Insertion.{Link, Sound, Root, Hop, Tree, Firm, Going}
 use Rattle.assignment.proofs.Tests.{gate-eq, gate-ne, gate-lt, gate-ge, lt?, eq?}
 use Rattle.assignment.proofs.Sums.{count-suc, count-ext, count-zero, sum-ext}
-use Rattle.assignment.proofs.Moves.{Settled, Moved, moved-count, moved-total, moved-settled, put, put-moved}
-use Rattle.assignment.proofs.Saving.{Link, Held, Smallest, smallest}
-use Rattle.assignment.proofs.Near.{Near}
-
--- the day with the flight after the last
-abbrev pub grown : Instance → Instance
-grown d = record { n = suc (d .n); m = d .m; lo = d .lo; hi = d .hi; cost = d .cost; cap = d .cap; within = d .within }
-
--- the new flight may land in k and pays u there
-pub record Root (d : Instance) (q : ℕ → ℕ) (u k : ℕ) : Type 0 where
-  pub fits : In d (d .n) k
-  pub pays : d .cost (d .n) k + q k ≡ u
-
--- flight i, which lands in a period of a lower order, may as well land in k
-pub record Hop (d : Instance) (x q order : ℕ → ℕ) (k i : ℕ) : Type 0 where
-  pub who : i < d .n
-  pub fits : In d i k
-  pub lower : order (x i) < order k
-  pub tie : d .cost i k + q k ≡ d .cost i (x i) + q (x i)
-
-abbrev pub Tree : (d : Instance) (x q order via : ℕ → ℕ) (u k : ℕ) → Type 0
-Tree d x q order via u k = ((via k ≡ d .n) × Root d q u k) ⊎ Hop d x q order k (via k)
+use Rattle.assignment.proofs.Moves.{moved-count, moved-total, moved-settled, put-moved}
+use Rattle.assignment.proofs.Saving.{Smallest, smallest}
 
 -- ---- the walk back from z: `at` is to take the next flight
-
--- k is held up; if it was walked over, by a flight that was
-pub record Firm (d : Instance) (x q order rank : ℕ → ℕ) (z at k : ℕ) : Type 0 where
-  pub link : Link d x q rank k
-  pub apart : rank k ≤ order z → order at ≤ order (x (link .by))
-
-pub record Going (d : Instance) (x₀ x q order via : ℕ → ℕ) (u z at : ℕ) : Type 0 where
-  pub settled : Settled d x q
-  pub counts : (j : ℕ) → count (d .n) x j + gate (eqb at j) 1 ≡ count (d .n) x₀ j + gate (eqb z j) 1
-  pub costs : total d x + q z ≡ total d x₀ + q at
-  pub tree : (k : ℕ) → order k ≤ order at → Tree d x q order via u k
-  pub rank : ℕ → ℕ
-  pub low : rank at + order at ≤ order z
-  pub apart : (k : ℕ) → rank k ≤ order z → order at ≤ order k
-  pub held : (k : ℕ) → (q k ≡ 0) ⊎ (Root d q u k × (order z < rank k)) ⊎ Firm d x q order rank z at k
 
 pub going-start : {d : Instance} {x q order via : ℕ → ℕ} {u z : ℕ} → Settled d x q → q z ≡ 0
     → ((k : ℕ) → order k ≤ order z → Tree d x q order via u k)
@@ -59,7 +28,7 @@ going-start {d} {x} {q} {order} {via} {u} {z} s none tree chain = record {
   counts = λ j. refl;
   costs = refl;
   tree = tree;
-  rank = rank₁;
+  height = height₁;
   low = omega (arith, v .here);
   apart = λ k b. elim (eq? k z) [ inl e ↦ rw e (omega arith) | inr e ↦ absurd (omega (arith, v .others k e)) ];
   held = λ k. elim (eq? k z) [
@@ -77,18 +46,18 @@ going-start {d} {x} {q} {order} {via} {u} {z} s none tree chain = record {
   ];
 }
   where
-    rank₀ : ℕ → ℕ
-    rank₀ k = suc (order z) + order k
+    height₀ : ℕ → ℕ
+    height₀ k = suc (order z) + order k
 
-    rank₁ : ℕ → ℕ
-    rank₁ = put rank₀ z 0
+    height₁ : ℕ → ℕ
+    height₁ = put height₀ z 0
 
-    v : Moved rank₀ rank₁ z 0
-    v = put-moved rank₀ z 0
+    v : Moved height₀ height₁ z 0
+    v = put-moved height₀ z 0
 
-    less : {k : ℕ} (a : Link d x q order k) (j : ℕ) → k ≢ z → rank₁ (x (a .by)) < rank₁ k
+    less : {k : ℕ} (a : Link d x q order k) (j : ℕ) → k ≢ z → height₁ (x (a .by)) < height₁ k
     less {k} a j e = elim (eq? (x (a .by)) z) [
-      | inl f ↦ omega (arith, ap rank₁ f, v .here, v .others k e)
+      | inl f ↦ omega (arith, ap height₁ f, v .here, v .others k e)
       | inr f ↦ omega (arith, v .others (x (a .by)) f, v .others k e, a .lower)
     ]
 
@@ -107,7 +76,7 @@ module _ {d : Instance} {x₀ x q order via : ℕ → ℕ} {u z at : ℕ} (s : G
           let same = v .others (via k) (λ e. omega (arith, o .lower, ap (λ l. order (x l)) e)) in
           inr (record { who = o .who; fits = o .fits; lower = rw same (o .lower); tie = rw same (o .tie) })
     ];
-    rank = rank₂;
+    height = height₂;
     low = omega (arith, r .here, s .low, a .lower);
     apart = λ k b. elim (eq? k j) [ inl e ↦ rw e (omega arith) | inr e ↦ omega (arith, a .lower, s .apart k (omega (arith, r .others k e))) ];
     held = λ k. elim (eq? k j) [
@@ -140,21 +109,21 @@ module _ {d : Instance} {x₀ x q order via : ℕ → ℕ} {u z at : ℕ} (s : G
       a : Hop d x q order at i
       a = hop new
 
-      rank₂ : ℕ → ℕ
-      rank₂ = put (s .rank) j (suc (s .rank at))
+      height₂ : ℕ → ℕ
+      height₂ = put (s .height) j (suc (s .height at))
 
-      r : Moved (s .rank) rank₂ j (suc (s .rank at))
-      r = put-moved (s .rank) j (suc (s .rank at))
+      r : Moved (s .height) height₂ j (suc (s .height at))
+      r = put-moved (s .height) j (suc (s .height at))
 
       away : at ≢ j
       away f = omega (arith, a .lower, ap order f)
 
       -- k was not walked over
-      ahead : (k : ℕ) (g : Firm d x q order (s .rank) z at k) → (order (x (g .link .by)) ≤ order j) → order z < s .rank k
-      ahead k g low = elim (lt? (order z) (s .rank k)) [ inl b ↦ b | inr b ↦ absurd (omega (arith, g .apart b, a .lower)) ]
+      ahead : (k : ℕ) (g : Firm d x q order (s .height) z at k) → (order (x (g .link .by)) ≤ order j) → order z < s .height k
+      ahead k g low = elim (lt? (order z) (s .height k)) [ inl b ↦ b | inr b ↦ absurd (omega (arith, g .apart b, a .lower)) ]
 
       -- held up by the flight that moves
-      moved-firm : (k : ℕ) → k ≢ j → (g : Firm d x q order (s .rank) z at k) → g .link .by ≡ i → Firm d y q order rank₂ z j k
+      moved-firm : (k : ℕ) → k ≢ j → (g : Firm d x q order (s .height) z at k) → g .link .by ≡ i → Firm d y q order height₂ z j k
       moved-firm k e g h =
           let far = ahead k g (rw h (omega arith)) in
           record {
@@ -169,7 +138,7 @@ module _ {d : Instance} {x₀ x q order via : ℕ → ℕ} {u z at : ℕ} (s : G
           }
 
       -- by one that stays
-      kept-firm : (k : ℕ) → k ≢ j → (g : Firm d x q order (s .rank) z at k) → g .link .by ≢ i → Firm d y q order rank₂ z j k
+      kept-firm : (k : ℕ) → k ≢ j → (g : Firm d x q order (s .height) z at k) → g .link .by ≢ i → Firm d y q order height₂ z j k
       kept-firm k e g h =
           let same = v .others (g .link .by) h in
           record {
@@ -178,7 +147,7 @@ module _ {d : Instance} {x₀ x q order via : ℕ → ℕ} {u z at : ℕ} (s : G
               who = g .link .who;
               fits = g .link .fits;
               lower = rw same (elim (eq? (x (g .link .by)) j) [
-                | inl f ↦ omega (arith, ap rank₂ f, r .here, r .others k e, ahead k g (omega (arith, ap order f)), s .low, a .lower)
+                | inl f ↦ omega (arith, ap height₂ f, r .here, r .others k e, ahead k g (omega (arith, ap order f)), s .low, a .lower)
                 | inr f ↦ omega (arith, r .others (x (g .link .by)) f, r .others k e, g .link .lower)
               ]);
               tie = rw same (g .link .tie);
@@ -186,14 +155,8 @@ module _ {d : Instance} {x₀ x q order via : ℕ → ℕ} {u z at : ℕ} (s : G
             apart = λ b. rw same (omega (arith, a .lower, g .apart (omega (arith, r .others k e))));
           }
 
--- the invariant of the insertions: the price check, and every price is held up
-pub record Sound (d : Instance) (x q : ℕ → ℕ) : Type 0 where
-  pub accepted : Accepted d x q
-  pub rank : ℕ → ℕ
-  pub held : (k : ℕ) → Held d x q rank k
-
 pub sound-smallest : {d : Instance} {x q : ℕ → ℕ} → Sound d x q → Smallest d x q
-sound-smallest {d} {x} {q} s = smallest d x q (s .rank) (s .accepted) (s .held)
+sound-smallest {d} {x} {q} s = smallest d x q (s .height) (s .accepted) (s .held)
 
 -- no price is above the total
 pub price-le : {d : Instance} {x q : ℕ → ℕ} → Sound d x q → (k : ℕ) → q k ≤ total d x
@@ -249,7 +212,7 @@ module _ {d : Instance} {x₀ x y q order via : ℕ → ℕ} {u z at : ℕ} (s :
   pub going-end : Sound (grown d) y q
   going-end = record {
     accepted = going-accepted;
-    rank = s .rank;
+    height = s .height;
     held = λ k. elim (s .held k) [
       | inl e ↦ inl e
       | inr f ↦ inr (elim f [
@@ -284,28 +247,28 @@ module _ {d : Instance} {x₀ x y q order via : ℕ → ℕ} {u z at : ℕ} (s :
 -- ---- the raise
 
 -- the search has come to z, the nearest period that is not reached, and z has room
-pub record Found (d : Instance) (x p root dist rank via : ℕ → ℕ) (t u z : ℕ) : Type 0 where
-  pub near : Near d x p root dist rank via z t 0
-  pub fresh : rank z ≡ 0
+pub record Found (d : Instance) (x p root dist turn via : ℕ → ℕ) (t u z : ℕ) : Type 0 where
+  pub near : Near d x p root dist turn via z t 0
+  pub fresh : turn z ≡ 0
   pub here : dist z ≡ u
-  pub least : (k : ℕ) → rank k ≡ 0 → u ≤ dist k
+  pub least : (k : ℕ) → turn k ≡ 0 → u ≤ dist k
   pub free : count (d .n) x z < d .cap z
-  pub full : (k : ℕ) → 0 < rank k → d .cap k ≤ count (d .n) x k
+  pub full : (k : ℕ) → 0 < turn k → d .cap k ≤ count (d .n) x k
   pub rooted : (k : ℕ) → root k ≤ u → In d (d .n) k × (root k ≡ d .cost (d .n) k + p k)
   pub reach : (k : ℕ) → In d (d .n) k → root k ≤ d .cost (d .n) k + p k
 
-module _ {d : Instance} {x p q root dist rank via : ℕ → ℕ} {t u z : ℕ} (f : Found d x p root dist rank via t u z) (s : Sound d x p)
+module _ {d : Instance} {x p q root dist turn via : ℕ → ℕ} {t u z : ℕ} (f : Found d x p root dist turn via t u z) (s : Sound d x p)
     (rise : (k : ℕ) → q k ≡ p k + (u - dist k)) where
-  close : (k : ℕ) → 0 < rank k → dist k ≤ u
+  close : (k : ℕ) → 0 < turn k → dist k ≤ u
   close k some = omega (arith, f .near .order k z some (f .fresh), f .here)
 
-  far-off : (k : ℕ) → rank k ≡ 0 → q k ≡ p k
+  far-off : (k : ℕ) → turn k ≡ 0 → q k ≡ p k
   far-off k none = omega (arith, rise k, f .least k none)
 
   rise-settled : Settled d x q
   rise-settled = record {
     window = s .accepted .legal .window;
-    best = λ i k l b. elim (lt? 0 (rank (x i))) [
+    best = λ i k l b. elim (lt? 0 (turn (x i))) [
       | inl some ↦ omega (arith, f .near .near i k l b some (inr (omega arith)), rise k, rise (x i), close (x i) some, f .here)
       | inr none ↦ omega (arith, s .accepted .best i k l b, rise k, far-off (x i) (omega arith))
     ];
@@ -318,7 +281,7 @@ module _ {d : Instance} {x p q root dist rank via : ℕ → ℕ} {t u z : ℕ} (
   ground = record {
     room = s .accepted .legal .room;
     free = f .free;
-    unsold = λ k less. elim (lt? 0 (rank k)) [
+    unsold = λ k less. elim (lt? 0 (turn k)) [
       | inl some ↦ absurd (omega (arith, f .full k some))
       | inr none ↦ far-off k (omega arith) ∙ s .accepted .unsold k less
     ];
@@ -327,37 +290,37 @@ module _ {d : Instance} {x p q root dist rank via : ℕ → ℕ} {t u z : ℕ} (
 
   -- the order of the walk: as reached, then what is as far as z, then the rest as it is held up
   unfoldable pub order : ℕ → ℕ
-  order k = gate (ltb u (dist k)) (suc (suc t) + s .rank k) + gate (ltb (dist k) (suc u)) (rank k + gate (ltb (rank k) 1) (suc t))
+  order k = gate (ltb u (dist k)) (suc (suc t) + s .height k) + gate (ltb (dist k) (suc u)) (turn k + gate (ltb (turn k) 1) (suc t))
 
-  order-reached : (k : ℕ) → 0 < rank k → order k ≡ rank k
+  order-reached : (k : ℕ) → 0 < turn k → order k ≡ turn k
   unfolding order
   order-reached k some = omega (
     arith,
     close k some,
-    gate-ge u (dist k) (suc (suc t) + s .rank k) (close k some),
-    gate-lt (dist k) (suc u) (rank k + gate (ltb (rank k) 1) (suc t)) (omega (arith, close k some)),
-    gate-ge (rank k) 1 (suc t) some,
+    gate-ge u (dist k) (suc (suc t) + s .height k) (close k some),
+    gate-lt (dist k) (suc u) (turn k + gate (ltb (turn k) 1) (suc t)) (omega (arith, close k some)),
+    gate-ge (turn k) 1 (suc t) some,
   )
 
-  order-next : (k : ℕ) → rank k ≡ 0 → dist k ≤ u → order k ≡ suc t
+  order-next : (k : ℕ) → turn k ≡ 0 → dist k ≤ u → order k ≡ suc t
   unfolding order
   order-next k none b = omega (
     arith,
-    gate-ge u (dist k) (suc (suc t) + s .rank k) b,
-    gate-lt (dist k) (suc u) (rank k + gate (ltb (rank k) 1) (suc t)) (omega arith),
-    gate-lt (rank k) 1 (suc t) (omega arith),
+    gate-ge u (dist k) (suc (suc t) + s .height k) b,
+    gate-lt (dist k) (suc u) (turn k + gate (ltb (turn k) 1) (suc t)) (omega arith),
+    gate-lt (turn k) 1 (suc t) (omega arith),
   )
 
-  order-rest : (k : ℕ) → u < dist k → order k ≡ suc (suc t) + s .rank k
+  order-rest : (k : ℕ) → u < dist k → order k ≡ suc (suc t) + s .height k
   unfolding order
   order-rest k b = omega (
     arith,
-    gate-lt u (dist k) (suc (suc t) + s .rank k) b,
-    gate-ge (dist k) (suc u) (rank k + gate (ltb (rank k) 1) (suc t)) b,
+    gate-lt u (dist k) (suc (suc t) + s .height k) b,
+    gate-ge (dist k) (suc u) (turn k + gate (ltb (turn k) 1) (suc t)) b,
   )
 
   order-le : (k : ℕ) → dist k ≤ u → order k ≤ suc t
-  order-le k b = elim (lt? 0 (rank k)) [
+  order-le k b = elim (lt? 0 (turn k)) [
     | inl some ↦ omega (arith, order-reached k some, f .near .top k)
     | inr none ↦ omega (arith, order-next k (omega arith) b)
   ]
@@ -372,7 +335,7 @@ module _ {d : Instance} {x p q root dist rank via : ℕ → ℕ} {t u z : ℕ} (
         inr (record {
           who = a .who;
           fits = a .fits;
-          lower = elim (lt? 0 (rank k)) [
+          lower = elim (lt? 0 (turn k)) [
             | inl some ↦ omega (arith, order-reached k some, order-reached (x i) (a .from), a .lower some)
             | inr none ↦ omega (arith, order-next k (omega arith) b, order-reached (x i) (a .from), f .near .top (x i))
           ];
@@ -393,13 +356,13 @@ module _ {d : Instance} {x p q root dist rank via : ℕ → ℕ} {t u z : ℕ} (
   ]
     where
       -- a price that does not rise is not held up by one that does
-      not-near : (k : ℕ) → u < dist k → (a : Link d x p (s .rank) k) → u ≤ dist (x (a .by))
-      not-near k b a = elim (lt? 0 (rank (x (a .by)))) [
+      not-near : (k : ℕ) → u < dist k → (a : Link d x p (s .height) k) → u ≤ dist (x (a .by))
+      not-near k b a = elim (lt? 0 (turn (x (a .by)))) [
         | inl some ↦ omega (arith, f .near .near (a .by) k (a .who) (a .fits) some (inr (omega arith)), a .tie, f .here)
         | inr none ↦ f .least (x (a .by)) (omega arith)
       ]
 
-      rest : (k : ℕ) → u < dist k → (a : Link d x p (s .rank) k) → u ≤ dist (x (a .by)) → Link d x q order k
+      rest : (k : ℕ) → u < dist k → (a : Link d x p (s .height) k) → u ≤ dist (x (a .by)) → Link d x q order k
       rest k b a c = record {
         by = a .by;
         who = a .who;
@@ -432,6 +395,6 @@ sound-start {d} {x} {q} empty none = record {
     unsold = λ k _. none k;
     best = λ i k l w. absurd (omega arith);
   };
-  rank = λ _. 0;
+  height = λ _. 0;
   held = λ k. inl (none k);
 }

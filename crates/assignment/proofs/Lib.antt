@@ -1,5 +1,6 @@
 pub mod Tests
 pub mod Sums
+pub mod Rows
 pub mod Moves
 pub mod Duality
 pub mod Saving

@@ -1,25 +1,15 @@
 -- One flight moved: what it does to counts, totals and windows.
 -- Assumes nothing.
-use mathlib.Core.Path.{_≡_, refl, ap}
-use mathlib.Core.Logic.{inl, inr, _≢_}
-use mathlib.Core.Bool.{Bool, true, false, not, cond}
-use Prim.Native.Nat.{ℕ, _+_, _≤_, _<_}
+use mathlib.Core.Path.{_≡_, ap}
+use mathlib.Core.Logic.{inl, inr}
+use Prim.Native.Nat.{ℕ, _+_, _<_}
 use native.Mathlib.Omega.{arith}
-use lib.Dec.{T, eqb, eqb-refl, eqb→eq, not-T}
+use lib.Dec.{eqb, eqb-refl, eqb→eq, not-T}
 use Rattle.assignment.specs.Sum.{gate, count}
 use Rattle.assignment.specs.Assignment.{Instance, In, Plan, total}
-use Rattle.assignment.proofs.Tests.{eq?}
+use Rattle.assignment.specs.Moves.{Moved, put, Settled}
+use Rattle.assignment.proofs.Tests.{eq?, cond-on, cond-off}
 use Rattle.assignment.proofs.Sums.{count-move, sum-set}
-
--- each flight lands in its window, and pays least there
-pub record Settled (d : Instance) (x p : ℕ → ℕ) : Type 0 where
-  pub window : (i : ℕ) → i < d .n → In d i (x i)
-  pub best : (i k : ℕ) → i < d .n → In d i k → d .cost i (x i) + p (x i) ≤ d .cost i k + p k
-
--- y is x but for flight i, which lands in k
-pub record Moved (x y : Plan) (i k : ℕ) : Type 0 where
-  pub here : y i ≡ k
-  pub others : (o : ℕ) → o ≢ i → y o ≡ x o
 
 module _ (d : Instance) {x y : Plan} {i k : ℕ} (v : Moved x y i k) (l : i < d .n) where
   pub moved-count : (j : ℕ) → count (d .n) y j + gate (eqb (x i) j) 1 ≡ count (d .n) x j + gate (eqb k j) 1
@@ -41,17 +31,6 @@ module _ (d : Instance) {x y : Plan} {i k : ℕ} (v : Moved x y i k) (l : i < d 
       | inr e ↦ rw (v .others o e) (s .best o j b w)
     ];
   }
-
-unfoldable pub put : Plan → ℕ → ℕ → Plan
-put x i k l = cond (eqb l i) k (x l)
-
-cond-on : (b : Bool) (x y : ℕ) → T b → cond b x y ≡ x
-cond-on true x y t = refl
-cond-on false x y t = absurd t
-
-cond-off : (b : Bool) (x y : ℕ) → T (not b) → cond b x y ≡ y
-cond-off true x y t = absurd t
-cond-off false x y t = refl
 
 pub put-moved : (x : Plan) (i k : ℕ) → Moved x (put x i k) i k
 unfolding put

@@ -2,36 +2,17 @@
 -- reached period offer the periods of their windows.
 -- Assumes nothing.
 use mathlib.Core.Path.{_≡_, sym, ap, _∙_}
-use mathlib.Core.Logic.{_⊎_, inl, inr, _≢_}
+use mathlib.Core.Logic.{inl, inr, _≢_}
 use Prim.Native.Nat.{ℕ, _+_, _≤_, _<_, min}
 use native.Mathlib.Omega.{arith}
 use Rattle.assignment.specs.Assignment.{Instance, In}
+use Rattle.assignment.specs.Moves.{Settled, Moved}
+use Rattle.assignment.specs.Search.{Near, Took, Offered}
 use Rattle.assignment.proofs.Tests.{lt?, eq?}
-use Rattle.assignment.proofs.Moves.{Settled, Moved}
 
--- k was offered by flight i, whose landing is reached
-pub record Step (d : Instance) (x p dist rank : ℕ → ℕ) (k i : ℕ) : Type 0 where
-  pub who : i < d .n
-  pub fits : In d i k
-  pub from : 0 < rank (x i)
-  pub lower : 0 < rank k → rank (x i) < rank k
-  pub far : dist k + (d .cost i (x i) + p (x i)) ≡ dist (x i) + (d .cost i k + p k)
-
--- t periods are reached, via d .n stands for the new flight; from the last of them the flights from m on have offered. Whatever is no nearer
--- than the target z need not be known
-pub record Near (d : Instance) (x p root dist rank via : ℕ → ℕ) (z t m : ℕ) : Type 0 where
-  pub settled : Settled d x p
-  pub low : (k : ℕ) → dist k ≤ root k
-  pub how : (k : ℕ) → ((dist k ≡ root k) × (In d (d .n) k → root k ≡ d .cost (d .n) k + p k → via k ≡ d .n)) ⊎ Step d x p dist rank k (via k)
-  pub top : (k : ℕ) → rank k ≤ t
-  pub order : (j k : ℕ) → 0 < rank j → rank k ≡ 0 → dist j ≤ dist k
-  pub last : (j k : ℕ) → 0 < rank j → rank k ≡ t → dist j ≤ dist k
-  pub near : (i k : ℕ) → i < d .n → In d i k → 0 < rank (x i) → (rank (x i) < t) ⊎ (m ≤ i)
-      → min (dist k) (dist z) + (d .cost i (x i) + p (x i)) ≤ dist (x i) + (d .cost i k + p k)
-
-pub near-start : {d : Instance} {x p root dist rank via : ℕ → ℕ} {z : ℕ} → Settled d x p → ((k : ℕ) → dist k ≡ root k)
-    → ((k : ℕ) → In d (d .n) k → root k ≡ d .cost (d .n) k + p k → via k ≡ d .n) → ((k : ℕ) → rank k ≡ 0)
-    → Near d x p root dist rank via z 0 0
+pub near-start : {d : Instance} {x p root dist turn via : ℕ → ℕ} {z : ℕ} → Settled d x p → ((k : ℕ) → dist k ≡ root k)
+    → ((k : ℕ) → In d (d .n) k → root k ≡ d .cost (d .n) k + p k → via k ≡ d .n) → ((k : ℕ) → turn k ≡ 0)
+    → Near d x p root dist turn via z 0 0
 near-start {x = x} s same new none = record {
   settled = s;
   low = λ k. omega (arith, same k);
@@ -44,29 +25,11 @@ near-start {x = x} s same new none = record {
 
 -- from a landing at distance `from`, where it pays `base`, flight i offers the periods lo .. hi, where it pays `pays`
 
--- period k comes nearer, by way of flight i
-pub record Took (lo hi : ℕ) (pays : ℕ → ℕ) (i from base : ℕ) (dist dist₂ via₂ : ℕ → ℕ) (k : ℕ) : Type 0 where
-  pub from-lo : lo ≤ k
-  pub to-hi : k ≤ hi
-  pub less : from + pays k < dist k + base
-  pub far : dist₂ k + base ≡ from + pays k
-  pub by : via₂ k ≡ i
-
--- it stays as it was; an offer to it is no nearer than it is, or than the goal
-pub record Kept (lo hi : ℕ) (pays : ℕ → ℕ) (from base goal : ℕ) (dist dist₂ via via₂ : ℕ → ℕ) (k : ℕ) : Type 0 where
-  pub far : dist₂ k ≡ dist k
-  pub by : via₂ k ≡ via k
-  pub no-nearer : lo ≤ k → k ≤ hi → min (dist k) goal + base ≤ from + pays k
-
-abbrev pub Offered : (lo hi : ℕ) (pays : ℕ → ℕ) (i from base goal : ℕ) (dist dist₂ via via₂ : ℕ → ℕ) → Type 0
-Offered lo hi pays i from base goal dist dist₂ via via₂ =
-    (k : ℕ) → Took lo hi pays i from base dist dist₂ via₂ k ⊎ Kept lo hi pays from base goal dist dist₂ via via₂ k
-
-module _ {d : Instance} {x p root dist rank via : ℕ → ℕ} {z t m : ℕ} (s : Near d x p root dist rank via z t m) where
+module _ {d : Instance} {x p root dist turn via : ℕ → ℕ} {z t m : ℕ} (s : Near d x p root dist turn via z t m) where
   -- the nearest period that is not reached is reached
-  pub near-reach : {rank₂ : ℕ → ℕ} {at : ℕ} → m ≡ 0 → rank at ≡ 0 → ((k : ℕ) → rank k ≡ 0 → dist at ≤ dist k) → Moved rank rank₂ at (t + 1)
-      → Near d x p root dist rank₂ via z (t + 1) (d .n)
-  near-reach {rank₂} {at} all fresh least v = record {
+  pub near-reach : {turn₂ : ℕ → ℕ} {at : ℕ} → m ≡ 0 → turn at ≡ 0 → ((k : ℕ) → turn k ≡ 0 → dist at ≤ dist k) → Moved turn turn₂ at (t + 1)
+      → Near d x p root dist turn₂ via z (t + 1) (d .n)
+  near-reach {turn₂} {at} all fresh least v = record {
     settled = s .settled;
     low = s .low;
     how = λ k. elim (s .how k) [
@@ -77,12 +40,12 @@ module _ {d : Instance} {x p root dist rank via : ℕ → ℕ} {z t m : ℕ} (s 
         far = a .far;
         from = omega (arith, old (x (via k)) (a .from), a .from);
         lower = λ some. elim (eq? k at) [
-          | inl e ↦ omega (arith, ap rank₂ e, v .here, old (x (via k)) (a .from), s .top (x (via k)))
+          | inl e ↦ omega (arith, ap turn₂ e, v .here, old (x (via k)) (a .from), s .top (x (via k)))
           | inr e ↦ omega (arith, v .others k e, old (x (via k)) (a .from), a .lower (omega (arith, v .others k e)))
         ];
       })
     ];
-    top = λ k. elim (eq? k at) [ inl e ↦ omega (arith, ap rank₂ e, v .here) | inr e ↦ omega (arith, v .others k e, s .top k) ];
+    top = λ k. elim (eq? k at) [ inl e ↦ omega (arith, ap turn₂ e, v .here) | inr e ↦ omega (arith, v .others k e, s .top k) ];
     order = λ j k a b. elim (eq? j at) [
       | inl e ↦ rw e (least k (was k b))
       | inr e ↦ s .order j k (omega (arith, v .others j e)) (was k b)
@@ -92,20 +55,20 @@ module _ {d : Instance} {x p root dist rank via : ℕ → ℕ} {z t m : ℕ} (s 
       | inl e ↦ rw e (elim (eq? j at) [ inl f ↦ rw f (omega arith) | inr f ↦ s .order j at (omega (arith, v .others j f)) fresh ])
     ];
     near = λ i k l b a c. elim (eq? (x i) at) [
-      | inl e ↦ absurd (elim c [ inl f ↦ omega (arith, ap rank₂ e, v .here) | inr f ↦ omega arith ])
+      | inl e ↦ absurd (elim c [ inl f ↦ omega (arith, ap turn₂ e, v .here) | inr f ↦ omega arith ])
       | inr e ↦ s .near i k l b (omega (arith, v .others (x i) e)) (inr (omega arith))
     ];
   }
     where
-      old : (k : ℕ) → 0 < rank k → rank₂ k ≡ rank k
-      old k some = v .others k (λ e. omega (arith, ap rank e))
+      old : (k : ℕ) → 0 < turn k → turn₂ k ≡ turn k
+      old k some = v .others k (λ e. omega (arith, ap turn e))
 
-      was : (k : ℕ) → rank₂ k ≡ 0 → rank k ≡ 0
-      was k none = elim (eq? k at) [ inl e ↦ ap rank e ∙ fresh | inr e ↦ sym (v .others k e) ∙ none ]
+      was : (k : ℕ) → turn₂ k ≡ 0 → turn k ≡ 0
+      was k none = elim (eq? k at) [ inl e ↦ ap turn e ∙ fresh | inr e ↦ sym (v .others k e) ∙ none ]
 
-module _ {d : Instance} {x p root dist rank via : ℕ → ℕ} {z t m : ℕ} (s : Near d x p root dist rank via z t (m + 1)) where
+module _ {d : Instance} {x p root dist turn via : ℕ → ℕ} {z t m : ℕ} (s : Near d x p root dist turn via z t (m + 1)) where
   -- flight m does not land in the last period reached
-  pub near-pass : rank (x m) ≢ t → Near d x p root dist rank via z t m
+  pub near-pass : turn (x m) ≢ t → Near d x p root dist turn via z t m
   near-pass away = record {
     settled = s .settled;
     low = s .low;
@@ -120,7 +83,7 @@ module _ {d : Instance} {x p root dist rank via : ℕ → ℕ} {z t m : ℕ} (s 
   }
 
   -- it lands there, and offers the periods of its window
-  module _ {dist₂ via₂ : ℕ → ℕ} {hi from base : ℕ} (l : m < d .n) (some : 0 < t) (here : rank (x m) ≡ t) (to : hi ≡ d .hi m)
+  module _ {dist₂ via₂ : ℕ → ℕ} {hi from base : ℕ} (l : m < d .n) (some : 0 < t) (here : turn (x m) ≡ t) (to : hi ≡ d .hi m)
       (from-is : from ≡ dist (x m)) (base-is : base ≡ d .cost m (x m) + p (x m))
       (o : Offered (d .lo m) hi (λ k. d .cost m k + p k) m from base (dist z) dist dist₂ via via₂) where
     -- a reached period is no farther than the last, and flight m pays least where it lands
@@ -128,13 +91,13 @@ module _ {d : Instance} {x p root dist rank via : ℕ → ℕ} {z t m : ℕ} (s 
     own k c = omega (arith, s .settled .best m k l (record { from = c .from-lo; to = omega (arith, c .to-hi) }), base-is)
 
     -- what comes nearer is not reached
-    fresh : (k : ℕ) → Took (d .lo m) hi (λ k. d .cost m k + p k) m from base dist dist₂ via₂ k → rank k ≡ 0
-    fresh k c = elim (lt? 0 (rank k)) [
+    fresh : (k : ℕ) → Took (d .lo m) hi (λ k. d .cost m k + p k) m from base dist dist₂ via₂ k → turn k ≡ 0
+    fresh k c = elim (lt? 0 (turn k)) [
       | inl q ↦ absurd (omega (arith, c .less, own k c, s .last k (x m) q here, from-is))
       | inr q ↦ omega arith
     ]
 
-    pub offer-kept : (j : ℕ) → 0 < rank j → dist₂ j ≡ dist j
+    pub offer-kept : (j : ℕ) → 0 < turn j → dist₂ j ≡ dist j
     offer-kept j q = elim (o j) [ inl c ↦ absurd (omega (arith, fresh j c)) | inr e ↦ e .far ]
 
     pub offer-falls : (k : ℕ) → dist₂ k ≤ dist k
@@ -146,7 +109,7 @@ module _ {d : Instance} {x p root dist rank via : ℕ → ℕ} {z t m : ℕ} (s 
       | inr e ↦ omega (arith, e .far, offer-falls z, e .no-nearer (w .from) (omega (arith, w .to)))
     ]
 
-    pub near-offer : Near d x p root dist₂ rank via₂ z t m
+    pub near-offer : Near d x p root dist₂ turn via₂ z t m
     near-offer = record {
       settled = s .settled;
       low = λ k. omega (arith, offer-falls k, s .low k);

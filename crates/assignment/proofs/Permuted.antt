@@ -8,28 +8,13 @@ use native.Mathlib.Omega.{arith}
 use lib.Dec.{leb, eqb}
 use Rattle.assignment.specs.Sum.{gate, sum, count}
 use Rattle.assignment.specs.Assignment.{Instance, In, total, Accepted, mustLand, room, Short}
+use Rattle.assignment.specs.Moves.{put}
+use Rattle.assignment.specs.Orders.{Permuted, Swapped}
+use Rattle.assignment.specs.Instances.{ordered}
+use Rattle.assignment.specs.Insertion.{Link, Sound}
 use Rattle.assignment.proofs.Tests.{eq?, lt?, gate-eq, gate-ne}
 use Rattle.assignment.proofs.Sums.{sum-ext, sum-grow, sum-member, exchange-all, count-ext, count-move}
-use Rattle.assignment.proofs.Moves.{put, put-moved}
-use Rattle.assignment.proofs.Saving.{Link}
-use Rattle.assignment.proofs.Insertion.{Sound}
-
--- every place below n stands once in π 0 .. π (n - 1), and nothing else does
-pub record Permuted (n : ℕ) (π : ℕ → ℕ) : Type 0 where
-  pub below : (s : ℕ) → s < n → π s < n
-  pub once : (i : ℕ) → i < n → count n π i ≡ 1
-
--- the first n flights of the order π
-abbrev pub ordered : Instance → (ℕ → ℕ) → ℕ → Instance
-ordered d π n = record {
-  n = n;
-  m = d .m;
-  lo = λ s. d .lo (π s);
-  hi = λ s. d .hi (π s);
-  cost = λ s k. d .cost (π s) k;
-  cap = d .cap;
-  within = λ s. d .within (π s);
-}
+use Rattle.assignment.proofs.Moves.{put-moved}
 
 -- a place that is there stands somewhere
 pub record Stands (n : ℕ) (π : ℕ → ℕ) (i : ℕ) : Type 0 where
@@ -122,7 +107,7 @@ module _ (d : Instance) {π : ℕ → ℕ} (q : Permuted (d .n) π) where
       legal = record {
         window = λ i l.
             let h = permuted-stands q i l in
-            rw (h .is) at (turn (h .at) (rw (same (h .at) (h .in-row)) at (said .legal .window (h .at) (h .in-row))));
+            rw (h .is) at (renamed (h .at) (rw (same (h .at) (h .in-row)) at (said .legal .window (h .at) (h .in-row))));
         room = λ k. omega (arith, said .legal .room k, counts k);
       };
       unsold = λ k free. said .unsold k (omega (arith, counts k));
@@ -131,8 +116,8 @@ module _ (d : Instance) {π : ℕ → ℕ} (q : Permuted (d .n) π) where
           rw (h .is) at (pays (h .at) k (h .in-row) (rw (← (h .is)) at w));
     }
       where
-        turn : (s : ℕ) → In d′ s (x (π s)) → In d (π s) (x (π s))
-        turn s w = record { from = w .from; to = w .to }
+        renamed : (s : ℕ) → In d′ s (x (π s)) → In d (π s) (x (π s))
+        renamed s w = record { from = w .from; to = w .to }
 
         pays : (s k : ℕ) → s < d .n → In d (π s) k → d .cost (π s) (x (π s)) + p (x (π s)) ≤ d .cost (π s) k + p k
         pays s k l w = rw (same s l) at (said .best s k l (record { from = w .from; to = w .to }))
@@ -149,12 +134,6 @@ module _ (d : Instance) {π : ℕ → ℕ} (q : Permuted (d .n) π) where
 
       prefix : (n m : ℕ) → n ≤ m → (f : ℕ → ℕ) → sum n f ≤ sum m f
       prefix n m l f = let e : (m - n) + n ≡ m = omega arith in rw e at (sum-grow n (m - n) f)
-
--- π₂ is π with what stands at a and b exchanged
-pub record Swapped (π π₂ : ℕ → ℕ) (a b : ℕ) : Type 0 where
-  pub here : π₂ a ≡ π b
-  pub there : π₂ b ≡ π a
-  pub others : (s : ℕ) → s ≢ a → s ≢ b → π₂ s ≡ π s
 
 module _ {n : ℕ} {π π₂ : ℕ → ℕ} {a b : ℕ} (q : Permuted n π) (in-a : a < n) (in-b : b < n) (apart : a ≢ b) (v : Swapped π π₂ a b) where
   pub swapped : Permuted n π₂
@@ -229,14 +208,14 @@ module _ (d : Instance) {n : ℕ} {σ : ℕ → ℕ} (π π₂ x y : ℕ → ℕ
         s .accepted .best (σ i) k (q .below i l) (record { from = omega (arith, w .from, from l refl); to = omega (arith, w .to, to l refl) }),
       );
     };
-    rank = s .rank;
+    height = s .height;
     held = λ k. elim (s .held k) [
       | inl none ↦ inl none
       | inr a ↦ inr (linked a (permuted-stands q (a .by) (a .who)))
     ];
   }
     where
-      linked : {k : ℕ} (a : Link (ordered d π n) x p (s .rank) k) → Stands n σ (a .by) → Link (ordered d π₂ n) y p (s .rank) k
+      linked : {k : ℕ} (a : Link (ordered d π n) x p (s .height) k) → Stands n σ (a .by) → Link (ordered d π₂ n) y p (s .height) k
       linked {k} a h = record {
         by = h .at;
         who = h .in-row;

@@ -1,55 +1,30 @@
 -- The search for a place for a new flight need look no farther than the first period f that has room. Costs rise along a window and the
 -- price of f is 0, so whoever may land in f lands no later; and if nobody gains by going to f, nobody gains by going beyond it.
 -- Assumes nothing.
-use mathlib.Core.Path.{_≡_, refl}
+use mathlib.Core.Path.{_≡_, ap}
 use mathlib.Core.Logic.{_⊎_, inl, inr}
-use mathlib.Core.Bool.{Bool, true, false, not, cond, _&&_}
+use mathlib.Core.Bool.{_&&_}
 use Prim.Native.Nat.{ℕ, _+_, _≤_, _<_, min}
 use native.Mathlib.Omega.{arith}
 use lib.Dec.{T, leb, leb→le, le→leb, not-T}
 use Rattle.assignment.specs.Sum.{gate}
 use Rattle.assignment.specs.Assignment.{Instance, In, mustLand, room, Short}
-use Rattle.assignment.proofs.Tests.{lt?, gate-on, gate-le, and-T, T-and}
+use Rattle.assignment.specs.Instances.{until, until-le, restricted}
+use Rattle.assignment.specs.Insertion.{Sound}
+use Rattle.assignment.proofs.Tests.{lt?, cond-on, cond-off, gate-on, gate-le, and-T, T-and}
 use Rattle.assignment.proofs.Sums.{sum-le}
-use Rattle.assignment.proofs.Insertion.{Sound}
 
 -- a later landing costs more than one in an open period
 pub record Rising (d : Instance) : Type 0 where
   pub dearer : (i j k : ℕ) → i < d .n → In d i j → In d i k → 0 < d .cap j → j < k → d .cost i j < d .cost i k
 
--- the last period of a window, but f if it reaches beyond f from there or before
-unfoldable pub until : ℕ → ℕ → ℕ → ℕ
-until f lo hi = cond (leb lo f) (min hi f) hi
-
 pub until-near : {f lo : ℕ} (hi : ℕ) → lo ≤ f → until f lo hi ≡ min hi f
 unfolding until
-until-near {f} {lo} hi l = on (leb lo f) (le→leb lo f l)
-  where
-    on : (b : Bool) → T b → cond b (min hi f) hi ≡ min hi f
-    on true t = refl
-    on false t = absurd t
+until-near {f} {lo} hi l = ap (min hi) (cond-on (leb lo f) f hi (le→leb lo f l))
 
 until-far : {f lo : ℕ} (hi : ℕ) → f < lo → until f lo hi ≡ hi
 unfolding until
-until-far {f} {lo} hi l = off (leb lo f) (not-T (leb lo f) (λ t. omega (arith, leb→le lo f t)))
-  where
-    off : (b : Bool) → T (not b) → cond b (min hi f) hi ≡ hi
-    off true t = absurd t
-    off false t = refl
-
-pub until-le : (f lo hi : ℕ) → until f lo hi ≤ hi
-until-le f lo hi = elim (lt? f lo) [ inl a ↦ omega (arith, until-far hi a) | inr a ↦ omega (arith, until-near hi a) ]
-
-abbrev pub restricted : Instance → ℕ → Instance
-restricted d f = record {
-  n = d .n;
-  m = d .m;
-  lo = d .lo;
-  hi = λ i. until f (d .lo i) (d .hi i);
-  cost = d .cost;
-  cap = d .cap;
-  within = λ i. omega (arith, d .within i, until-le f (d .lo i) (d .hi i));
-}
+until-far {f} {lo} hi l = omega (arith, cond-off (leb lo f) f hi (not-T (leb lo f) (λ t. omega (arith, leb→le lo f t))))
 
 module _ (d : Instance) (f : ℕ) where
   pub wider-in : {i k : ℕ} → In (restricted d f) i k → In d i k
@@ -83,7 +58,7 @@ module _ (d : Instance) (f : ℕ) where
         unsold = s .accepted .unsold;
         best = λ i k l w. s .accepted .best i k l (wider-in w);
       };
-      rank = s .rank;
+      height = s .height;
       held = λ k. elim (s .held k) [
         | inl e ↦ inl e
         | inr a ↦ inr (record {
@@ -106,7 +81,7 @@ module _ (d : Instance) (f : ℕ) where
         | inr a ↦ omega (arith, s .accepted .best i f l (a .0), rise .dearer i f k l (wider-in (a .0)) w some (a .1))
       ];
     };
-    rank = s .rank;
+    height = s .height;
     held = λ k. elim (s .held k) [
       | inl e ↦ inl e
       | inr a ↦ inr (record { by = a .by; who = a .who; fits = wider-in (a .fits); lower = a .lower; tie = a .tie })

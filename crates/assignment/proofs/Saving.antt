@@ -1,25 +1,15 @@
 -- Prices that are held up: each is what one more landing in its period would save, so none is above the total.
 -- Assumes nothing.
 use mathlib.Core.Path.{_≡_, ap}
-use mathlib.Core.Logic.{_⊎_, inl, inr, _≢_}
+use mathlib.Core.Logic.{inl, inr, _≢_}
 use Prim.Native.Nat.{ℕ, zero, suc, _+_, _≤_, _<_}
 use native.Mathlib.Omega.{arith}
 use lib.Dec.{eqb}
 use Rattle.assignment.specs.Sum.{gate, count}
 use Rattle.assignment.specs.Assignment.{Instance, In, Plan, total, Accepted}
-use Rattle.assignment.proofs.Moves.{Moved, moved-count, moved-total, moved-window, put, put-moved}
-
--- a flight that lands in a period of a lower rank may as well land in k
-pub record Link (d : Instance) (x q rank : ℕ → ℕ) (k : ℕ) : Type 0 where
-  pub by : ℕ
-  pub who : by < d .n
-  pub fits : In d by k
-  pub lower : rank (x by) < rank k
-  pub tie : d .cost by k + q k ≡ d .cost by (x by) + q (x by)
-
--- the price of k is 0, or a flight may as well land there as in a period of a lower rank
-abbrev pub Held : (d : Instance) (x q rank : ℕ → ℕ) (k : ℕ) → Type 0
-Held d x q rank k = (q k ≡ 0) ⊎ Link d x q rank k
+use Rattle.assignment.specs.Moves.{Moved, put}
+use Rattle.assignment.specs.Insertion.{Link, Held}
+use Rattle.assignment.proofs.Moves.{moved-count, moved-total, moved-window, put-moved}
 
 -- a plan of the day with one more place in k, which saves the price of k
 pub record Saved (d : Instance) (x q : ℕ → ℕ) (k : ℕ) : Type 0 where
@@ -29,12 +19,12 @@ pub record Saved (d : Instance) (x q : ℕ → ℕ) (k : ℕ) : Type 0 where
   pub saves : total d plan + q k ≡ total d x
 
 -- a link of which the flight stays
-pub stays : {d : Instance} {x y q rank : ℕ → ℕ} {k i z : ℕ} → Moved x y i z → (a : Link d x q rank k) → a .by ≢ i → Link d y q rank k
+pub stays : {d : Instance} {x y q height : ℕ → ℕ} {k i z : ℕ} → Moved x y i z → (a : Link d x q height k) → a .by ≢ i → Link d y q height k
 stays v a e = let same = v .others (a .by) e in record { by = a .by; who = a .who; fits = a .fits; lower = rw same (a .lower); tie = rw same (a .tie) }
 
 -- the flights of the chain move by one place each
-module _ (d : Instance) (q rank : ℕ → ℕ) where
-  pub save : (t k : ℕ) (x : Plan) → rank k < t → ((i : ℕ) → i < d .n → In d i (x i)) → ((j : ℕ) → rank j ≤ rank k → Held d x q rank j) → Saved d x q k
+module _ (d : Instance) (q height : ℕ → ℕ) where
+  pub save : (t k : ℕ) (x : Plan) → height k < t → ((i : ℕ) → i < d .n → In d i (x i)) → ((j : ℕ) → height j ≤ height k → Held d x q height j) → Saved d x q k
   save zero k x b w held = absurd (omega arith)
   save (suc t) k x b w held = elim (held k (omega arith)) [
     | inl free ↦ record { plan = x; window = w; counts = λ j. omega arith; saves = omega arith }
@@ -44,7 +34,7 @@ module _ (d : Instance) (q rank : ℕ → ℕ) where
         let s : Saved d (put x i k) q (x i) = save t (x i) (put x i k) (omega (arith, a .lower)) (moved-window d v (a .who) (a .fits) w)
         (λ j low. elim (held j (omega (arith, a .lower))) [
           | inl free ↦ inl free
-          | inr o ↦ inr (stays v o (λ e. omega (arith, o .lower, ap (λ z. rank (x z)) e)))
+          | inr o ↦ inr (stays v o (λ e. omega (arith, o .lower, ap (λ z. height (x z)) e)))
         ]) in
         record {
           plan = s .plan;
@@ -59,5 +49,5 @@ pub record Smallest (d : Instance) (x q : ℕ → ℕ) : Type 0 where
   pub accepted : Accepted d x q
   pub saved : (k : ℕ) → Saved d x q k
 
-pub smallest : (d : Instance) (x q rank : ℕ → ℕ) → Accepted d x q → ((k : ℕ) → Held d x q rank k) → Smallest d x q
-smallest d x q rank said held = record { accepted = said; saved = λ k. save d q rank (suc (rank k)) k x (omega arith) (said .legal .window) (λ j _. held j) }
+pub smallest : (d : Instance) (x q height : ℕ → ℕ) → Accepted d x q → ((k : ℕ) → Held d x q height k) → Smallest d x q
+smallest d x q height said held = record { accepted = said; saved = λ k. save d q height (suc (height k)) k x (omega arith) (said .legal .window) (λ j _. held j) }

@@ -9,9 +9,9 @@ use native.Mathlib.Omega.{arith}
 use lib.Dec.{T, leb, ltb, leb→le, le→leb, ltb→lt, T-not, not-T}
 use Rattle.assignment.specs.Sum.{gate, sum, count}
 use Rattle.assignment.specs.Assignment.{Instance, In, Plan, mustLand, room, Short}
+use Rattle.assignment.specs.Instances.{grown}
 use Rattle.assignment.proofs.Tests.{gate-on, gate-le, gate-mul-ge, T-and, test, lt?}
 use Rattle.assignment.proofs.Sums.{sum-le, exchange}
-use Rattle.assignment.proofs.Insertion.{grown}
 
 -- a set r of periods from k up to where it ends, and from k down
 record Up (r : ℕ → Bool) (k : ℕ) : Type 0 where

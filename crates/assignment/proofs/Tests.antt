@@ -1,8 +1,8 @@
 -- Tests taken apart, and the terms of a sum that a test lets through.
 -- Assumes nothing.
-use mathlib.Core.Path.{_≡_, refl}
+use mathlib.Core.Path.{_≡_, refl, sym, ap}
 use mathlib.Core.Logic.{_⊎_, inl, inr, _≢_}
-use mathlib.Core.Bool.{Bool, true, false, not, _&&_}
+use mathlib.Core.Bool.{Bool, true, false, not, cond, _&&_, _||_}
 use Prim.Native.Nat.{ℕ, _*_, _≤_, _<_, zero-le}
 use native.Mathlib.Omega.{arith}
 use lib.Dec.{T, ltb, eqb, ltb→lt, lt→ltb, nltb→le, eqb→eq, eqb-refl, not-T}
@@ -28,6 +28,14 @@ pub gate-mul-ge : (b : Bool) (x y : ℕ) → (T b → y ≤ x) → gate b y ≤ 
 gate-mul-ge true x y h = omega (arith, h tt)
 gate-mul-ge false x y h = zero-le
 
+pub cond-on : (b : Bool) (x y : ℕ) → T b → cond b x y ≡ x
+cond-on true x y t = refl
+cond-on false x y t = absurd t
+
+pub cond-off : (b : Bool) (x y : ℕ) → T (not b) → cond b x y ≡ y
+cond-off true x y t = absurd t
+cond-off false x y t = refl
+
 pub and-T : (a b : Bool) → T (a && b) → T a × T b
 and-T true b t = (tt, t)
 and-T false b t = absurd t
@@ -35,6 +43,49 @@ and-T false b t = absurd t
 pub T-and : (a b : Bool) → T a → T b → T (a && b)
 T-and true b s t = t
 T-and false b s t = s
+
+-- the same of tests that are said to come out true
+pub and-true : {a b : Bool} → (a && b) ≡ true → (a ≡ true) × (b ≡ true)
+and-true {a} {b} e = both a b e
+  where
+    both : (a b : Bool) → (a && b) ≡ true → (a ≡ true) × (b ≡ true)
+    both true b e = (refl, e)
+    both false b e = (e, absurd (omega (arith, ap {B = ℕ} (λ b. cond b 1 0) e)))
+
+pub true-and : {a b : Bool} → a ≡ true → b ≡ true → (a && b) ≡ true
+true-and e f = rw (e, f)
+
+pub and-assoc : (a b c : Bool) → (a && (b && c)) ≡ (a && b && c)
+and-assoc true b c = refl
+and-assoc false b c = refl
+
+pub and-false : (a : Bool) → (a && false) ≡ false
+and-false true = refl
+and-false false = refl
+
+pub or-T : (a b : Bool) → T (a || b) → T a ⊎ T b
+or-T true b t = inl tt
+or-T false b t = inr t
+
+pub T-or-l : (a b : Bool) → T a → T (a || b)
+T-or-l true b t = tt
+T-or-l false b t = absurd t
+
+pub T-or-r : (a b : Bool) → T b → T (a || b)
+T-or-r true b t = tt
+T-or-r false b t = t
+
+pub is-true : (b : Bool) → T b → b ≡ true
+is-true true t = refl
+is-true false t = absurd t
+
+pub is-false : (b : Bool) → (T b → ⊥) → b ≡ false
+is-false true t = absurd (t tt)
+is-false false t = refl
+
+pub same-test : (a b : Bool) → (T a → T b) → (T b → T a) → a ≡ b
+same-test true b f g = sym (is-true b (f tt))
+same-test false b f g = sym (is-false b g)
 
 pub test : (b : Bool) → T b ⊎ T (not b)
 test true = inl tt

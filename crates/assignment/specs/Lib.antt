@@ -1,2 +1,9 @@
 pub mod Sum
 pub mod Assignment
+pub mod Rows
+pub mod Moves
+pub mod Orders
+pub mod Chains
+pub mod Instances
+pub mod Search
+pub mod Insertion

@@ -3,9 +3,10 @@
 use mathlib.Core.Path.{refl}
 use native.Mathlib.Omega.{arith}
 use Rattle.assignment.specs.Sum.{sum, count}
+use Rattle.assignment.specs.Rows.{row}
 use Rattle.day.specs.Day.{N, holdCost, latest, total, all, numbersFit, isNew, valid}
 use Rattle.day.specs.Plan.{mustLand, room, tooLong, overCapacity, breaks, firstOf, firstBreak}
-use Rattle.quick_plan.specs.Quick.{ahead, row}
+use Rattle.quick_plan.specs.Quick.{ahead}
 use Rattle.quick_plan.specs.Loop.{pick, bestTo, waiting, top, landAll, rowTo}
 use Rattle.cases.specs.Cases.{dayA, dayB, dayD, dayE, dayF, dayG, dayH, dayI, dayJ, dayK, holdsJ, Correct, table}
 use Rattle.cases.proofs.Check.{accepts, gets-yes, cheaperAt, gets-no, least-total, picks, no-plan, landIn, oneOf, quick-holds, two-land}

@@ -10,16 +10,17 @@ use native.Mathlib.Omega.{arith}
 use lib.ListN.{length, getD}
 use lib.Dec.{leb, ltb, eqb}
 use borrow.Author.Tests.{leb-true, ltb-true, eqb-true, lt-ltb, le-leb}
-use Rattle.assignment.proofs.Tests.{lt?}
+use Rattle.assignment.specs.Rows.{row}
+use Rattle.assignment.proofs.Rows.{row-at}
+use Rattle.assignment.proofs.Tests.{lt?, and-true, true-and}
 use Rattle.day.specs.Day.{Day, P, N, number, due, ofPeriod, capacity, cost, latest, Window, hold, land, landings, total, all, valid}
 use Rattle.day.specs.Plan.{Accepted, Picked, Short, mustLand, room, firstBreak}
-use Rattle.day.proofs.Tests.{all-at, and-true, true-and}
+use Rattle.day.proofs.Tests.{all-at}
 use Rattle.day.proofs.Valid.{valid-means}
 use Rattle.day.proofs.Instance.{accepted-is-cheapest, short-has-no-plan}
 use Rattle.legality.proofs.Meaning.{walk-means}
-use Rattle.quick_plan.specs.Quick.{row, quick}
+use Rattle.quick_plan.specs.Quick.{quick}
 use Rattle.quick_plan.specs.Loop.{rowTo}
-use Rattle.quick_plan.proofs.Row.{row-at}
 use Rattle.quick_plan.proofs.Plan.{operates-end, quick-land}
 use Rattle.quick_plan.proofs.Rows.{rowTo-quick}
 use Rattle.cases.specs.Cases.{TotalIsLeast, NoneIsLegal, OnlyTwoLand}

@@ -7,10 +7,9 @@ use Prim.Native.Nat.{ℕ, zero, suc, _+_, _-_, _*_, _/_, _^_, _≤_, _<_}
 use native.Mathlib.Omega.{arith}
 use lib.ListN.{getD, length, set, length-set}
 use lib.Seq.{getD-set-same, getD-set-other}
+use Rattle.assignment.specs.Moves.{Moved}
 use Rattle.assignment.proofs.Tests.{eq?, lt?}
-use Rattle.assignment.proofs.Moves.{Moved}
 use Rattle.day.specs.Day.{Day, P, N, width, ofPeriod, due, cost, capacity, latest, Window, hold, land}
-use Rattle.day.proofs.Valid.{Valid}
 use Rattle.day.proofs.Costs.{period-in, period-out}
 use Rattle.closed_prices.specs.ClosedPrices.{paid, CanPay, Shortfall, Sets, LeastPrice, CanPrice, Priced}
 

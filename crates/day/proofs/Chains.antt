@@ -10,9 +10,10 @@ use native.Mathlib.Nat.{mod-lt}
 use lib.ListN.{length, getD, set, length-set, replicate, length-replicate, getD-replicate}
 use lib.Seq.{getD-set-same, getD-set-other}
 use borrow.Author.Tests.{eq-eqb, ne-eqb}
+use Rattle.assignment.specs.Moves.{Moved}
+use Rattle.assignment.specs.Chains.{Newest}
 use Rattle.assignment.proofs.Tests.{eq?, lt?}
-use Rattle.assignment.proofs.Moves.{Moved}
-use Rattle.assignment.proofs.Chains.{Newest, chained-start, chained-add}
+use Rattle.assignment.proofs.Chains.{chained-start, chained-add}
 use Rattle.day.specs.Day.{column, width, all, isNew}
 use Rattle.day.specs.Chains.{chains, chain, Linked, Passed}
 use Rattle.day.proofs.Tests.{all-next, all-from, all-not}

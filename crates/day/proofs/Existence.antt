@@ -1,18 +1,18 @@
 -- A legal plan of a day exists exactly when no stretch is short.
 -- Assumes nothing.
-use mathlib.Core.Path.{_≡_, refl, ap, _∙_}
+use mathlib.Core.Path.{_≡_, ap}
 use mathlib.Core.Logic.{_⊎_, inl, inr, _↔_}
 use mathlib.Core.Bool.{_&&_}
-use mathlib.Core.List.{List, [], _∷_, _++_}
-use Prim.Native.Nat.{ℕ, zero, suc, _+_, _-_, _≤_, _<_}
+use mathlib.Core.List.{List}
+use Prim.Native.Nat.{ℕ, _+_, _-_, _≤_, _<_}
 use native.Mathlib.Omega.{arith}
-use lib.ListN.{length, getD, length-append, List·getD-append}
-use lib.Seq.{getD-at}
 use lib.Dec.{leb, le→leb}
 use Rattle.assignment.specs.Sum.{gate}
 use Rattle.assignment.specs.Assignment as A
+use Rattle.assignment.specs.Rows.{row}
 use Rattle.assignment.proofs.Tests.{lt?, eq?, gate-on, gate-le}
 use Rattle.assignment.proofs.Sums.{sum-most, sum-member, count-ext}
+use Rattle.assignment.proofs.Rows.{row-length, row-at}
 use Rattle.assignment.proofs.Existence as existence
 use Rattle.day.specs.Day.{Day, P, N, due, limit, takes, land}
 use Rattle.day.specs.Plan.{Legal, Short, Picked}
@@ -30,24 +30,6 @@ pub record HasShort (d : Day) : Type 0 where
   pub b : ℕ
   pub short : Short d a b
 
--- the row g 0, .., g (n - 1)
-row : ℕ → (ℕ → ℕ) → List ℕ
-row zero g = []
-row (suc n) g = row n g ++ (g n ∷ [])
-
-row-length : (n : ℕ) (g : ℕ → ℕ) → length (row n g) ≡ n
-unfolding row
-row-length zero g = refl
-row-length (suc n) g = simp length-append (omega (arith, row-length n g))
-
-row-at : (n : ℕ) (g : ℕ → ℕ) (i : ℕ) → i < n → getD (row n g) i 0 ≡ g i
-unfolding row
-row-at zero g i l = absurd (omega arith)
-row-at (suc n) g i l = elim (eq? i n) [
-  | inl e ↦ rw e (getD-at (row n g) (g n) [] 0 n (row-length n g))
-  | inr e ↦ List·getD-append (row n g) (g n ∷ []) 0 i (omega (arith, row-length n g)) ∙ row-at n g i (omega arith)
-]
-
 module _ {d : Day} (v : Valid d) where
   due-le-last : (i : ℕ) → i < N d → due d i ≤ last d i
   unfolding last
@@ -63,7 +45,7 @@ module _ {d : Day} (v : Valid d) where
       holds = row (N d) (λ i. p .plan i - due d i)
 
       lands : (i : ℕ) → i < N d → land d holds i ≡ p .plan i
-      lands i l = omega (arith, row-at (N d) (λ o. p .plan o - due d o) i l, p .legal .window i l .from)
+      lands i l = omega (arith, row-at (N d) (λ o. p .plan o - due d o) i 0 l, p .legal .window i l .from)
 
       legal : A.Legal (instance d) (land d holds)
       legal = record {

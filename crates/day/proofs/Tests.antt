@@ -2,34 +2,13 @@
 -- Assumes nothing.
 use mathlib.Core.Path.{_≡_, refl, sym, ap, _∙_}
 use mathlib.Core.Logic.{inl, inr}
-use mathlib.Core.Bool.{Bool, true, false, cond, _&&_}
+use mathlib.Core.Bool.{Bool, true, false, cond}
 use Prim.Native.Nat.{ℕ, zero, suc, _+_, _≤_, _<_, zero-le}
 use native.Mathlib.Omega.{arith}
 use native.Mathlib.Numerals.{add-one}
-use Rattle.assignment.proofs.Tests.{eq?}
+use Rattle.assignment.proofs.Tests.{eq?, and-true, true-and, and-false}
 use Rattle.day.specs.Day.{all}
 use Rattle.day.specs.Plan.{firstOf}
-
-false-true : false ≡ true → ⊥
-false-true e = omega (arith, ap {B = ℕ} (λ b. cond b 1 0) e)
-
-both-true : (a b : Bool) → (a && b) ≡ true → (a ≡ true) × (b ≡ true)
-both-true true b e = (refl, e)
-both-true false b e = (e, absurd (false-true e))
-
-pub and-true : {a b : Bool} → (a && b) ≡ true → (a ≡ true) × (b ≡ true)
-and-true {a} {b} e = both-true a b e
-
-pub true-and : {a b : Bool} → a ≡ true → b ≡ true → (a && b) ≡ true
-true-and e f = rw (e, f)
-
-pub and-assoc : (a b c : Bool) → (a && (b && c)) ≡ (a && b && c)
-and-assoc true b c = refl
-and-assoc false b c = refl
-
-and-false : (a : Bool) → (a && false) ≡ false
-and-false true = refl
-and-false false = refl
 
 -- ---- all
 
@@ -40,7 +19,7 @@ all-next n f e h = rw (add-one, e, h)
 pub all-at : (n : ℕ) (f : ℕ → Bool) → all n f ≡ true → (i : ℕ) → i < n → f i ≡ true
 unfolding all
 all-at zero f e i l = absurd (omega arith)
-all-at (suc n) f e i l = elim (eq? i n) [ inl s ↦ rw s (both-true (all n f) (f n) e .1) | inr o ↦ all-at n f (both-true (all n f) (f n) e .0) i (omega arith) ]
+all-at (suc n) f e i l = elim (eq? i n) [ inl s ↦ rw s (and-true {a = all n f} {b = f n} e .1) | inr o ↦ all-at n f (and-true {a = all n f} {b = f n} e .0) i (omega arith) ]
 
 pub all-from : (n : ℕ) (f : ℕ → Bool) → ((i : ℕ) → i < n → f i ≡ true) → all n f ≡ true
 unfolding all

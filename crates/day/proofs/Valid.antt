@@ -7,9 +7,10 @@ use Prim.Native.Nat.{ℕ, _*_, _≤_, _<_}
 use lib.ListN.{length, getD}
 use lib.Dec.{leb}
 use borrow.Author.Tests.{le-leb, lt-leb, eq-eqb, ne-eqb, leb-true, eqb-true, eqb-false, not-true}
+use Rattle.assignment.proofs.Tests.{and-true, true-and, and-assoc}
 use Rattle.day.specs.Day.{Day, P, N, mostPeriods, mostFlights, number, due, rate, after, jump, limit, missing, all, inside, flightAt, flightFits, inRange, isNew, valid, width}
 use Rattle.day.specs.Valid.{InRange, Valid}
-use Rattle.day.proofs.Tests.{all-at, all-from, and-true, true-and, and-assoc}
+use Rattle.day.proofs.Tests.{all-at, all-from}
 
 -- ---- the whole check, in its order
 

@@ -5,7 +5,7 @@ use mathlib.Core.Bool.{true}
 use mathlib.Core.List.{List}
 use Prim.Native.Nat.{ℕ, _*_, _%_, _≤_}
 use lib.ListN.{length, getD}
-use Rattle.assignment.proofs.Chains.{Chained}
+use Rattle.assignment.specs.Chains.{Chained}
 use Rattle.day.specs.Day.{column, width, mostFlights, all, isNew}
 
 -- how many chains there are; a flight stands in that of its number's residue

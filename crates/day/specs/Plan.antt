@@ -58,13 +58,13 @@ unfoldable pub tooLong : Day → ℕ → ℕ → Bool
 tooLong d i k = ltb (P d + 1) k || ltb (latest d i) k
 
 -- a landing in period k, the m-th there, is over capacity; the closing period takes any number
-unfoldable pub overCapacity : Day → ℕ → ℕ → Bool
-overCapacity d k m = leb k (P d) && ltb (capacity d k) m
+unfoldable pub overCapacity : List ℕ → ℕ → ℕ → Bool
+overCapacity capacities k m = leb k (length capacities) && ltb (ofPeriod capacities k) m
 
 -- "For 10, walk the table: the first flight whose hold is too long, or whose period, counted with the flights before it, is over capacity."
 unfoldable pub breaks : Day → List ℕ → ℕ → Bool
 unfolding tooLong overCapacity
-breaks d holds i = tooLong d i (land d holds i) || overCapacity d (land d holds i) (count (suc i) (land d holds) (land d holds i))
+breaks d holds i = tooLong d i (land d holds i) || overCapacity (d .capacities) (land d holds i) (count (suc i) (land d holds) (land d holds i))
 
 -- the first of 0 .. n - 1 for which the test holds, or n
 unfoldable pub firstOf : ℕ → (ℕ → Bool) → ℕ

@@ -8,26 +8,29 @@ use native.Mathlib.Omega.{arith}
 use lib.ListN.{length, replicate, length-replicate, getD-replicate, List·getD-eq-default}
 use Rattle.assignment.specs.Sum.{sum}
 use Rattle.assignment.specs.Assignment as A
+use Rattle.assignment.specs.Rows.{el}
+use Rattle.assignment.specs.Instances.{ordered}
+use Rattle.assignment.specs.Insertion.{Sound}
 use Rattle.assignment.proofs.Tests.{eq?, lt?}
 use Rattle.assignment.proofs.Sums.{count-zero}
-use Rattle.assignment.proofs.Insertion.{Sound, sound-start, price-le}
+use Rattle.assignment.proofs.Insertion.{sound-start, price-le}
 use Rattle.assignment.proofs.Chains.{chained-start}
 use Rattle.assignment.proofs.Closed.{Tied, priced, lands-open, opened-total}
-use Rattle.assignment.proofs.Permuted.{ordered, Stands, permuted-stands, permuted-accepted, permuted-total}
+use Rattle.assignment.proofs.Permuted.{Stands, permuted-stands, permuted-accepted, permuted-total}
 use Rattle.day.specs.Day.{Day, P, N, ofPeriod, due, capacity, cost as cost-of, Window, hold, land, total}
 use Rattle.day.proofs.Costs.{period-out}
 use Rattle.day.proofs.Instance.{instance, last-to, places-in, places-closing, cost-le, window-in, in-window, instance-accepted, total-instance}
 use Rattle.closed_prices.specs.ClosedPrices.{paid, Sets, CanPrice, Priced}
 use Rattle.due_order.specs.DueOrder.{DueOrder, CanOrder}
-use Rattle.path.specs.Path.{el, far, away, dear, room-in, begun, landing}
+use Rattle.path.specs.Path.{far, away, dear, room-in, begun, landing}
 use Rattle.insertion.specs.Insertion.{Placed, Kept, Inserted, cost-of-placed, Cleared, CanInsert, Planned}
 use Rattle.insertion.proofs.Inserting.{placed-total}
 
 -- n flights are placed at the cost that was added up
-pub record Building (d : Day) (places holds prices loads first-in next-in list queue dist rank via : List ℕ) (cost n : ℕ) : Type 0 where
+pub record Building (d : Day) (places holds prices loads first-in next-in list queue dist turn via : List ℕ) (cost n : ℕ) : Type 0 where
   pub places-row : length places ≡ 128
   pub placed : Placed d places holds prices n
-  pub kept : Kept d places holds loads first-in next-in list queue dist rank via n
+  pub kept : Kept d places holds loads first-in next-in list queue dist turn via n
   pub cost-is : cost ≡ cost-of-placed d places holds n
 
 blank : (m k : ℕ) → el (replicate m 0) k ≡ 0
@@ -74,15 +77,15 @@ module _ {d : Day} {holds prices : List ℕ} (c : CanInsert d holds prices) wher
       };
       listed = length-replicate {A = ℕ} 98 0;
       queue-row = length-replicate {A = ℕ} 98 0;
-      rows = record { dists = length-replicate {A = ℕ} 98 far; ranks = length-replicate {A = ℕ} 98 0; vias = length-replicate {A = ℕ} 98 0 };
+      rows = record { dists = length-replicate {A = ℕ} 98 far; turns = length-replicate {A = ℕ} 98 0; vias = length-replicate {A = ℕ} 98 0 };
       all-far = blank-far 98;
-      no-ranks = blank 98;
+      no-turns = blank 98;
     };
     cost-is = sym (none-placed (begun d places 0) (landing d places holds) refl);
   }
 
-module _ {d : Day} {places holds prices loads first-in next-in list queue dist rank via : List ℕ} {cost n : ℕ}
-    (s : Building d places holds prices loads first-in next-in list queue dist rank via cost n) where
+module _ {d : Day} {places holds prices loads first-in next-in list queue dist turn via : List ℕ} {cost n : ℕ}
+    (s : Building d places holds prices loads first-in next-in list queue dist turn via cost n) where
   pub building-more : n < length holds → n < N d
   building-more l = omega (arith, s .placed .holds-row)
 
@@ -90,9 +93,9 @@ module _ {d : Day} {places holds prices loads first-in next-in list queue dist r
     pub building-small : (cost + added ≤ 250880000) × (n < 128)
     building-small = omega (arith, s .cost-is, a .adds, placed-total (a .placed), a .placed .upto, s .placed .table .valid .flights-to)
 
-    pub building-next : {loads₂ first-in₂ next-in₂ list₂ queue₂ dist₂ rank₂ via₂ : List ℕ} → length places₂ ≡ length places
-        → Kept d places₂ holds₂ loads₂ first-in₂ next-in₂ list₂ queue₂ dist₂ rank₂ via₂ (n + 1)
-        → Building d places₂ holds₂ prices₂ loads₂ first-in₂ next-in₂ list₂ queue₂ dist₂ rank₂ via₂ (cost + added) (n + 1)
+    pub building-next : {loads₂ first-in₂ next-in₂ list₂ queue₂ dist₂ turn₂ via₂ : List ℕ} → length places₂ ≡ length places
+        → Kept d places₂ holds₂ loads₂ first-in₂ next-in₂ list₂ queue₂ dist₂ turn₂ via₂ (n + 1)
+        → Building d places₂ holds₂ prices₂ loads₂ first-in₂ next-in₂ list₂ queue₂ dist₂ turn₂ via₂ (cost + added) (n + 1)
     building-next same kept = record { places-row = same ∙ s .places-row; placed = a .placed; kept = kept; cost-is = omega (arith, s .cost-is, a .adds) }
 
   module _ (end : length holds ≤ n) where

@@ -9,19 +9,24 @@ use lib.ListN.{getD, length, set, length-set}
 use Rattle.assignment.specs.Sum.{count}
 use Rattle.assignment.specs.Assignment as A
 use Rattle.assignment.specs.Assignment.{In}
+use Rattle.assignment.specs.Rows.{el}
+use Rattle.assignment.specs.Moves.{Moved}
+use Rattle.assignment.specs.Instances.{opened, ordered, until-le, restricted}
+use Rattle.assignment.specs.Search.{Step}
+use Rattle.assignment.specs.Insertion.{Sound}
 use Rattle.assignment.proofs.Tests.{eq?, lt?}
 use Rattle.assignment.proofs.Sums.{sum-most, count-le}
-use Rattle.assignment.proofs.Moves.{Moved, put-moved}
-use Rattle.assignment.proofs.Near.{Step}
-use Rattle.assignment.proofs.Insertion.{Sound, Found, price-le, going, ground, order as reach-order, z-free, going-end, going-total}
-use Rattle.assignment.proofs.Closed.{opened, open-cost, shut-cost, opened-short, lands-open}
-use Rattle.assignment.proofs.Permuted.{ordered, permuted-short, reordered-sound, reordered-total}
-use Rattle.assignment.proofs.Restricted.{Rising, until-near, until-le, restricted, restrict, widen, widen-short}
+use Rattle.assignment.proofs.Moves.{put-moved}
+use Rattle.assignment.proofs.Insertion.{Found, price-le, going, ground, order as reach-order, z-free, going-end, going-total}
+use Rattle.assignment.proofs.Closed.{open-cost, shut-cost, opened-short, lands-open}
+use Rattle.assignment.proofs.Permuted.{permuted-short, reordered-sound, reordered-total}
+use Rattle.assignment.proofs.Restricted.{Rising, until-near, restrict, widen, widen-short}
+use Rattle.assignment.proofs.Rows.{set-moved}
 use Rattle.day.specs.Day.{Day, width, P, N, ofPeriod, due, limit, cost}
 use Rattle.day.proofs.Costs.{latest-missing, latest-given, cost-grows}
 use Rattle.day.proofs.Instance.{instance, last, last-to, places as rooms, places-in, places-closing, cost-le, instance-short}
-use Rattle.path.specs.Path.{el, far, away, dear, begun, scope, landing, Table, Scene, CanSearch, Searched}
-use Rattle.path.proofs.Rows.{set-moved, as-read}
+use Rattle.path.specs.Path.{far, away, dear, begun, scope, landing, Table, Scene, CanSearch, Searched}
+use Rattle.path.proofs.Rows.{as-read}
 use Rattle.path.proofs.Expanding.{stands}
 use Rattle.insertion.specs.Insertion.{Placed, Kept, cost-of-placed, Added, CanFind, FirstRoom, Linked, CanWalk, Arrived, Walked, CanForget, Forgotten, CanRaise, Raised, Inserted}
 use Rattle.insertion.proofs.Steps.{added-chained, added-loads}
@@ -83,7 +88,7 @@ module _ {d : Day} {places holds prices : List ℕ} {n : ℕ} (s : Placed d plac
   placed-low : (k : ℕ) → ofPeriod prices k ≤ 250880000
   placed-low k = omega (arith, placed-total, price-le (s .sound) k)
 
-  module _ {loads first-in next-in list queue dist₀ rank₀ via₀ : List ℕ} (kept : Kept d places holds loads first-in next-in list queue dist₀ rank₀ via₀ n)
+  module _ {loads first-in next-in list queue dist₀ turn₀ via₀ : List ℕ} (kept : Kept d places holds loads first-in next-in list queue dist₀ turn₀ via₀ n)
       (l : n < N d) where
     pub insert-room : (n < length places) × (n < 128)
     insert-room = omega (arith, s .table .row, s .table .valid .flights-to)
@@ -150,7 +155,7 @@ module _ {d : Day} {places holds prices : List ℕ} {n : ℕ} (s : Placed d plac
                     (opened-short (ordered (instance d) (el places) (suc n)) dear (widen-short (begun d places (suc n)) target less short))));
               }
 
-          pub insert-search : CanSearch d places holds first-in next-in prices list queue dist₀ rank₀ via₀ n target
+          pub insert-search : CanSearch d places holds first-in next-in prices list queue dist₀ turn₀ via₀ n target
           insert-search = record {
             table = s .table;
             scene = insert-scene;
@@ -162,17 +167,17 @@ module _ {d : Day} {places holds prices : List ℕ} {n : ℕ} (s : Placed d plac
             queue-row = kept .queue-row;
             rows = kept .rows;
             all-far = kept .all-far;
-            no-ranks = kept .no-ranks;
+            no-turns = kept .no-turns;
           }
 
-          module _ {dist rank via : List ℕ} (h : Searched (scope d places n target) (landing d places holds) (ofPeriod prices) target dist rank via) where
-            fresh : el rank target ≡ 0
-            fresh = elim (lt? 0 (el rank target)) [ inl some ↦ absurd (omega (arith, h .so-far .reached target some)) | inr e ↦ omega arith ]
+          module _ {dist turn via : List ℕ} (h : Searched (scope d places n target) (landing d places holds) (ofPeriod prices) target dist turn via) where
+            fresh : el turn target ≡ 0
+            fresh = elim (lt? 0 (el turn target)) [ inl some ↦ absurd (omega (arith, h .so-far .reached target some)) | inr e ↦ omega arith ]
 
-            pub insert-rows : (target < length dist) × (target < length rank) × (target < 98)
-            insert-rows = omega (arith, insert-within, h .so-far .rows .dists, h .so-far .rows .ranks)
+            pub insert-rows : (target < length dist) × (target < length turn) × (target < 98)
+            insert-rows = omega (arith, insert-within, h .so-far .rows .dists, h .so-far .rows .turns)
 
-            found : Found (scope d places n target) (landing d places holds) (ofPeriod prices) (h .so-far .root) (away dist) (el rank) (el via) (h .t) (away dist target) target
+            found : Found (scope d places n target) (landing d places holds) (ofPeriod prices) (h .so-far .root) (away dist) (el turn) (el via) (h .t) (away dist target) target
             found = record {
               near = h .so-far .near;
               fresh = fresh;
@@ -184,7 +189,7 @@ module _ {d : Day} {places holds prices : List ℕ} {n : ℕ} (s : Placed d plac
               reach = h .so-far .reach;
             }
 
-            pub insert-walk : CanWalk d places holds (set rank target 99) via n target
+            pub insert-walk : CanWalk d places holds (set turn target 99) via n target
             insert-walk = record {
               table = s .table;
               upto = l;
@@ -195,10 +200,10 @@ module _ {d : Day} {places holds prices : List ℕ} {n : ℕ} (s : Placed d plac
               chain = λ k b some low. linked k some (h .so-far .near .how k);
             }
               where
-                v : Moved (el rank) (el (set rank target 99)) target 99
-                v = set-moved rank target 99 (insert-rows .1)
+                v : Moved (el turn) (el (set turn target 99)) target 99
+                v = set-moved turn target 99 (insert-rows .1)
 
-                k-in : (k : ℕ) → 0 < el (set rank target 99) k → (k ≤ P d + 1) × (away dist k < far)
+                k-in : (k : ℕ) → 0 < el (set turn target 99) k → (k ≤ P d + 1) × (away dist k < far)
                 k-in k some = elim (eq? k target) [
                   | inl e ↦ rw e (room .to, h .near)
                   | inr e ↦
@@ -206,19 +211,19 @@ module _ {d : Day} {places holds prices : List ℕ} {n : ℕ} (s : Placed d plac
                       (omega (arith, room .to, at .1), omega (arith, at .2, h .so-far .zeros))
                 ]
 
-                -- what the search reached from k keeps its rank
-                linked : (k : ℕ) → 0 < el (set rank target 99) k
+                -- what the search reached from k keeps its turn
+                linked : (k : ℕ) → 0 < el (set turn target 99) k
                     → ((away dist k ≡ h .so-far .root k)
                     × (In (scope d places n target) n k → h .so-far .root k ≡ scope d places n target .cost n k + ofPeriod prices k → el via k ≡ n))
-                    ⊎ Step (scope d places n target) (landing d places holds) (ofPeriod prices) (away dist) (el rank) k (el via k)
-                    → Linked d places (landing d places holds) (set rank target 99) via n k
+                    ⊎ Step (scope d places n target) (landing d places holds) (ofPeriod prices) (away dist) (el turn) k (el via k)
+                    → Linked d places (landing d places holds) (set turn target 99) via n k
                 linked k some how = elim how [
                   | inl e ↦
                       let root = h .so-far .rooted k (omega (arith, e .0, k-in k some .1)) in
                       let new = e .1 (root .0) (root .1) in
                       record { due-by = rw new (root .0 .from); flight = inl new }
                   | inr a ↦
-                      let other : landing d places holds (el via k) ≢ target = λ f. omega (arith, a .from, fresh, ap (el rank) f) in
+                      let other : landing d places holds (el via k) ≢ target = λ f. omega (arith, a .from, fresh, ap (el turn) f) in
                       let same = v .others (landing d places holds (el via k)) other in
                       let at = h .so-far .reached (landing d places holds (el via k)) (a .from) in
                       record {
@@ -228,7 +233,7 @@ module _ {d : Day} {places holds prices : List ℕ} {n : ℕ} (s : Placed d plac
                           in-day = omega (arith, at .1, insert-within);
                           some = omega (arith, same, a .from);
                           lower = elim (eq? k target) [
-                            | inl e ↦ omega (arith, same, ap (el (set rank target 99)) e, v .here, h .so-far .near .top (landing d places holds (el via k)), h .so-far .zeros)
+                            | inl e ↦ omega (arith, same, ap (el (set turn target 99)) e, v .here, h .so-far .near .top (landing d places holds (el via k)), h .so-far .zeros)
                             | inr e ↦ omega (arith, same, v .others k e, a .lower (omega (arith, v .others k e)))
                           ];
                         });
@@ -236,7 +241,7 @@ module _ {d : Day} {places holds prices : List ℕ} {n : ℕ} (s : Placed d plac
                 ]
 
             module _ {places₂ holds₂ : List ℕ} (w : Walked d places places₂ holds holds₂ via n target) where
-              f : Found (scope d places n target) (landing d places holds) (ofPeriod prices) (h .so-far .root) (away dist) (el rank) (el via) (h .t) (away dist target) target
+              f : Found (scope d places n target) (landing d places holds) (ofPeriod prices) (h .so-far .root) (away dist) (el turn) (el via) (h .t) (away dist target) target
               f = found
 
               narrow : Sound (scope d places n target) (landing d places holds) (ofPeriod prices)
@@ -319,16 +324,16 @@ module _ {d : Day} {places holds prices : List ℕ} {n : ℕ} (s : Placed d plac
 
               -- ---- what is kept
 
-              pub insert-forget : CanForget dist (set rank target 99) first target
+              pub insert-forget : CanForget dist (set turn target 99) first target
               insert-forget = record {
                 dists = h .so-far .rows .dists;
-                ranks = length-set rank target 99 ∙ h .so-far .rows .ranks;
+                turns = length-set turn target 99 ∙ h .so-far .rows .turns;
                 within = insert-within;
                 outside = λ k out. (far-out k out, v .others k (other k out) ∙ unreached k out);
               }
                 where
-                  v : Moved (el rank) (el (set rank target 99)) target 99
-                  v = set-moved rank target 99 (insert-rows .1)
+                  v : Moved (el turn) (el (set turn target 99)) target 99
+                  v = set-moved turn target 99 (insert-rows .1)
 
                   far-out : (k : ℕ) → (k < first) ⊎ (target < k) → away dist k ≡ far
                   far-out k out = elim (lt? (away dist k) far) [
@@ -342,8 +347,8 @@ module _ {d : Day} {places holds prices : List ℕ} {n : ℕ} (s : Placed d plac
                   other : (k : ℕ) → (k < first) ⊎ (target < k) → k ≢ target
                   other k out e = elim out [ inl a ↦ omega (arith, room .from) | inr a ↦ omega arith ]
 
-                  unreached : (k : ℕ) → (k < first) ⊎ (target < k) → el rank k ≡ 0
-                  unreached k out = elim (lt? 0 (el rank k)) [
+                  unreached : (k : ℕ) → (k < first) ⊎ (target < k) → el turn k ≡ 0
+                  unreached k out = elim (lt? 0 (el turn k)) [
                     | inr none ↦ omega arith
                     | inl some ↦ absurd (elim out [
                       | inl a ↦ omega (arith, first-at, h .so-far .reached k some)
@@ -363,10 +368,10 @@ module _ {d : Day} {places holds prices : List ℕ} {n : ℕ} (s : Placed d plac
                 count-le n (landing d places holds) target,
               )
 
-              module _ {loads₂ first-in₂ next-in₂ list₂ queue₂ dist₂ rank₂ : List ℕ} (a : Added loads loads₂ first-in first-in₂ next-in next-in₂ n target)
-                  (f : Forgotten dist₂ rank₂) where
-                pub insert-kept : length list₂ ≡ length list → length queue₂ ≡ length queue → length dist₂ ≡ length dist → length rank₂ ≡ length (set rank target 99)
-                    → Kept d places₂ holds₂ loads₂ first-in₂ next-in₂ list₂ queue₂ dist₂ rank₂ via (n + 1)
+              module _ {loads₂ first-in₂ next-in₂ list₂ queue₂ dist₂ turn₂ : List ℕ} (a : Added loads loads₂ first-in first-in₂ next-in next-in₂ n target)
+                  (f : Forgotten dist₂ turn₂) where
+                pub insert-kept : length list₂ ≡ length list → length queue₂ ≡ length queue → length dist₂ ≡ length dist → length turn₂ ≡ length (set turn target 99)
+                    → Kept d places₂ holds₂ loads₂ first-in₂ next-in₂ list₂ queue₂ dist₂ turn₂ via (n + 1)
                 insert-kept same-l same-q same-d same-r = record {
                   loads-row = ap length (a .counted) ∙ length-set loads target (el loads target + 1) ∙ kept .loads-row;
                   loads-are = added-loads (kept .chained) insert-within (insert-room .1) stays here a (kept .loads-row) (kept .loads-are);
@@ -375,11 +380,11 @@ module _ {d : Day} {places holds prices : List ℕ} {n : ℕ} (s : Placed d plac
                   queue-row = same-q ∙ kept .queue-row;
                   rows = record {
                     dists = same-d ∙ h .so-far .rows .dists;
-                    ranks = same-r ∙ length-set rank target 99 ∙ h .so-far .rows .ranks;
+                    turns = same-r ∙ length-set turn target 99 ∙ h .so-far .rows .turns;
                     vias = h .so-far .rows .vias;
                   };
                   all-far = f .all-far;
-                  no-ranks = f .no-ranks;
+                  no-turns = f .no-turns;
                 }
                   where
                     stays : (o : ℕ) → o < n → landing d places₂ holds₂ o ≡ landing d places holds o

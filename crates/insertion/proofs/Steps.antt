@@ -2,24 +2,29 @@
 -- Assumes nothing.
 use mathlib.Core.Path.{_≡_, refl, sym, ap, _∙_}
 use mathlib.Core.Logic.{_⊎_, inl, inr, _≢_}
-use mathlib.Core.List.{List, _∷_}
+use mathlib.Core.List.{List}
 use Prim.Native.Nat.{ℕ, zero, suc, _+_, _-_, _*_, _≤_, _<_}
 use native.Mathlib.Omega.{arith}
 use lib.Dec.{eqb}
 use lib.ListN.{getD, length, set, length-set}
 use Rattle.assignment.specs.Sum.{gate, count}
 use Rattle.assignment.specs.Assignment.{Instance}
+use Rattle.assignment.specs.Rows.{el}
+use Rattle.assignment.specs.Moves.{Moved, put}
+use Rattle.assignment.specs.Orders.{Permuted, Swapped}
+use Rattle.assignment.specs.Insertion.{Going}
 use Rattle.assignment.proofs.Tests.{eq?, lt?, gate-eq, gate-ne}
 use Rattle.assignment.proofs.Sums.{count-suc, count-ext}
-use Rattle.assignment.proofs.Moves.{Moved, put, put-moved}
+use Rattle.assignment.proofs.Moves.{put-moved}
 use Rattle.assignment.proofs.Chains.{chained-add}
-use Rattle.assignment.proofs.Insertion.{Going, going-step}
-use Rattle.assignment.proofs.Permuted.{Permuted, permuted-other, permuted-same, Swapped, swapped}
+use Rattle.assignment.proofs.Insertion.{going-step}
+use Rattle.assignment.proofs.Permuted.{permuted-other, permuted-same, swapped}
+use Rattle.assignment.proofs.Rows.{set-moved}
 use Rattle.day.specs.Day.{Day, N, width, ofPeriod, due, land}
 use Rattle.day.proofs.Costs.{period-out}
 use Rattle.closed_prices.proofs.Pricing.{period-moved}
-use Rattle.path.specs.Path.{el, far, away, landing, Table, Chained}
-use Rattle.path.proofs.Rows.{set-moved, away-moved, as-read}
+use Rattle.path.specs.Path.{far, away, landing, Table, Chained}
+use Rattle.path.proofs.Rows.{away-moved, as-read}
 use Rattle.path.proofs.Expanding.{stands as stands-in}
 use Rattle.insertion.specs.Insertion.{home, Added, CanFind, FirstRoom, Hop, Linked, CanWalk, Walked, CanForget, Forgotten, CanRaise, Raised, Cleared}
 
@@ -126,14 +131,14 @@ put-swapped f a b apart =
 
 -- the new flight stands at `place`, which is in period `at`; the flight at `from` is to move there. x is the plan by the places at the start,
 -- σ says where each flight stood then, and places nearer to the new flight's own have not changed
-pub record Walking (d : Day) (places₀ places holds₀ holds rank via : List ℕ) (n target at place from : ℕ) : Type 0 where
-  pub can : CanWalk d places₀ holds₀ rank via n target
+pub record Walking (d : Day) (places₀ places holds₀ holds turn via : List ℕ) (n target at place from : ℕ) : Type 0 where
+  pub can : CanWalk d places₀ holds₀ turn via n target
   pub table : Table d places
   pub same-p : length places ≡ length places₀
   pub same-h : length holds ≡ length holds₀
   pub in-day : at < 98
-  pub some : 0 < el rank at
-  pub below : el rank at ≤ el rank target
+  pub some : 0 < el turn at
+  pub below : el turn at ≤ el turn target
   pub is : from ≡ el via at
   pub stands : place < suc n
   pub σ : ℕ → ℕ
@@ -145,19 +150,19 @@ pub record Walking (d : Day) (places₀ places holds₀ holds rank via : List �
   pub at-home : (s : ℕ) → s < suc n → s ≢ place → landing d places holds s ≡ home d places₀ holds₀ n target s
   pub x : ℕ → ℕ
   pub lands-are : (s : ℕ) → s < suc n → s ≢ place → x (σ s) ≡ home d places₀ holds₀ n target s
-  pub still : (s : ℕ) → s < n → el rank (home d places₀ holds₀ n target s) < el rank at → σ s ≡ s
+  pub still : (s : ℕ) → s < n → el turn (home d places₀ holds₀ n target s) < el turn at → σ s ≡ s
   pub keeps : (i : Instance) (q order : ℕ → ℕ) (u : ℕ) → i .n ≡ n
       → Going i (landing d places₀ holds₀) (landing d places₀ holds₀) q order (el via) u target target
       → Going i (landing d places₀ holds₀) x q order (el via) u target at
 
-module _ {d : Day} {places holds rank via : List ℕ} {n target : ℕ} (c : CanWalk d places holds rank via n target) where
+module _ {d : Day} {places holds turn via : List ℕ} {n target : ℕ} (c : CanWalk d places holds turn via n target) where
   pub walk-in : target < length via
   walk-in = omega (arith, c .within, c .vias)
 
   placed-home : (s : ℕ) → s ≢ n → home d places holds n target s ≡ landing d places holds s
   placed-home s e = put-moved (landing d places holds) n target .others s e
 
-  pub walking-start : Walking d places places holds holds rank via n target target n (getD via target 0)
+  pub walking-start : Walking d places places holds holds turn via n target target n (getD via target 0)
   walking-start = record {
     can = c;
     table = c .table;
@@ -181,9 +186,9 @@ module _ {d : Day} {places holds rank via : List ℕ} {n target : ℕ} (c : CanW
     keeps = λ i q order u e g. g;
   }
 
-module _ {d : Day} {places₀ places holds₀ holds rank via : List ℕ} {n target at place from : ℕ}
-    (s : Walking d places₀ places holds₀ holds rank via n target at place from) where
-  linked : Linked d places₀ (landing d places₀ holds₀) rank via n at
+module _ {d : Day} {places₀ places holds₀ holds turn via : List ℕ} {n target at place from : ℕ}
+    (s : Walking d places₀ places holds₀ holds turn via n target at place from) where
+  linked : Linked d places₀ (landing d places₀ holds₀) turn via n at
   linked = s .can .chain at (s .in-day) (s .some) (s .below)
 
   row : length holds ≡ N d
@@ -208,7 +213,7 @@ module _ {d : Day} {places₀ places holds₀ holds rank via : List ℕ} {n targ
         )
 
   module _ (e : from ≢ n) where
-    hop : Hop (landing d places₀ holds₀) rank via n at
+    hop : Hop (landing d places₀ holds₀) turn via n at
     hop = elim (linked .flight) [ inl new ↦ absurd (e (s .is ∙ new)) | inr h ↦ h ]
 
     in-plan : from < n
@@ -217,14 +222,14 @@ module _ {d : Day} {places₀ places holds₀ holds rank via : List ℕ} {n targ
     home-is : home d places₀ holds₀ n target from ≡ landing d places₀ holds₀ from
     home-is = placed-home (s .can) from e
 
-    lower : el rank (home d places₀ holds₀ n target from) < el rank at
+    lower : el turn (home d places₀ holds₀ n target from) < el turn at
     lower = rw (home-is, s .is) (hop .lower)
 
     pub walking-stays : s .σ from ≡ from
     walking-stays = s .still from in-plan lower
 
     apart : place ≢ from
-    apart f = omega (arith, lower, ap (λ z. el rank (home d places₀ holds₀ n target z)) f, ap (el rank) (s .here))
+    apart f = omega (arith, lower, ap (λ z. el turn (home d places₀ holds₀ n target z)) f, ap (el turn) (s .here))
 
     pub walking-room : (from < length places) × (from < 128) × (from < suc n) × (from < N d)
     walking-room = omega (arith, in-plan, s .can .upto, s .table .row, s .table .valid .flights-to)
@@ -236,7 +241,7 @@ module _ {d : Day} {places₀ places holds₀ holds rank via : List ℕ} {n targ
       pub walking-left : (left < length via) × (left < 98)
       walking-left = rw (left-at, home-is, s .is) (omega (arith, hop .in-day, s .can .vias))
 
-      pub walking-less : getD rank left 0 < getD rank at 0
+      pub walking-less : getD turn left 0 < getD turn at 0
       walking-less = rw left-at lower
 
       swaps : Swapped (el places) (el (set (set places place (el places from)) from (el places place))) place from
@@ -276,13 +281,13 @@ module _ {d : Day} {places₀ places holds₀ holds rank via : List ℕ} {n targ
             ∙ goes .others (s .σ o) (λ h. permuted-other (s .permuted) o from b (walking-room .2) f (h ∙ sym walking-stays)) ∙ s .lands-are o b g
       ]
 
-      still₂ : (o : ℕ) → o < n → el rank (home d places₀ holds₀ n target o) < el rank left → σ₂ o ≡ o
+      still₂ : (o : ℕ) → o < n → el turn (home d places₀ holds₀ n target o) < el turn left → σ₂ o ≡ o
       still₂ o b low = turns .others o
-          (λ f. omega (arith, low, walking-less, ap (λ z. el rank (home d places₀ holds₀ n target z)) f, ap (el rank) (s .here)))
-          (λ f. omega (arith, low, ap (λ z. el rank (home d places₀ holds₀ n target z)) f, ap (el rank) left-at))
+          (λ f. omega (arith, low, walking-less, ap (λ z. el turn (home d places₀ holds₀ n target z)) f, ap (el turn) (s .here)))
+          (λ f. omega (arith, low, ap (λ z. el turn (home d places₀ holds₀ n target z)) f, ap (el turn) left-at))
           ∙ s .still o b (omega (arith, low, walking-less))
 
-      pub walking-step : Walking d places₀ (set (set places place (el places from)) from (el places place)) holds₀ (set holds i (at - due d i)) rank via n target left from (getD via left 0)
+      pub walking-step : Walking d places₀ (set (set places place (el places from)) from (el places place)) holds₀ (set holds i (at - due d i)) turn via n target left from (getD via left 0)
       walking-step = record {
         can = s .can;
         table = record {
@@ -350,26 +355,26 @@ module _ {d : Day} {places₀ places holds₀ holds rank via : List ℕ} {n targ
 -- ---- forget
 
 -- the periods from first on and before k are far again
-pub record Forgetting (dist₀ dist rank₀ rank : List ℕ) (first target k : ℕ) : Type 0 where
-  pub can : CanForget dist₀ rank₀ first target
+pub record Forgetting (dist₀ dist turn₀ turn : List ℕ) (first target k : ℕ) : Type 0 where
+  pub can : CanForget dist₀ turn₀ first target
   pub same-d : length dist ≡ length dist₀
-  pub same-r : length rank ≡ length rank₀
-  pub done : (j : ℕ) → first ≤ j → j < k → (away dist j ≡ far) × (el rank j ≡ 0)
-  pub outside : (j : ℕ) → (j < first) ⊎ (target < j) → (away dist j ≡ far) × (el rank j ≡ 0)
+  pub same-r : length turn ≡ length turn₀
+  pub done : (j : ℕ) → first ≤ j → j < k → (away dist j ≡ far) × (el turn j ≡ 0)
+  pub outside : (j : ℕ) → (j < first) ⊎ (target < j) → (away dist j ≡ far) × (el turn j ≡ 0)
 
-pub forgetting-start : {dist rank : List ℕ} {first target : ℕ} → CanForget dist rank first target → Forgetting dist dist rank rank first target first
+pub forgetting-start : {dist turn : List ℕ} {first target : ℕ} → CanForget dist turn first target → Forgetting dist dist turn turn first target first
 forgetting-start c = record { can = c; same-d = refl; same-r = refl; done = λ j a b. absurd (omega arith); outside = c .outside }
 
-module _ {dist₀ dist rank₀ rank : List ℕ} {first target k : ℕ} (s : Forgetting dist₀ dist rank₀ rank first target k) where
+module _ {dist₀ dist turn₀ turn : List ℕ} {first target k : ℕ} (s : Forgetting dist₀ dist turn₀ turn first target k) where
   module _ (l : k ≤ target) where
-    pub forgetting-room : (k < length dist) × (k < length rank) × (k < 98)
-    forgetting-room = omega (arith, s .same-d, s .same-r, s .can .dists, s .can .ranks, s .can .within)
+    pub forgetting-room : (k < length dist) × (k < length turn) × (k < 98)
+    forgetting-room = omega (arith, s .same-d, s .same-r, s .can .dists, s .can .turns, s .can .within)
 
-    pub forgetting-next : Forgetting dist₀ (set dist k far) rank₀ (set rank k 0) first target (k + 1)
+    pub forgetting-next : Forgetting dist₀ (set dist k far) turn₀ (set turn k 0) first target (k + 1)
     forgetting-next = record {
       can = s .can;
       same-d = length-set dist k far ∙ s .same-d;
-      same-r = length-set rank k 0 ∙ s .same-r;
+      same-r = length-set turn k 0 ∙ s .same-r;
       done = λ j a b. elim (eq? j k) [ inl e ↦ rw e (v .here, u .here) | inr e ↦ stay j e (s .done j a (omega arith)) ];
       outside = λ j out. elim (eq? j k) [ inl e ↦ rw e (v .here, u .here) | inr e ↦ stay j e (s .outside j out) ];
     }
@@ -377,16 +382,16 @@ module _ {dist₀ dist rank₀ rank : List ℕ} {first target k : ℕ} (s : Forg
         v : Moved (away dist) (away (set dist k far)) k far
         v = away-moved dist k far (forgetting-room .0)
 
-        u : Moved (el rank) (el (set rank k 0)) k 0
-        u = set-moved rank k 0 (forgetting-room .1)
+        u : Moved (el turn) (el (set turn k 0)) k 0
+        u = set-moved turn k 0 (forgetting-room .1)
 
-        stay : (j : ℕ) → j ≢ k → (away dist j ≡ far) × (el rank j ≡ 0) → (away (set dist k far) j ≡ far) × (el (set rank k 0) j ≡ 0)
+        stay : (j : ℕ) → j ≢ k → (away dist j ≡ far) × (el turn j ≡ 0) → (away (set dist k far) j ≡ far) × (el (set turn k 0) j ≡ 0)
         stay j e h = (v .others j e ∙ h .0, u .others j e ∙ h .1)
 
-  pub forgetting-end : target < k → Forgotten dist rank
-  forgetting-end l = record { all-far = λ j. all j .0; no-ranks = λ j. all j .1 }
+  pub forgetting-end : target < k → Forgotten dist turn
+  forgetting-end l = record { all-far = λ j. all j .0; no-turns = λ j. all j .1 }
     where
-      all : (j : ℕ) → (away dist j ≡ far) × (el rank j ≡ 0)
+      all : (j : ℕ) → (away dist j ≡ far) × (el turn j ≡ 0)
       all j = elim (lt? j first) [
         | inl a ↦ s .outside j (inl a)
         | inr a ↦ elim (lt? j k) [ inl b ↦ s .done j a b | inr b ↦ s .outside j (inr (omega arith)) ]

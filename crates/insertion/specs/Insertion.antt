@@ -7,13 +7,14 @@ use Prim.Native.Nat.{ℕ, suc, _+_, _-_, _≤_, _<_}
 use lib.ListN.{length, set}
 use Rattle.assignment.specs.Sum.{count}
 use Rattle.assignment.specs.Assignment as A
-use Rattle.assignment.proofs.Moves.{Moved, put}
-use Rattle.assignment.proofs.Insertion.{Sound, Going}
-use Rattle.assignment.proofs.Permuted.{Permuted}
+use Rattle.assignment.specs.Rows.{el}
+use Rattle.assignment.specs.Moves.{Moved, put}
+use Rattle.assignment.specs.Orders.{Permuted}
+use Rattle.assignment.specs.Insertion.{Sound, Going}
 use Rattle.day.specs.Day.{Day, P, N, ofPeriod, due, total}
 use Rattle.day.specs.Plan.{Accepted, Short}
 use Rattle.day.proofs.Valid.{Valid}
-use Rattle.path.specs.Path.{el, far, away, begun, landing, Table, Chained, Rows}
+use Rattle.path.specs.Path.{far, away, begun, landing, Table, Chained, Rows}
 
 -- the flights at the first n places are placed: the hold row has their holds, the price row their prices; the others follow, due falling,
 -- and their holds may be any numbers
@@ -33,15 +34,15 @@ cost-of-placed d places holds n = A.total (begun d places n) (landing d places h
 -- ---- what is kept beside the plan
 
 -- how many of the n flights land in each period, the chains of those that land in the same, and the rows of a search, before the next
-pub record Kept (d : Day) (places holds loads first-in next-in list queue dist rank via : List ℕ) (n : ℕ) : Type 0 where
+pub record Kept (d : Day) (places holds loads first-in next-in list queue dist turn via : List ℕ) (n : ℕ) : Type 0 where
   pub loads-row : length loads ≡ 98
   pub loads-are : (k : ℕ) → k < 98 → el loads k ≡ count n (landing d places holds) k
   pub chained : Chained (landing d places holds) first-in next-in n
   pub listed : length list ≡ 98
   pub queue-row : length queue ≡ 98
-  pub rows : Rows dist rank via
+  pub rows : Rows dist turn via
   pub all-far : (k : ℕ) → away dist k ≡ far
-  pub no-ranks : (k : ℕ) → el rank k ≡ 0
+  pub no-turns : (k : ℕ) → el turn k ≡ 0
 
 -- one flight more lands in k, at place n
 pub record Added (loads loads₂ first-in first-in₂ next-in next-in₂ : List ℕ) (n k : ℕ) : Type 0 where
@@ -50,15 +51,15 @@ pub record Added (loads loads₂ first-in first-in₂ next-in next-in₂ : List 
   pub first : first-in₂ ≡ set first-in k (n + 1)
 
 -- outside of first .. target all is far and nothing is reached
-pub record CanForget (dist rank : List ℕ) (first target : ℕ) : Type 0 where
+pub record CanForget (dist turn : List ℕ) (first target : ℕ) : Type 0 where
   pub dists : length dist ≡ 98
-  pub ranks : length rank ≡ 98
+  pub turns : length turn ≡ 98
   pub within : target < 98
-  pub outside : (k : ℕ) → (k < first) ⊎ (target < k) → (away dist k ≡ far) × (el rank k ≡ 0)
+  pub outside : (k : ℕ) → (k < first) ⊎ (target < k) → (away dist k ≡ far) × (el turn k ≡ 0)
 
-pub record Forgotten (dist rank : List ℕ) : Type 0 where
+pub record Forgotten (dist turn : List ℕ) : Type 0 where
   pub all-far : (k : ℕ) → away dist k ≡ far
-  pub no-ranks : (k : ℕ) → el rank k ≡ 0
+  pub no-turns : (k : ℕ) → el turn k ≡ 0
 
 -- ---- the first period with room
 
@@ -77,26 +78,26 @@ pub record FirstRoom (capacities loads : List ℕ) (first k : ℕ) : Type 0 wher
 
 -- ---- the walk back
 
--- a flight of plan x, which lands in a period of a lower rank, is to land in k
-pub record Hop (x : ℕ → ℕ) (rank via : List ℕ) (n k : ℕ) : Type 0 where
+-- a flight of plan x, which lands in a period that was reached before k, is to land in k
+pub record Hop (x : ℕ → ℕ) (turn via : List ℕ) (n k : ℕ) : Type 0 where
   pub who : el via k < n
   pub in-day : x (el via k) < 98
-  pub some : 0 < el rank (x (el via k))
-  pub lower : el rank (x (el via k)) < el rank k
+  pub some : 0 < el turn (x (el via k))
+  pub lower : el turn (x (el via k)) < el turn k
 
 -- period k is for the new flight or for one of the plan, and the flight is due by k
-pub record Linked (d : Day) (places : List ℕ) (x : ℕ → ℕ) (rank via : List ℕ) (n k : ℕ) : Type 0 where
+pub record Linked (d : Day) (places : List ℕ) (x : ℕ → ℕ) (turn via : List ℕ) (n k : ℕ) : Type 0 where
   pub due-by : due d (el places (el via k)) ≤ k
-  pub flight : (el via k ≡ n) ⊎ Hop x rank via n k
+  pub flight : (el via k ≡ n) ⊎ Hop x turn via n k
 
-pub record CanWalk (d : Day) (places holds rank via : List ℕ) (n target : ℕ) : Type 0 where
+pub record CanWalk (d : Day) (places holds turn via : List ℕ) (n target : ℕ) : Type 0 where
   pub table : Table d places
   pub upto : n < N d
   pub holds-row : length holds ≡ N d
   pub vias : length via ≡ 98
   pub within : target < 98
-  pub some : 0 < el rank target
-  pub chain : (k : ℕ) → k < 98 → 0 < el rank k → el rank k ≤ el rank target → Linked d places (landing d places holds) rank via n k
+  pub some : 0 < el turn target
+  pub chain : (k : ℕ) → k < 98 → 0 < el turn k → el turn k ≤ el turn target → Linked d places (landing d places holds) turn via n k
 
 -- the new flight takes the last place, `at`
 pub record Arrived (d : A.Instance) (x₀ y q places via : ℕ → ℕ) (u z : ℕ) : Type 0 where
@@ -120,9 +121,9 @@ pub record Walked (d : Day) (places places₂ holds holds₂ via : List ℕ) (n 
   pub at-home : (s : ℕ) → s < suc n → landing d places₂ holds₂ s ≡ home d places holds n target s
   pub y : ℕ → ℕ
   pub lands-are : (s : ℕ) → s < suc n → landing d places₂ holds₂ s ≡ y (σ s)
-  pub keeps : (i : A.Instance) (q rank : ℕ → ℕ) (u : ℕ) → i .n ≡ n
-      → Going i (landing d places holds) (landing d places holds) q rank (el via) u target target
-      → Arrived i (landing d places holds) y q rank (el via) u target
+  pub keeps : (i : A.Instance) (q turn : ℕ → ℕ) (u : ℕ) → i .n ≡ n
+      → Going i (landing d places holds) (landing d places holds) q turn (el via) u target target
+      → Arrived i (landing d places holds) y q turn (el via) u target
 
 -- ---- the raise
 

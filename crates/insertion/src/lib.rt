@@ -7,7 +7,7 @@ ghost use mathlib.Core.Path.{_≡_};
 ghost use Prim.Native.Nat.{_+_, _-_, _*_, _<_, _≤_};
 ghost use lib.ListN.{length, set};
 ghost use Rattle.day.specs.Day.{day, width, column, N};
-ghost use Rattle.path.specs.Path.{el};
+ghost use Rattle.assignment.specs.Rows.{el};
 ghost use Rattle.insertion.specs.Insertion.{Added, CanFind, FirstRoom, CanWalk, Walked, CanRaise, Raised, CanForget, Forgotten, Placed, Kept, Inserted, Cleared, CanInsert, Planned};
 use closed_prices::price_closed;
 use day::due_of;
@@ -18,7 +18,7 @@ use due_order::order_flights;
 use path::FAR;
 use path::find_path;
 
-// A rank above those of all reached periods.
+// A turn after those of all reached periods.
 const LAST: usize = 99;
 
 // Place n is the newest of those in period k: counts it, and puts it at the head of their chain.
@@ -66,18 +66,18 @@ fn swap(places: &mut [u32], a: usize, b: usize)
 }
 
 // From the target back along `via`: each flight moves on to the place behind it, and the new flight, which starts at place n in the target,
-// changes places with it until it comes to one of its own. Ranks fall on the way, so that it ends.
+// changes places with it until it comes to one of its own. Turns fall on the way, so that it ends.
 fn walk(
     capacities: &[u32],
     flights: &[u32],
     places: &mut [u32],
     holds: &mut [u32],
-    rank: &[usize],
+    turn: &[usize],
     via: &[usize],
     n: usize,
     target: usize,
 )
-    requires { ⌜ CanWalk (day (now capacities) (now flights)) (now places) (now holds) (now rank) (now via) n target ⌝ }
+    requires { ⌜ CanWalk (day (now capacities) (now flights)) (now places) (now holds) (now turn) (now via) n target ⌝ }
     ensures { λ _. ⌜ Walked (day (now (capacities .entry)) (now (flights .entry))) (now (places .entry)) (now (places .exit)) (now (holds .entry)) (now (holds .exit)) (now (via .entry)) n target ⌝ }
 {
     let mut at = target;
@@ -113,14 +113,14 @@ fn raise(prices: &mut [u32], dist: &[usize], first: usize, target: usize)
 }
 
 // All is far and nothing is reached again: a search touches no period but those from first to the target.
-fn forget(dist: &mut [usize], rank: &mut [usize], first: usize, target: usize)
-    requires { ⌜ CanForget (now dist) (now rank) first target ⌝ }
-    ensures { λ _. ⌜ Forgotten (now (dist .exit)) (now (rank .exit)) ⌝ }
+fn forget(dist: &mut [usize], turn: &mut [usize], first: usize, target: usize)
+    requires { ⌜ CanForget (now dist) (now turn) first target ⌝ }
+    ensures { λ _. ⌜ Forgotten (now (dist .exit)) (now (turn .exit)) ⌝ }
 {
     let mut k = first;
     while k <= target {
         dist[k] = FAR;
-        rank[k] = 0;
+        turn[k] = 0;
         k += 1;
     }
 }
@@ -138,15 +138,15 @@ fn insert(
     list: &mut [usize],
     queue: &mut [usize],
     dist: &mut [usize],
-    rank: &mut [usize],
+    turn: &mut [usize],
     via: &mut [usize],
     n: usize,
 ) -> usize
     requires { ⌜ Placed (day (now capacities) (now flights)) (now places) (now holds) (now prices) n ⌝ }
-    requires { ⌜ Kept (day (now capacities) (now flights)) (now places) (now holds) (now loads) (now first_in) (now next_in) (now list) (now queue) (now dist) (now rank) (now via) n ⌝ }
+    requires { ⌜ Kept (day (now capacities) (now flights)) (now places) (now holds) (now loads) (now first_in) (now next_in) (now list) (now queue) (now dist) (now turn) (now via) n ⌝ }
     requires { ⌜ n < N (day (now capacities) (now flights)) ⌝ }
     ensures { λ r. ⌜ Inserted (day (now (capacities .entry)) (now (flights .entry))) (now (places .entry)) (now (places .exit)) (now (holds .entry)) (now (holds .exit)) (now (prices .exit)) n r ⌝ }
-    ensures { λ _. ⌜ Kept (day (now (capacities .entry)) (now (flights .entry))) (now (places .exit)) (now (holds .exit)) (now (loads .exit)) (now (first_in .exit)) (now (next_in .exit)) (now (list .exit)) (now (queue .exit)) (now (dist .exit)) (now (rank .exit)) (now (via .exit)) (n + 1) ⌝ }
+    ensures { λ _. ⌜ Kept (day (now (capacities .entry)) (now (flights .entry))) (now (places .exit)) (now (holds .exit)) (now (loads .exit)) (now (first_in .exit)) (now (next_in .exit)) (now (list .exit)) (now (queue .exit)) (now (dist .exit)) (now (turn .exit)) (now (via .exit)) (n + 1) ⌝ }
 {
     let first = due_of(flights, wide(places[n]));
     let target = first_with_room(capacities, loads, first);
@@ -161,16 +161,16 @@ fn insert(
         list,
         queue,
         dist,
-        rank,
+        turn,
         via,
         n,
         target,
     );
     let added = dist[target];
-    rank[target] = LAST;
-    walk(capacities, flights, places, holds, rank, via, n, target);
+    turn[target] = LAST;
+    walk(capacities, flights, places, holds, turn, via, n, target);
     raise(prices, dist, first, target);
-    forget(dist, rank, first, target);
+    forget(dist, turn, first, target);
     add_place(loads, first_in, next_in, n, target);
     added
 }
@@ -205,7 +205,7 @@ pub fn insert_all(
     let mut list = [0; 98];
     let mut queue = [0; 98];
     let mut dist = [FAR; 98];
-    let mut rank = [0; 98];
+    let mut turn = [0; 98];
     let mut via = [0; 98];
     let mut total = 0;
     let mut n = 0;
@@ -222,7 +222,7 @@ pub fn insert_all(
             &mut list,
             &mut queue,
             &mut dist,
-            &mut rank,
+            &mut turn,
             &mut via,
             n,
         );

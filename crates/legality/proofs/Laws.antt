@@ -3,7 +3,7 @@
 use mathlib.Core.Path.{_≡_, refl, sym, ap, _∙_}
 use mathlib.Core.Logic.{inl, inr}
 use mathlib.Core.Bool.{Bool, true, false, _||_}
-use mathlib.Core.List.{List}
+use mathlib.Core.List.{List, []}
 use Prim.Native.Nat.{ℕ, suc, _+_, _*_, _≤_, _<_}
 use native.Mathlib.Nat.{mul-le-mul}
 use native.Mathlib.Numerals.{add-one}
@@ -11,18 +11,20 @@ use native.Mathlib.Omega.{arith}
 use lib.ListN.{length, getD, set, length-set, replicate, length-replicate, getD-replicate, List·getD-eq-default}
 use lib.Seq.{getD-set-same, getD-set-other}
 use lib.Dec.{ltb}
-use borrow.Author.Tests.{ltb-false, eq-eqb, ne-eqb}
+use borrow.Author.Tests.{ltb-false, le-ltb, lt-leb, le-leb, eq-eqb, ne-eqb}
 use Rattle.assignment.specs.Sum.{gate, sum, count}
 use Rattle.assignment.proofs.Tests.{lt?, eq?, gate-eq, gate-ne}
 use Rattle.assignment.proofs.Sums.{count-suc, count-zero, count-le}
-use Rattle.day.specs.Day.{Day, P, N, rate, after, latest, land, hold, cost, total, valid, width}
+use Rattle.day.specs.Day.{Day, day, P, N, periodRow, mostPeriods, mostFlights, column, flightCount, flightAt, ofPeriod, takes, rate, after, latest, land, hold, holdCost, cost, totalOf, total, valid, width}
 use Rattle.day.specs.Plan.{tooLong, overCapacity, breaks, firstBreak}
-use Rattle.day.proofs.Costs.{cost-over, cost-under}
+use Rattle.day.proofs.Costs.{takes-in, takes-closing, cost-over, cost-under}
 use Rattle.day.proofs.Tests.{first-at, first-none}
-use Rattle.day.proofs.Valid.{Valid, valid-means}
-use Rattle.legality.specs.declared.PlanCheck.the-variants.{BadDay, BadLength, NotLegal, Legal}
+use Rattle.day.specs.Valid.{Valid}
+use Rattle.day.proofs.Valid.{valid-means}
+use Rattle.answers.specs.declared.Answer.the-variants.{BadDay, BadLength, NotLegal}
+use Rattle.legality.specs.declared.PlanCheck.the-variants.{Legal, Refused}
 use Rattle.legality.specs.Check.{planCheck, walked}
-use Rattle.legality.specs.Loop.{Walked, Summed}
+use Rattle.legality.specs.Loop.{Walked, CanSum, Summed}
 
 pub or-false : (a b : Bool) → (a || b) ≡ false → (a ≡ false) × (b ≡ false)
 or-false false b e = (refl, e)
@@ -51,7 +53,7 @@ module _ {d : Day} {h loads : List ℕ} {i : ℕ} (s : Walked d h loads i) where
     walk-long e = sym (first-at (N d) (breaks d h) i (omega (arith, s .each)) (s .none) (rw (← at-k, e)))
 
     module _ (short : tooLong d i k ≡ false) where
-      pub walk-in : k < 98
+      pub walk-in : k < periodRow
       walk-in = omega (arith, not-long d i k short, v .periods-to)
 
       pub walk-fits : getD loads k 0 ≤ 128
@@ -60,11 +62,11 @@ module _ {d : Day} {h loads : List ℕ} {i : ℕ} (s : Walked d h loads i) where
       here : getD loads k 0 + 1 ≡ count (suc i) (land d h) (land d h i)
       here = rw (← at-k) (omega (arith, s .counted k walk-in, count-suc i (land d h) k, gate-eq (land d h i) k 1 (sym at-k)))
 
-      pub walk-over : overCapacity d k (getD loads k 0 + 1) ≡ true → i ≡ firstBreak d h
+      pub walk-over : overCapacity (d .capacities) k (getD loads k 0 + 1) ≡ true → i ≡ firstBreak d h
       unfolding firstBreak breaks
       walk-over e = sym (first-at (N d) (breaks d h) i (omega (arith, s .each)) (s .none) (rw (← here, ← at-k, short, e)))
 
-      pub walk-next : overCapacity d k (getD loads k 0 + 1) ≡ false → Walked d h (set loads k (getD loads k 0 + 1)) (i + 1)
+      pub walk-next : overCapacity (d .capacities) k (getD loads k 0 + 1) ≡ false → Walked d h (set loads k (getD loads k 0 + 1)) (i + 1)
       unfolding breaks
       walk-next e = record {
         good = s .good;
@@ -75,7 +77,7 @@ module _ {d : Day} {h loads : List ℕ} {i : ℕ} (s : Walked d h loads i) where
         none = none;
       }
         where
-          counted : (j : ℕ) → j < 98 → getD (set loads k (getD loads k 0 + 1)) j 0 ≡ count (i + 1) (land d h) j
+          counted : (j : ℕ) → j < periodRow → getD (set loads k (getD loads k 0 + 1)) j 0 ≡ count (i + 1) (land d h) j
           counted j b = rw (add-one i) (elim (eq? j k) [
             | inl same ↦ rw same (omega (
               arith,
@@ -105,41 +107,53 @@ module _ {d : Day} {h loads : List ℕ} {i : ℕ} (s : Walked d h loads i) where
       let e : i ≡ N d = omega (arith, s .each, s .upto) in
       e ∙ sym (first-none (N d) (breaks d h) (λ j b. s .none j (omega arith)))
 
+-- a landing by the closing period is over capacity exactly where the period takes fewer; the closing period takes more than there are flights
+pub over-taken : (capacities : List ℕ) (k m : ℕ) → k ≤ length capacities + 1 → m ≤ mostFlights + 1 → ltb (takes capacities k) m ≡ overCapacity capacities k m
+unfolding overCapacity
+over-taken capacities k m by few = elim (lt? (length capacities) k) [
+  | inl past ↦
+      let closing : k ≡ length capacities + 1 = omega arith in
+      le-ltb (takes capacities k) m (omega (arith, ap (takes capacities) closing, takes-closing capacities)) ∙ rw (lt-leb k (length capacities) past)
+  | inr in-day ↦ rw (takes-in capacities k in-day, le-leb k (length capacities) in-day)
+]
+
 -- ---- costs
 
-module _ {d : Day} {h : List ℕ} {s i : ℕ} (m : Summed d h s i) where
-  w : Valid d
-  w = valid-means (m .good)
+-- the numbers of a day that passes its check are low enough
+pub can-sum : (d : Day) {h : List ℕ} → valid d ≡ true → length h ≡ N d → CanSum (d .flights) h
+can-sum d good each =
+    let v = valid-means good in
+    record { each = each; whole = v .whole; few = v .flights-to; rates = λ i l. v .flight i l .rate-to; jumps = λ i l. v .flight i l .jump-to }
 
-  pub sum-place : i < length h → (i + 1) * width ≤ length (d .flights)
-  sum-place l = omega (arith, w .whole, m .each)
+module _ {f h : List ℕ} {s i : ℕ} (m : Summed f h s i) where
+  pub sum-place : i < length h → (i + 1) * width ≤ length f
+  sum-place l = omega (arith, m .can .whole, m .can .each)
 
   pub sum-fits : s ≤ 5497558266880000
-  sum-fits = omega (arith, m .most, m .upto, w .flights-to)
+  sum-fits = omega (arith, m .most, m .upto, m .can .few)
 
-  module _ {c : ℕ} (l : i < length h) (small : hold h i < 4294967296) (cost-is : c ≡ cost d i (hold h i)) where
+  module _ {c : ℕ} (l : i < length h) (small : hold h i < 4294967296) (cost-is : c ≡ holdCost (flightAt f i) (hold h i)) where
     pub cost-fits : c ≤ 42949673960000
     cost-fits =
-        let r = w .flight i (omega (arith, m .each)) in
-        let p = mul-le-mul {n₁ = rate d i} {m₁ = hold h i} {n₂ = 10000} {m₂ = 4294967296} (r .rate-to) (omega arith) in
-        elim (lt? (after d i) (hold h i)) [
-          | inl over ↦ omega (arith, cost-is, cost-over d i (hold h i) over, r .jump-to)
-          | inr under ↦ omega (arith, cost-is, cost-under d i (hold h i) under)
+        let low : i < flightCount f = omega (arith, m .can .each) in
+        let p = mul-le-mul {n₁ = column 2 f i} {m₁ = hold h i} {n₂ = 10000} {m₂ = 4294967296} (m .can .rates i low) (omega arith) in
+        elim (lt? (column 3 f i) (hold h i)) [
+          | inl over ↦ omega (arith, cost-is, cost-over (day [] f) i (hold h i) over, m .can .jumps i low)
+          | inr under ↦ omega (arith, cost-is, cost-under (day [] f) i (hold h i) under)
         ]
 
-    pub sum-next : Summed d h (s + c) (i + 1)
+    pub sum-next : Summed f h (s + c) (i + 1)
     unfolding sum
     sum-next = record {
-      good = m .good;
-      each = m .each;
-      upto = omega (arith, m .each);
+      can = m .can;
+      upto = omega (arith, m .can .each);
       costs = rw (add-one i) (omega (arith, m .costs, cost-is));
       most = omega (arith, m .most, cost-fits);
     }
 
-  pub sum-end : length h ≤ i → s ≡ total d h
-  unfolding total
-  sum-end l = let e : i ≡ N d = omega (arith, m .each, m .upto) in m .costs ∙ ap (λ n. sum n (λ j. cost d j (hold h j))) e
+  pub sum-end : length h ≤ i → s ≡ totalOf f h
+  unfolding totalOf
+  sum-end l = let e : i ≡ flightCount f = omega (arith, m .can .each, m .upto) in m .costs ∙ ap (λ n. sum n (λ j. holdCost (flightAt f j) (hold h j))) e
 
 -- ---- the starts
 
@@ -150,34 +164,34 @@ blank-at m k = elim (lt? k m) [
 ]
 
 module _ {d : Day} {h : List ℕ} (good : valid d ≡ true) (each : length h ≡ N d) where
-  pub walk-start : Walked d h (replicate 98 0) 0
+  pub walk-start : Walked d h (replicate periodRow 0) 0
   walk-start = record {
     good = good;
     each = each;
     upto = omega arith;
     sizes = refl;
-    counted = λ k l. blank-at 98 k ∙ sym (count-zero (land d h) k);
+    counted = λ k l. blank-at periodRow k ∙ sym (count-zero (land d h) k);
     none = λ j l. absurd (omega arith);
   }
 
-  pub sum-start : Summed d h 0 0
-  unfolding sum
-  sum-start = record { good = good; each = each; upto = omega arith; costs = refl; most = omega arith }
+pub sum-start : {f h : List ℕ} → CanSum f h → Summed f h 0 0
+unfolding sum
+sum-start can = record { can = can; upto = omega arith; costs = refl; most = omega arith }
 
 -- ---- the order of the refusals
 
 module _ (d : Day) (h : List ℕ) where
-  pub check-bad-day : valid d ≡ false → BadDay ≡ planCheck d h
+  pub check-bad-day : valid d ≡ false → Refused BadDay ≡ planCheck d h
   unfolding planCheck
   check-bad-day e = rw e
 
   module _ (good : valid d ≡ true) {n : ℕ} (flights : n ≡ N d) where
-    pub check-bad-length : (length h ≡ n → ⊥) → BadLength n ≡ planCheck d h
+    pub check-bad-length : (length h ≡ n → ⊥) → Refused (BadLength n) ≡ planCheck d h
     unfolding planCheck
     check-bad-length e = rw (good, ne-eqb (length h) (N d) (λ f. e (f ∙ sym flights)), flights)
 
     module _ (each : length h ≡ n) {place : ℕ} (at : place ≡ firstBreak d h) where
-      pub check-not-legal : (place ≡ n → ⊥) → NotLegal place ≡ planCheck d h
+      pub check-not-legal : (place ≡ n → ⊥) → Refused (NotLegal place) ≡ planCheck d h
       unfolding planCheck walked
       check-not-legal e = rw (good, eq-eqb (length h) (N d) (each ∙ flights), ne-eqb (firstBreak d h) (N d) (λ f. e (at ∙ f ∙ sym flights)), at)
 

@@ -15,7 +15,7 @@ use Rattle.assignment.proofs.Sums.{count-suc, count-zero, sum-grow}
 use Rattle.day.specs.Day.{Day, P, N, capacity, latest, land}
 use Rattle.day.specs.Plan.{Legal, tooLong, overCapacity, breaks, firstBreak}
 use Rattle.day.proofs.Tests.{first-none, none-passes}
-use Rattle.day.proofs.Valid.{Valid}
+use Rattle.day.specs.Valid.{Valid}
 use Rattle.legality.proofs.Laws.{or-false, not-long}
 
 count-grow : (i n : ℕ) (x : ℕ → ℕ) (k : ℕ) → i ≤ n → count i x k ≤ count n x k
@@ -29,7 +29,7 @@ module _ (d : Day) (h : List ℕ) where
   within : (i : ℕ) → breaks d h i ≡ false → land d h i ≤ P d → count (suc i) (land d h) (land d h i) ≤ capacity d (land d h i)
   unfolding breaks overCapacity
   within i e l =
-      let t = or-false (tooLong d i (land d h i)) (overCapacity d (land d h i) (count (suc i) (land d h) (land d h i))) e .1 in
+      let t = or-false (tooLong d i (land d h i)) (overCapacity (d .capacities) (land d h i) (count (suc i) (land d h) (land d h i))) e .1 in
       ltb-false (capacity d (land d h i)) (count (suc i) (land d h) (land d h i)) (rw (le-leb (land d h i) (P d) l) at t)
 
   -- so no period is over it, flight by flight
@@ -63,7 +63,7 @@ module _ (d : Day) (h : List ℕ) where
         count-grow (suc i) (N d) (land d h) (land d h i) l,
       )
 
-      over : (i : ℕ) → i < N d → overCapacity d (land d h i) (count (suc i) (land d h) (land d h i)) ≡ false
+      over : (i : ℕ) → i < N d → overCapacity (d .capacities) (land d h i) (count (suc i) (land d h) (land d h i)) ≡ false
       over i l = elim (lt? (P d) (land d h i)) [
         | inl past ↦ rw (lt-leb (land d h i) (P d) past)
         | inr in-day ↦ rw (le-leb (land d h i) (P d) in-day) (le-ltb _ _ (fits i l in-day))

@@ -1,61 +1,62 @@
 // A hold row checked against its day: refusals 6, 7 and 10, or the plan's total.
 ghost use mathlib.Core.Path.{_≡_};
-ghost use mathlib.Core.Bool.{true, false};
+ghost use mathlib.Core.Bool.{true};
 ghost use Prim.Native.Nat.{_+_, _*_, _<_, _≤_};
 ghost use lib.ListN.{length};
-ghost use Rattle.day.specs.Day.{day, width, N, total, valid};
+ghost use Rattle.day.specs.Day.{lent, mostPeriods, mostFlights, width, flightCount, N, totalOf, valid};
 ghost use Rattle.day.specs.Plan.{tooLong, overCapacity, firstBreak};
 ghost use Rattle.legality.specs.Check.{planCheck};
-ghost use Rattle.legality.specs.Loop.{Walked};
+ghost use Rattle.legality.specs.Loop.{Walked, CanSum};
+use answers::Answer;
+use day::PERIOD_ROW;
+use day::capacity_of;
 use day::cost_of;
+use day::flight_at;
 use day::flight_count;
 use day::is_valid;
 use day::land_of;
 use day::latest_of;
-use day::of_period;
 use day::wide;
 
+// What is found of a day and a hold row: the total of a legal plan, or the refusal.
 pub enum PlanCheck {
-    BadDay,
-    BadLength { needed: usize },
-    NotLegal { place: usize },
     Legal { total: usize },
+    Refused(Answer),
 }
 
 // A landing of the flight at table place i in period k is after the closing period or over its limit.
 fn is_too_long(capacities: &[u32], flights: &[u32], i: usize, k: usize) -> bool
-    requires { ⌜ ((i + 1) * width ≤ length (now flights)) × (length (now capacities) ≤ 96) ⌝ }
-    ensures { λ r. ⌜ r ≡ tooLong (day (now (capacities .entry)) (now (flights .entry))) i k ⌝ }
+    requires { ⌜ ((i + 1) * width ≤ length (now flights)) × (length (now capacities) ≤ mostPeriods) ⌝ }
+    ensures { λ r. ⌜ r ≡ tooLong (lent (capacities .entry) (flights .entry)) i k ⌝ }
 {
-    if capacities.len() + 1 < k {
+    let periods = capacities.len();
+    if periods + 1 < k {
         return true;
     }
-    latest_of(capacities, flights, i) < k
+    latest_of(periods, flight_at(flights, i)) < k
 }
 
-// The m-th landing in period k is over its capacity.
-fn is_over(capacities: &[u32], flights: &[u32], k: usize, m: usize) -> bool
-    ensures { λ r. ⌜ r ≡ overCapacity (day (now (capacities .entry)) (now (flights .entry))) k m ⌝ }
+// The m-th landing in period k is over its capacity. No day has the landings that would fill the closing period.
+fn is_over(capacities: &[u32], k: usize, m: usize) -> bool
+    requires { ⌜ (length (now capacities) ≤ mostPeriods) × (k ≤ length (now capacities) + 1) × (m ≤ mostFlights + 1) ⌝ }
+    ensures { λ r. ⌜ r ≡ overCapacity (now (capacities .entry)) k m ⌝ }
 {
-    if capacities.len() < k {
-        return false;
-    }
-    of_period(capacities, k) < m
+    capacity_of(capacities, k) < m
 }
 
 // The walk of refusal 10, with a row in which landings are counted by period on the way.
 fn walk(capacities: &[u32], flights: &[u32], holds: &[u32], loads: &mut [usize]) -> usize
-    requires { ⌜ Walked (day (now capacities) (now flights)) (now holds) (now loads) 0 ⌝ }
-    ensures { λ r. ⌜ r ≡ firstBreak (day (now (capacities .entry)) (now (flights .entry))) (now (holds .entry)) ⌝ }
+    requires { ⌜ Walked (lent capacities flights) (now holds) (now loads) 0 ⌝ }
+    ensures { λ r. ⌜ r ≡ firstBreak (lent (capacities .entry) (flights .entry)) (now (holds .entry)) ⌝ }
 {
     let mut place = 0;
     while place < holds.len() {
-        let k = land_of(capacities, flights, holds, place);
+        let k = land_of(flights, holds, place);
         if is_too_long(capacities, flights, place, k) {
             return place;
         }
         let load = loads[k] + 1;
-        if is_over(capacities, flights, k, load) {
+        if is_over(capacities, k, load) {
             return place;
         }
         loads[k] = load;
@@ -66,24 +67,23 @@ fn walk(capacities: &[u32], flights: &[u32], holds: &[u32], loads: &mut [usize])
 
 // The first flight that breaks a row of N holds, or N.
 fn first_break(capacities: &[u32], flights: &[u32], holds: &[u32]) -> usize
-    requires { ⌜ valid (day (now capacities) (now flights)) ≡ true ⌝ }
-    requires { ⌜ length (now holds) ≡ N (day (now capacities) (now flights)) ⌝ }
-    ensures { λ r. ⌜ r ≡ firstBreak (day (now (capacities .entry)) (now (flights .entry))) (now (holds .entry)) ⌝ }
+    requires { ⌜ valid (lent capacities flights) ≡ true ⌝ }
+    requires { ⌜ length (now holds) ≡ N (lent capacities flights) ⌝ }
+    ensures { λ r. ⌜ r ≡ firstBreak (lent (capacities .entry) (flights .entry)) (now (holds .entry)) ⌝ }
 {
-    let mut loads: [usize; 98] = [0; 98];
+    let mut loads = [0; PERIOD_ROW];
     walk(capacities, flights, holds, &mut loads)
 }
 
 // The plan's total.
-pub fn total_of(capacities: &[u32], flights: &[u32], holds: &[u32]) -> usize
-    requires { ⌜ valid (day (now capacities) (now flights)) ≡ true ⌝ }
-    requires { ⌜ length (now holds) ≡ N (day (now capacities) (now flights)) ⌝ }
-    ensures { λ r. ⌜ r ≡ total (day (now (capacities .entry)) (now (flights .entry))) (now (holds .entry)) ⌝ }
+pub fn total_of(flights: &[u32], holds: &[u32]) -> usize
+    requires { ⌜ CanSum (now flights) (now holds) ⌝ }
+    ensures { λ r. ⌜ r ≡ totalOf (now (flights .entry)) (now (holds .entry)) ⌝ }
 {
     let mut sum = 0;
     let mut i = 0;
     while i < holds.len() {
-        sum += cost_of(capacities, flights, i, wide(holds[i]));
+        sum += cost_of(flights, i, wide(holds[i]));
         i += 1;
     }
     sum
@@ -91,20 +91,20 @@ pub fn total_of(capacities: &[u32], flights: &[u32], holds: &[u32]) -> usize
 
 // What is found of a day and a hold row, whatever they hold.
 pub fn check_plan(capacities: &[u32], flights: &[u32], holds: &[u32]) -> PlanCheck
-    ensures { λ r. ⌜ r ≡ planCheck (day (now (capacities .entry)) (now (flights .entry))) (now (holds .entry)) ⌝ }
+    ensures { λ r. ⌜ r ≡ planCheck (lent (capacities .entry) (flights .entry)) (now (holds .entry)) ⌝ }
 {
     if !is_valid(capacities, flights) {
-        return PlanCheck::BadDay;
+        return PlanCheck::Refused(Answer::BadDay);
     }
     let n = flight_count(flights);
     if holds.len() != n {
-        return PlanCheck::BadLength { needed: n };
+        return PlanCheck::Refused(Answer::BadLength { needed: n });
     }
     let place = first_break(capacities, flights, holds);
     if place != n {
-        return PlanCheck::NotLegal { place };
+        return PlanCheck::Refused(Answer::NotLegal { place });
     }
     PlanCheck::Legal {
-        total: total_of(capacities, flights, holds),
+        total: total_of(flights, holds),
     }
 }

@@ -1,6 +1,6 @@
 -- The loops of `expand` and `find_path`.
 -- Assumes nothing.
-use mathlib.Core.Path.{_≡_, refl, sym, ap, _∙_}
+use mathlib.Core.Path.{_≡_, refl, sym, _∙_}
 use mathlib.Core.Logic.{inl, inr, _≢_}
 use mathlib.Core.List.{List}
 use Prim.Native.Nat.{ℕ, zero, suc, _+_, _-_, _*_, _^_, _≤_, _<_, min}
@@ -8,14 +8,17 @@ use native.Mathlib.Nat.{add-zero}
 use native.Mathlib.Omega.{arith}
 use lib.ListN.{getD, length, set}
 use Rattle.assignment.specs.Assignment.{Instance, In}
+use Rattle.assignment.specs.Rows.{el}
+use Rattle.assignment.specs.Chains.{Newest}
+use Rattle.assignment.specs.Instances.{until}
 use Rattle.assignment.proofs.Tests.{eq?, lt?}
-use Rattle.assignment.proofs.Chains.{Newest}
-use Rattle.assignment.proofs.Closed.{opened, open-cost, shut-cost}
-use Rattle.assignment.proofs.Restricted.{until, until-near}
+use Rattle.assignment.proofs.Closed.{open-cost, shut-cost}
+use Rattle.assignment.proofs.Restricted.{until-near}
+use Rattle.assignment.proofs.Rows.{set-moved}
 use Rattle.day.specs.Day.{Day, P, N, width, ofPeriod, due, latest, cost}
 use Rattle.day.proofs.Instance.{instance, last, places-in}
-use Rattle.path.specs.Path.{el, far, away, dearest, dear, room-in, scope, landing, Table, Chained, Scene, Search, Around, Gap, Lined, CanList, Filled, CanNear, NextLevel, Nearest, CanOffer, Offers, CanExpand, Expanded, CanSearch, Searched}
-use Rattle.path.proofs.Rows.{as-read, set-moved}
+use Rattle.path.specs.Path.{far, away, dearest, dear, room-in, scope, landing, Table, Chained, Scene, Search, Around, Gap, Lined, CanList, Filled, CanNear, NextLevel, Nearest, CanOffer, Offers, CanExpand, Expanded, CanSearch, Searched}
+use Rattle.path.proofs.Rows.{as-read}
 use Rattle.path.proofs.Listing.{lined-start, lined-some, lined-least, lined-nearest, lined-other, lined-level, lined-open, lined-passed, lined-reach, lined-next}
 use Rattle.path.proofs.Reaching.{search-start, around-pass, around-kept, around-offered, search-near, reach-in, reach-next, search-end}
 
@@ -32,15 +35,15 @@ until-target d i target within l = omega (arith, until-near (last d i) l)
 -- ---- expand
 
 -- flights that do not land in k are passed over
-passes : {d : Instance} {x p : ℕ → ℕ} {target : ℕ} {dist rank via : List ℕ} {t k r : ℕ} (j : ℕ) → Around d x p target dist rank via t k (r + j)
-    → ((s : ℕ) → r ≤ s → s < r + j → x s ≢ k) → Around d x p target dist rank via t k r
+passes : {d : Instance} {x p : ℕ → ℕ} {target : ℕ} {dist turn via : List ℕ} {t k r : ℕ} (j : ℕ) → Around d x p target dist turn via t k (r + j)
+    → ((s : ℕ) → r ≤ s → s < r + j → x s ≢ k) → Around d x p target dist turn via t k r
 passes {r = r} zero a none = rw (add-zero r) at a
 passes {r = r} (suc j) a none =
     let next : r + suc j ≡ (r + j) + 1 = omega arith in
     passes j (around-pass (rw next at a) (none (r + j) (omega arith) (omega arith))) (λ s b c. none s b (omega arith))
 
-pass-to : {d : Instance} {x p : ℕ → ℕ} {target : ℕ} {dist rank via : List ℕ} {t k m r : ℕ} → Newest x k m r
-    → Around d x p target dist rank via t k m → Around d x p target dist rank via t k r
+pass-to : {d : Instance} {x p : ℕ → ℕ} {target : ℕ} {dist turn via : List ℕ} {t k m r : ℕ} → Newest x k m r
+    → Around d x p target dist turn via t k m → Around d x p target dist turn via t k r
 pass-to {m = m} {r = r} h a =
     let e : m ≡ r + (m - r) = omega (arith, h .before) in
     passes (m - r) (rw e at a) (λ s b c. h .none s b (omega (arith, h .before)))
@@ -58,9 +61,9 @@ module _ (d : Day) (places holds first-in next-in prices list : List ℕ) (n lef
     pub falls : (j : ℕ) → away dist j ≤ away dist₀ j
     pub most : (j : ℕ) → away dist j ≤ far
     pub passed : (j : ℕ) → Gap list left j → due d (el places n) ≤ j → 0 < room-in d j → away dist j ≤ from
-    pub keeps : (rank : List ℕ) (t : ℕ)
-        → Around (scope d places n target) (landing d places holds) (ofPeriod prices) target dist₀ rank via₀ t k n
-        → Around (scope d places n target) (landing d places holds) (ofPeriod prices) target dist rank via t k next × (from ≡ away dist k)
+    pub keeps : (turn : List ℕ) (t : ℕ)
+        → Around (scope d places n target) (landing d places holds) (ofPeriod prices) target dist₀ turn via₀ t k n
+        → Around (scope d places n target) (landing d places holds) (ofPeriod prices) target dist turn via t k next × (from ≡ away dist k)
 
 module _ {d : Day} {places holds first-in next-in prices list dist via : List ℕ} {n left target k : ℕ}
     (c : CanExpand d places holds first-in next-in prices list dist via n left target k) where
@@ -80,7 +83,7 @@ module _ {d : Day} {places holds first-in next-in prices list dist via : List �
         falls = λ j. omega arith;
         most = c .most;
         passed = λ j g a some. omega (arith, c .passed j g a some, as-read dist k (expand-room .0));
-        keeps = λ rank t a. (pass-to h a, as-read dist k (expand-room .0));
+        keeps = λ turn t a. (pass-to h a, as-read dist k (expand-room .0));
       }
 
 module _ {d : Day} {places holds first-in next-in prices list dist₀ dist via₀ via : List ℕ} {n left target k from next : ℕ}
@@ -88,7 +91,7 @@ module _ {d : Day} {places holds first-in next-in prices list dist₀ dist via�
   pub expanding-end : next ≤ 0 → Expanded (scope d places n target) (landing d places holds) (ofPeriod prices) target dist₀ dist via₀ via k
   expanding-end l =
       let e : next ≡ 0 = omega arith in
-      record { keeps = λ rank t a. (rw e at (s .keeps rank t a .0), sym (s .keeps rank t a .1) ∙ s .from-is); falls = s .falls }
+      record { keeps = λ turn t a. (rw e at (s .keeps turn t a .0), sym (s .keeps turn t a .1) ∙ s .from-is); falls = s .falls }
 
   module _ (some : 0 < next) where
     abbrev who : ℕ
@@ -198,8 +201,8 @@ module _ {d : Day} {places holds first-in next-in prices list dist₀ dist via�
               | inl c ↦ omega (arith, c .less, c .far, s .passed j g a some)
               | inr c ↦ omega (arith, c .far, s .passed j g a some)
             ];
-            keeps = λ rank t a.
-                let g = s .keeps rank t a in
+            keeps = λ turn t a.
+                let g = s .keeps turn t a in
                 let at-who = rw one-more at (g .0) in (
                   pass-to (rw here at newest) (around-offered at-who dist₂ via₂ (s .can .scene) l here to (g .1) base-is sd sv (rw i-is at o)),
                   omega (arith, g .1, around-kept at-who dist₂ via₂ (s .can .scene) l here to (g .1) base-is sd sv (rw i-is at o)),
@@ -210,7 +213,7 @@ module _ {d : Day} {places holds first-in next-in prices list dist₀ dist via�
 
 -- t periods are reached; the other open ones stand in the queue, at distance `level`, or in the list, where none is nearer. Where the queue
 -- is done, the target is as near as any
-pub record Finding (d : Day) (places holds first-in next-in prices list queue dist rank via : List ℕ) (n first all left target t : ℕ) : Type 0 where
+pub record Finding (d : Day) (places holds first-in next-in prices list queue dist turn via : List ℕ) (n first all left target t : ℕ) : Type 0 where
   pub table : Table d places
   pub scene : Scene (scope d places n target) (landing d places holds) (ofPeriod prices) target
   pub upto : n < N d
@@ -218,15 +221,15 @@ pub record Finding (d : Day) (places holds first-in next-in prices list queue di
   pub chained : Chained (landing d places holds) first-in next-in n
   pub prices-row : target ≤ length prices + 1
   pub first-is : first ≡ due d (el places n)
-  pub so-far : Search (scope d places n target) (landing d places holds) (ofPeriod prices) target dist rank via t 0
+  pub so-far : Search (scope d places n target) (landing d places holds) (ofPeriod prices) target dist turn via t 0
   pub whole : left ≤ all
   pub level : ℕ
-  pub lined : Lined (room-in d) dist rank list queue left first target level t (all - left)
+  pub lined : Lined (room-in d) dist turn list queue left first target level t (all - left)
   pub near : t < all - left → level < far
   pub ended : all - left ≤ t → away dist target ≤ level
 
-module _ {d : Day} {places holds first-in next-in prices list₀ queue dist rank via : List ℕ} {n target : ℕ}
-    (c : CanSearch d places holds first-in next-in prices list₀ queue dist rank via n target) where
+module _ {d : Day} {places holds first-in next-in prices list₀ queue dist turn via : List ℕ} {n target : ℕ}
+    (c : CanSearch d places holds first-in next-in prices list₀ queue dist turn via n target) where
   pub find-room : (n < length places) × (n < 128)
   find-room = omega (arith, c .upto, c .table .row, c .table .valid .flights-to)
 
@@ -252,8 +255,8 @@ module _ {d : Day} {places holds first-in next-in prices list₀ queue dist rank
       }
 
       module _ {list : List ℕ} {all : ℕ} (same-list : length list ≡ length list₀) (f : Filled (d .capacities) list first target all) where
-        lined-first : (dist₁ : List ℕ) → Lined (room-in d) dist₁ rank list queue all first target 0 0 0
-        lined-first dist₁ = lined-start dist₁ rank queue (same-list ∙ c .listed) (c .queue-row) (c .no-ranks) (λ k b. places-in d k (omega (arith, c .scene .within))) f
+        lined-first : (dist₁ : List ℕ) → Lined (room-in d) dist₁ turn list queue all first target 0 0 0
+        lined-first dist₁ = lined-start dist₁ turn queue (same-list ∙ c .listed) (c .queue-row) (c .no-turns) (λ k b. places-in d k (omega (arith, c .scene .within))) f
 
         pub find-offer : CanOffer d prices list dist via all target i 0 0
         find-offer = record {
@@ -279,7 +282,7 @@ module _ {d : Day} {places holds first-in next-in prices list₀ queue dist rank
           passed = λ j g a b. elim (eq? (room-in d j) 0) [
             | inl none ↦ omega (arith, c .all-far j, shut-cost (instance d) dear i j none)
             | inr some ↦ elim (lined-first dist .listed .gaps j g (omega (arith, first-is)) (omega arith)) [
-              | inl reached ↦ absurd (omega (arith, c .no-ranks j))
+              | inl reached ↦ absurd (omega (arith, c .no-turns j))
               | inr w ↦ absurd (omega (arith, w .to))
             ]
           ];
@@ -287,9 +290,9 @@ module _ {d : Day} {places holds first-in next-in prices list₀ queue dist rank
 
         module _ (dist₁ via₁ : List ℕ) (same-d : length dist₁ ≡ length dist) (same-v : length via₁ ≡ length via)
             (o : Offers d prices target i n 0 0 dist dist₁ via via₁) where
-          begun : Search (scope d places n target) (landing d places holds) (ofPeriod prices) target dist₁ rank via₁ 0 0
-          begun = search-start dist dist₁ rank via via₁ (c .scene) window-to (same-d ∙ c .rows .dists) (same-v ∙ c .rows .vias) (c .all-far) (c .no-ranks)
-              (c .rows .ranks) (rw i-is at o)
+          begun : Search (scope d places n target) (landing d places holds) (ofPeriod prices) target dist₁ turn via₁ 0 0
+          begun = search-start dist dist₁ turn via via₁ (c .scene) window-to (same-d ∙ c .rows .dists) (same-v ∙ c .rows .vias) (c .all-far) (c .no-turns)
+              (c .rows .turns) (rw i-is at o)
 
           pub finding-near : CanNear dist₁ list all target 0
           finding-near = search-near begun (c .scene) (lined-first dist₁ .listed .shape) (λ y _. omega arith)
@@ -299,7 +302,7 @@ module _ {d : Day} {places holds first-in next-in prices list₀ queue dist rank
 
           pub finding-start : {list₂ queue₂ : List ℕ} {left : ℕ} → length list₂ ≡ length list → length queue₂ ≡ length queue
               → NextLevel dist₁ list list₂ queue queue₂ all left 0 target
-              → Finding d places holds first-in next-in prices list₂ queue₂ dist₁ rank via₁ n first all left target 0
+              → Finding d places holds first-in next-in prices list₂ queue₂ dist₁ turn via₁ n first all left target 0
           finding-start same-l same-q h = record {
             table = c .table;
             scene = c .scene;
@@ -316,15 +319,15 @@ module _ {d : Day} {places holds first-in next-in prices list₀ queue dist rank
             ended = λ b. h .none (omega (arith, h .levelled .short));
           }
 
-module _ {d : Day} {places holds first-in next-in prices list queue dist rank via : List ℕ} {n first all left target t : ℕ}
-    (s : Finding d places holds first-in next-in prices list queue dist rank via n first all left target t) where
+module _ {d : Day} {places holds first-in next-in prices list queue dist turn via : List ℕ} {n first all left target t : ℕ}
+    (s : Finding d places holds first-in next-in prices list queue dist turn via n first all left target t) where
   free : 0 < room-in d target
   free = omega (arith, s .scene .free)
 
-  target-fresh : el rank target ≡ 0
-  target-fresh = elim (lt? 0 (el rank target)) [ inl some ↦ absurd (omega (arith, s .so-far .reached target some)) | inr none ↦ omega arith ]
+  target-fresh : el turn target ≡ 0
+  target-fresh = elim (lt? 0 (el turn target)) [ inl some ↦ absurd (omega (arith, s .so-far .reached target some)) | inr none ↦ omega arith ]
 
-  pub finding-end : all - left ≤ t → Searched (scope d places n target) (landing d places holds) (ofPeriod prices) target dist rank via
+  pub finding-end : all - left ≤ t → Searched (scope d places n target) (landing d places holds) (ofPeriod prices) target dist turn via
   finding-end e = search-end (s .so-far) (s .scene) (s .first-is) (record {
     from = omega (arith, s .first-is, s .scene .before);
     to = omega arith;
@@ -336,19 +339,19 @@ module _ {d : Day} {places holds first-in next-in prices list queue dist rank vi
   }) refl
 
   module _ (l : t < all - left) {k : ℕ} (k-is : k ≡ getD queue t 0) where
-    nearest-one : Nearest (room-in d) dist rank first target k
+    nearest-one : Nearest (room-in d) dist turn first target k
     nearest-one = lined-nearest (s .lined) l k-is free target-fresh (s .near l)
 
     other : k ≢ target
     other = lined-other (s .lined) l k-is
 
-    reached : (k < target) × (k < 98) × (t < 98) × (k < length rank) × (away dist k ≤ 98 * dearest)
+    reached : (k < target) × (k < 98) × (t < 98) × (k < length turn) × (away dist k ≤ 98 * dearest)
     reached = reach-in (s .so-far) (s .scene) (s .first-is) nearest-one other
 
-    pub finding-in : (t < length queue) × (t < 98) × (k < length rank) × (k < 98) × (left ≤ all)
+    pub finding-in : (t < length queue) × (t < 98) × (k < length turn) × (k < 98) × (left ≤ all)
     finding-in = omega (arith, s .lined .row, reached .1, reached .2, reached .3, s .whole)
 
-    around : Around (scope d places n target) (landing d places holds) (ofPeriod prices) target dist (set rank k (t + 1)) via (t + 1) k n
+    around : Around (scope d places n target) (landing d places holds) (ofPeriod prices) target dist (set turn k (t + 1)) via (t + 1) k n
     around = reach-next (s .so-far) (s .scene) (s .first-is) nearest-one other
 
     pub finding-expand : CanExpand d places holds first-in next-in prices list dist via n left target k
@@ -371,11 +374,11 @@ module _ {d : Day} {places holds first-in next-in prices list queue dist rank vi
     }
 
     module _ {dist₂ via₂ : List ℕ} (h : Expanded (scope d places n target) (landing d places holds) (ofPeriod prices) target dist dist₂ via via₂ k) where
-      after : Around (scope d places n target) (landing d places holds) (ofPeriod prices) target dist₂ (set rank k (t + 1)) via₂ (t + 1) k 0
-      after = h .keeps (set rank k (t + 1)) (t + 1) around .0
+      after : Around (scope d places n target) (landing d places holds) (ofPeriod prices) target dist₂ (set turn k (t + 1)) via₂ (t + 1) k 0
+      after = h .keeps (set turn k (t + 1)) (t + 1) around .0
 
       level-is : away dist₂ k ≡ s .level
-      level-is = h .keeps (set rank k (t + 1)) (t + 1) around .1 ∙ lined-level (s .lined) l k-is
+      level-is = h .keeps (set turn k (t + 1)) (t + 1) around .1 ∙ lined-level (s .lined) l k-is
 
       pub finding-level : (k < length dist₂) × (target < length dist₂) × (target < 98)
       finding-level = omega (arith, finding-in .3, after .so-far .rows .dists, s .scene .within, s .scene .periods)
@@ -384,15 +387,15 @@ module _ {d : Day} {places holds first-in next-in prices list queue dist rank vi
       read = as-read dist₂ k (finding-level .0) ∙ level-is
 
       -- what is not reached is no nearer than what was reached last
-      least : (j : ℕ) → el (set rank k (t + 1)) j ≡ 0 → s .level ≤ away dist₂ j
+      least : (j : ℕ) → el (set turn k (t + 1)) j ≡ 0 → s .level ≤ away dist₂ j
       least j none = omega (arith, level-is, after .so-far .near .order k j (omega (arith, after .here)) none)
 
-      unreached : el (set rank k (t + 1)) target ≡ 0
-      unreached = set-moved rank k (t + 1) (reached .3) .others target (λ f. other (sym f)) ∙ target-fresh
+      unreached : el (set turn k (t + 1)) target ≡ 0
+      unreached = set-moved turn k (t + 1) (reached .3) .others target (λ f. other (sym f)) ∙ target-fresh
 
       -- the target is as near
       pub finding-stop : getD dist₂ target 0 ≤ getD dist₂ k 0
-          → Searched (scope d places n target) (landing d places holds) (ofPeriod prices) target dist₂ (set rank k (t + 1)) via₂
+          → Searched (scope d places n target) (landing d places holds) (ofPeriod prices) target dist₂ (set turn k (t + 1)) via₂
       finding-stop e =
           let at-target = as-read dist₂ target (finding-level .1) in
           record {
@@ -402,11 +405,11 @@ module _ {d : Day} {places holds first-in next-in prices list queue dist rank vi
             near = omega (arith, read, at-target, s .near l);
           }
 
-      lined₂ : Lined (room-in d) dist₂ (set rank k (t + 1)) list queue left first target (s .level) (t + 1) (all - left)
-      lined₂ = lined-reach (s .lined) l k-is (set-moved rank k (t + 1) (reached .3)) (omega arith) (h .falls) least unreached
+      lined₂ : Lined (room-in d) dist₂ (set turn k (t + 1)) list queue left first target (s .level) (t + 1) (all - left)
+      lined₂ = lined-reach (s .lined) l k-is (set-moved turn k (t + 1) (reached .3)) (omega arith) (h .falls) least unreached
 
       pub finding-on : t + 1 ≢ all - left
-          → Finding d places holds first-in next-in prices list queue dist₂ (set rank k (t + 1)) via₂ n first all left target (t + 1)
+          → Finding d places holds first-in next-in prices list queue dist₂ (set turn k (t + 1)) via₂ n first all left target (t + 1)
       finding-on e = record {
         table = s .table;
         scene = s .scene;
@@ -432,7 +435,7 @@ module _ {d : Day} {places holds first-in next-in prices list queue dist rank vi
 
         pub finding-next : {list₂ queue₂ : List ℕ} {left₂ : ℕ} → length list₂ ≡ length list → length queue₂ ≡ length queue
             → NextLevel dist₂ list list₂ queue queue₂ left left₂ (t + 1) target
-            → Finding d places holds first-in next-in prices list₂ queue₂ dist₂ (set rank k (t + 1)) via₂ n first all left₂ target (t + 1)
+            → Finding d places holds first-in next-in prices list₂ queue₂ dist₂ (set turn k (t + 1)) via₂ n first all left₂ target (t + 1)
         finding-next same-l same-q g = record {
           table = s .table;
           scene = s .scene;

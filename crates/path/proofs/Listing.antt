@@ -7,11 +7,13 @@ use mathlib.Core.List.{List}
 use Prim.Native.Nat.{ℕ, zero, suc, _+_, _-_, _≤_, _<_}
 use native.Mathlib.Omega.{arith}
 use lib.ListN.{getD, length, set, length-set}
+use Rattle.assignment.specs.Rows.{el}
+use Rattle.assignment.specs.Moves.{Moved}
 use Rattle.assignment.proofs.Tests.{eq?, lt?}
-use Rattle.assignment.proofs.Moves.{Moved}
+use Rattle.assignment.proofs.Rows.{set-moved}
 use Rattle.day.specs.Day.{ofPeriod}
-use Rattle.path.specs.Path.{el, far, away, InList, Gap, At, Waits, Listed, Waiting, Lined, CanList, Filled, Removed, CanNear, NearestIn, Levelled, CanLevel, NextLevel, Nearest}
-use Rattle.path.proofs.Rows.{set-moved, as-read}
+use Rattle.path.specs.Path.{far, away, InList, Gap, At, Waits, Waiting, Lined, CanList, Filled, Removed, CanNear, NearestIn, Levelled, CanLevel, NextLevel, Nearest}
+use Rattle.path.proofs.Rows.{as-read}
 
 -- ---- what stands in the list
 
@@ -512,13 +514,13 @@ level-some {dist} c h b l = record {
 
 -- ---- the list and the queue
 
-module _ {cap : ℕ → ℕ} {dist rank list queue : List ℕ} {left first target level t queued : ℕ}
-    (s : Lined cap dist rank list queue left first target level t queued) where
+module _ {cap : ℕ → ℕ} {dist turn list queue : List ℕ} {left first target level t queued : ℕ}
+    (s : Lined cap dist turn list queue left first target level t queued) where
   pub lined-some : 0 < cap target → (y : ℕ) → y ≤ left → 0 < cap (el list y)
   lined-some free y l = elim (eq? y left) [ inl e ↦ rw (e, s .listed .shape .ends) free | inr e ↦ s .listed .some y (omega arith) ]
 
   -- nothing open that is not reached is nearer than the level
-  pub lined-least : (j : ℕ) → first ≤ j → j ≤ target → 0 < cap j → el rank j ≡ 0 → level ≤ away dist j
+  pub lined-least : (j : ℕ) → first ≤ j → j ≤ target → 0 < cap j → el turn j ≡ 0 → level ≤ away dist j
   lined-least j a b some none = elim (place-or-gap (s .listed .shape) j b) [
     | inl p ↦ rw (p .is) at (s .low (p .place) (p .to))
     | inr g ↦ elim (s .listed .gaps j g a some) [
@@ -528,11 +530,11 @@ module _ {cap : ℕ → ℕ} {dist rank list queue : List ℕ} {left first targe
   ]
 
   module _ (l : t < queued) {k : ℕ} (k-is : k ≡ el queue t) where
-    next : Waiting cap dist rank first target level k
+    next : Waiting cap dist turn first target level k
     next = rw k-is (s .waits t (omega arith) l)
 
     -- the first of the queue is the nearest
-    pub lined-nearest : 0 < cap target → el rank target ≡ 0 → level < far → Nearest cap dist rank first target k
+    pub lined-nearest : 0 < cap target → el turn target ≡ 0 → level < far → Nearest cap dist turn first target k
     lined-nearest free fresh near = record {
       from = next .from;
       to = omega (arith, next .before);
@@ -553,23 +555,23 @@ module _ {cap : ℕ → ℕ} {dist rank list queue : List ℕ} {left first targe
     lined-open = next .some
 
     -- what stands in no place of the list is no farther than it
-    pub lined-passed : ((j : ℕ) → 0 < el rank j → away dist j ≤ away dist k) → (j : ℕ) → Gap list left j → first ≤ j → 0 < cap j → away dist j ≤ away dist k
+    pub lined-passed : ((j : ℕ) → 0 < el turn j → away dist j ≤ away dist k) → (j : ℕ) → Gap list left j → first ≤ j → 0 < cap j → away dist j ≤ away dist k
     lined-passed order j g a some = elim (s .listed .gaps j g a some) [
       | inl done ↦ order j done
       | inr w ↦ omega (arith, next .here, rw (w .is) at (s .waits (w .place) (w .from) (w .to) .here))
     ]
 
     -- it is reached: the others are as near as they were
-    pub lined-reach : {dist₂ rank₂ : List ℕ} {r : ℕ} → Moved (el rank) (el rank₂) k r → 0 < r → ((j : ℕ) → away dist₂ j ≤ away dist j)
-        → ((j : ℕ) → el rank₂ j ≡ 0 → level ≤ away dist₂ j) → el rank₂ target ≡ 0 → Lined cap dist₂ rank₂ list queue left first target level (t + 1) queued
-    lined-reach {dist₂} {rank₂} {r} v pos falls least unreached = record {
+    pub lined-reach : {dist₂ turn₂ : List ℕ} {r : ℕ} → Moved (el turn) (el turn₂) k r → 0 < r → ((j : ℕ) → away dist₂ j ≤ away dist j)
+        → ((j : ℕ) → el turn₂ j ≡ 0 → level ≤ away dist₂ j) → el turn₂ target ≡ 0 → Lined cap dist₂ turn₂ list queue left first target level (t + 1) queued
+    lined-reach {dist₂} {turn₂} {r} v pos falls least unreached = record {
       listed = record {
         shape = s .listed .shape;
         low = s .listed .low;
         fresh = fresh;
         some = s .listed .some;
         gaps = λ j g a some. elim (eq? j k) [
-          | inl e ↦ inl (omega (arith, ap (el rank₂) e, v .here))
+          | inl e ↦ inl (omega (arith, ap (el turn₂) e, v .here))
           | inr e ↦ elim (s .listed .gaps j g a some) [
             | inl done ↦ inl (omega (arith, v .others j e))
             | inr w ↦ inr (record {
@@ -602,7 +604,7 @@ module _ {cap : ℕ → ℕ} {dist rank list queue : List ℕ} {left first targe
       out = λ y z a b c. s .out y z (omega arith) b c;
     }
       where
-        fresh : (y : ℕ) → y < left → el rank₂ (el list y) ≡ 0
+        fresh : (y : ℕ) → y < left → el turn₂ (el list y) ≡ 0
         fresh y b = v .others (el list y) (λ e. s .out t y (omega arith) l b (sym k-is ∙ sym e)) ∙ s .listed .fresh y b
 
         later : {j : ℕ} (w : Waits queue t queued j) → j ≢ k → t + 1 ≤ w .place
@@ -617,7 +619,7 @@ module _ {cap : ℕ → ℕ} {dist rank list queue : List ℕ} {left first targe
     g : Levelled dist list list₂ queue queue₂ left left₂ queued (h .level)
     g = h .levelled
 
-    in-list : (j : ℕ) → At list left j → (first ≤ j) × (j < target) × (0 < cap j) × (el rank j ≡ 0)
+    in-list : (j : ℕ) → At list left j → (first ≤ j) × (j < target) × (0 < cap j) × (el turn j ≡ 0)
     in-list j p = rw (← (p .is)) (s .listed .low (p .place) (omega (arith, p .to)), list-before (s .listed .shape) (p .place) (p .to), s .listed .some (p .place) (p .to), s .listed .fresh (p .place) (p .to))
 
     ends : el list₂ left₂ ≡ target
@@ -630,7 +632,7 @@ module _ {cap : ℕ → ℕ} {dist rank list queue : List ℕ} {left first targe
     ]
 
     -- what stood in the list stands in it still, or waits
-    gaps₂ : (j : ℕ) → Gap list₂ left₂ j → first ≤ j → 0 < cap j → (0 < el rank j) ⊎ Waits queue₂ queued (queued + (left - left₂)) j
+    gaps₂ : (j : ℕ) → Gap list₂ left₂ j → first ≤ j → 0 < cap j → (0 < el turn j) ⊎ Waits queue₂ queued (queued + (left - left₂)) j
     gaps₂ j o a some = elim (place-or-gap (s .listed .shape) j (omega (arith, o .below, up (o .place) (o .to)))) [
       | inl p ↦ elim (eq? (p .place) left) [
         | inl e ↦ absurd (omega (arith, o .below, up (o .place) (o .to), p .is, ap (el list) e, s .listed .shape .ends))
@@ -657,7 +659,7 @@ module _ {cap : ℕ → ℕ} {dist rank list queue : List ℕ} {left first targe
           ]
         ]
 
-    pub lined-next : {queued₂ : ℕ} → queued₂ ≡ queued + (left - left₂) → Lined cap dist rank list₂ queue₂ left₂ first target (h .level) queued queued₂
+    pub lined-next : {queued₂ : ℕ} → queued₂ ≡ queued + (left - left₂) → Lined cap dist turn list₂ queue₂ left₂ first target (h .level) queued queued₂
     lined-next e = rw e (record {
       listed = record {
         shape = record { row = same-l ∙ s .listed .shape .row; short = omega (arith, g .short, s .listed .shape .short); ends = ends; rising = rising₂ };
@@ -685,10 +687,10 @@ module _ {cap : ℕ → ℕ} {dist rank list queue : List ℕ} {left first targe
     })
 
 -- the list at the start has every open period, and nothing waits
-pub lined-start : {cap : ℕ → ℕ} {capacities list : List ℕ} (dist rank queue : List ℕ) {left first target : ℕ} → length list ≡ 98 → length queue ≡ 98
-    → ((k : ℕ) → el rank k ≡ 0) → ((k : ℕ) → k < target → cap k ≡ ofPeriod capacities k) → Filled capacities list first target left
-    → Lined cap dist rank list queue left first target 0 0 0
-lined-start {cap} {capacities} {list} dist rank queue {left} {first} {target} row queue-row none same h = record {
+pub lined-start : {cap : ℕ → ℕ} {capacities list : List ℕ} (dist turn queue : List ℕ) {left first target : ℕ} → length list ≡ 98 → length queue ≡ 98
+    → ((k : ℕ) → el turn k ≡ 0) → ((k : ℕ) → k < target → cap k ≡ ofPeriod capacities k) → Filled capacities list first target left
+    → Lined cap dist turn list queue left first target 0 0 0
+lined-start {cap} {capacities} {list} dist turn queue {left} {first} {target} row queue-row none same h = record {
   listed = record {
     shape = shape;
     low = h .low;

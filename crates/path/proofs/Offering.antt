@@ -7,15 +7,18 @@ use Prim.Native.Nat.{ℕ, _+_, _-_, _*_, _^_, _≤_, _<_, min}
 use native.Mathlib.Nat.{mul-le-mul}
 use native.Mathlib.Omega.{arith}
 use lib.ListN.{getD, length, set, length-set}
+use Rattle.assignment.specs.Rows.{el}
+use Rattle.assignment.specs.Moves.{Moved}
+use Rattle.assignment.specs.Instances.{opened}
+use Rattle.assignment.specs.Search.{Took, Kept}
 use Rattle.assignment.proofs.Tests.{lt?, eq?}
-use Rattle.assignment.proofs.Moves.{Moved}
-use Rattle.assignment.proofs.Near.{Took, Kept}
+use Rattle.assignment.proofs.Closed.{open-cost}
+use Rattle.assignment.proofs.Rows.{set-moved}
 use Rattle.day.specs.Day.{Day, due, rate, after, jump, latest, ofPeriod, holdCost, cost}
-use Rattle.assignment.proofs.Closed.{opened, open-cost}
 use Rattle.day.proofs.Costs.{cost-rises, period-in}
 use Rattle.day.proofs.Instance.{instance}
-use Rattle.path.specs.Path.{el, far, away, dearest, dear, payment, Nearer, CanOffer, Offers}
-use Rattle.path.proofs.Rows.{set-moved, away-moved, as-read}
+use Rattle.path.specs.Path.{far, away, dearest, dear, payment, Nearer, CanOffer, Offers}
+use Rattle.path.proofs.Rows.{away-moved, as-read}
 use Rattle.path.proofs.Listing.{list-to, list-before}
 
 -- the flight's numbers, read once

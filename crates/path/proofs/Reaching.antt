@@ -10,14 +10,16 @@ use native.Mathlib.Omega.{arith}
 use lib.Dec.{T, leb, ltb, eqb, leb→le, le→leb, ltb→lt, lt→ltb, eqb→eq, eqb-refl}
 use lib.ListN.{length, set, length-set}
 use Rattle.assignment.specs.Assignment.{Instance, In}
+use Rattle.assignment.specs.Rows.{el}
+use Rattle.assignment.specs.Moves.{Moved}
+use Rattle.assignment.specs.Search.{Took, Offered}
 use Rattle.assignment.proofs.Tests.{eq?, lt?, gate-eq, gate-ne, and-T, T-and}
 use Rattle.assignment.proofs.Sums.{count-move, count-member, count-all}
-use Rattle.assignment.proofs.Moves.{Moved}
 use Rattle.assignment.proofs.Closed.{lands-open}
-use Rattle.assignment.proofs.Near.{Took, Offered, near-start, near-reach, near-pass, near-offer, offer-kept, offer-falls}
+use Rattle.assignment.proofs.Near.{near-start, near-reach, near-pass, near-offer, offer-kept, offer-falls}
 use Rattle.assignment.proofs.Stuck.{Stuck, stuck-is-short}
-use Rattle.path.specs.Path.{el, far, away, dearest, InList, Scene, Search, Around, CanNear, Nearest, Searched}
-use Rattle.path.proofs.Rows.{set-moved}
+use Rattle.assignment.proofs.Rows.{set-moved}
+use Rattle.path.specs.Path.{far, away, dearest, InList, Scene, Search, Around, CanNear, Nearest, Searched}
 
 or-left : (a b : Bool) → T a → T (a || b)
 or-left true b t = t
@@ -33,9 +35,9 @@ or-T false b t = inr t
 
 -- ---- the start
 
-module _ {d : Instance} {x p : ℕ → ℕ} {target : ℕ} (dist₀ dist rank via₀ via : List ℕ) {hi : ℕ} (scene : Scene d x p target) (to : hi ≡ d .hi (d .n))
+module _ {d : Instance} {x p : ℕ → ℕ} {target : ℕ} (dist₀ dist turn via₀ via : List ℕ) {hi : ℕ} (scene : Scene d x p target) (to : hi ≡ d .hi (d .n))
     (dists : length dist ≡ 98) (vias : length via ≡ 98)
-    (far-first : (k : ℕ) → away dist₀ k ≡ far) (fresh : (k : ℕ) → el rank k ≡ 0) (ranks : length rank ≡ 98)
+    (far-first : (k : ℕ) → away dist₀ k ≡ far) (fresh : (k : ℕ) → el turn k ≡ 0) (turns : length turn ≡ 98)
     (o : Offered (d .lo (d .n)) hi (λ k. d .cost (d .n) k + p k) (d .n) 0 0 (away dist₀ target) (away dist₀) (away dist) (el via₀) (el via)) where
   fits : (k : ℕ) → d .lo (d .n) ≤ k → k ≤ hi → In d (d .n) k
   fits k a b = record { from = a; to = omega arith }
@@ -72,9 +74,9 @@ module _ {d : Instance} {x p : ℕ → ℕ} {target : ℕ} (dist₀ dist rank vi
     | inr e ↦ absurd (omega (arith, e .far, far-first k))
   ]
 
-  pub search-start : Search d x p target dist rank via 0 0
+  pub search-start : Search d x p target dist turn via 0 0
   search-start = record {
-    rows = record { dists = dists; ranks = ranks; vias = vias };
+    rows = record { dists = dists; turns = turns; vias = vias };
     root = away dist;
     rooted = λ k near. let w = near-in k near in (w, heard k w (near-open k near) .0);
     reach = λ k w. elim (eq? (d .cap k) 0) [
@@ -92,20 +94,20 @@ module _ {d : Instance} {x p : ℕ → ℕ} {target : ℕ} (dist₀ dist rank vi
         let some = near-open k near in
         omega (arith, w .from, w .to, scene .ceiling (d .n) (omega arith) (scene .before), heard k w some .0, small k w some, some);
     reached = λ k some. absurd (omega (arith, fresh k));
-    zeros = omega (arith, count-all 98 0 (el rank) fresh);
+    zeros = omega (arith, count-all 98 0 (el turn) fresh);
   }
 
 -- ---- a period is reached
 
-module _ {d : Instance} {x p : ℕ → ℕ} {target : ℕ} {dist rank via : List ℕ} {t : ℕ} (s : Search d x p target dist rank via t 0)
+module _ {d : Instance} {x p : ℕ → ℕ} {target : ℕ} {dist turn via : List ℕ} {t : ℕ} (s : Search d x p target dist turn via t 0)
     (scene : Scene d x p target) where
   pub search-near : {list : List ℕ} {left level : ℕ} → InList list left target → ((y : ℕ) → y ≤ left → level ≤ away dist (el list y))
       → CanNear dist list left target level
   search-near o low = record { dists = s .rows .dists; shape = o; within = omega (arith, scene .within, scene .periods); low = low }
 
-  module _ {first k : ℕ} (first-is : first ≡ d .lo (d .n)) (a : Nearest (d .cap) dist rank first target k) where
+  module _ {first k : ℕ} (first-is : first ≡ d .lo (d .n)) (a : Nearest (d .cap) dist turn first target k) where
     -- nothing that is not reached is nearer
-    nearest-least : (j : ℕ) → el rank j ≡ 0 → away dist k ≤ away dist j
+    nearest-least : (j : ℕ) → el turn j ≡ 0 → away dist k ≤ away dist j
     nearest-least j none = elim (lt? (away dist j) far) [
       | inr out ↦ omega (arith, a .target-least, s .most target)
       | inl near ↦ elim (eq? j target) [
@@ -115,16 +117,16 @@ module _ {d : Instance} {x p : ℕ → ℕ} {target : ℕ} {dist rank via : List
     ]
 
     module _ (e : k ≢ target) where
-      pub reach-in : (k < target) × (k < 98) × (t < 98) × (k < length rank) × (away dist k ≤ 98 * dearest)
+      pub reach-in : (k < target) × (k < 98) × (t < 98) × (k < length turn) × (away dist k ≤ 98 * dearest)
       reach-in =
           let b : k < 98 = omega (arith, a .to, scene .within, scene .periods) in
-          let c : t < 98 = omega (arith, s .zeros, count-member 98 k 0 (el rank) b (a .fresh e)) in
-          omega (arith, a .to, s .rows .ranks, s .inside k (a .near e))
+          let c : t < 98 = omega (arith, s .zeros, count-member 98 k 0 (el turn) b (a .fresh e)) in
+          omega (arith, a .to, s .rows .turns, s .inside k (a .near e))
 
-      pub reach-next : Around d x p target dist (set rank k (t + 1)) via (t + 1) k (d .n)
+      pub reach-next : Around d x p target dist (set turn k (t + 1)) via (t + 1) k (d .n)
       reach-next = record {
         so-far = record {
-          rows = record { dists = s .rows .dists; ranks = length-set rank k (t + 1) ∙ s .rows .ranks; vias = s .rows .vias };
+          rows = record { dists = s .rows .dists; turns = length-set turn k (t + 1) ∙ s .rows .turns; vias = s .rows .vias };
           root = s .root;
           rooted = s .rooted;
           reach = s .reach;
@@ -138,9 +140,9 @@ module _ {d : Instance} {x p : ℕ → ℕ} {target : ℕ} {dist rank via : List
           zeros = omega (
             arith,
             s .zeros,
-            count-move 98 k (el rank) (el (set rank k (t + 1))) (reach-in .1) (λ j _ f. v .others j f) 0,
-            gate-eq (el rank k) 0 1 (a .fresh e),
-            gate-ne (el (set rank k (t + 1)) k) 0 1 (omega (arith, v .here)),
+            count-move 98 k (el turn) (el (set turn k (t + 1))) (reach-in .1) (λ j _ f. v .others j f) 0,
+            gate-eq (el turn k) 0 1 (a .fresh e),
+            gate-ne (el (set turn k (t + 1)) k) 0 1 (omega (arith, v .here)),
           );
         };
         some = omega arith;
@@ -148,33 +150,33 @@ module _ {d : Instance} {x p : ℕ → ℕ} {target : ℕ} {dist rank via : List
         only = λ j f. elim (eq? j k) [ inl g ↦ g | inr g ↦ absurd (omega (arith, v .others j g, s .near .top j)) ];
       }
         where
-          v : Moved (el rank) (el (set rank k (t + 1))) k (t + 1)
-          v = set-moved rank k (t + 1) (reach-in .3)
+          v : Moved (el turn) (el (set turn k (t + 1))) k (t + 1)
+          v = set-moved turn k (t + 1) (reach-in .3)
 
     -- ---- the end
 
     module _ (e : k ≡ target) where
-      least : (j : ℕ) → el rank j ≡ 0 → away dist target ≤ away dist j
+      least : (j : ℕ) → el turn j ≡ 0 → away dist target ≤ away dist j
       least j none = rw e at (nearest-least j none)
 
       -- reached, or closed
       r : ℕ → Bool
-      r j = ltb 0 (el rank j) || (eqb (d .cap j) 0 && (leb (d .lo (d .n)) j && ltb j target))
+      r j = ltb 0 (el turn j) || (eqb (d .cap j) 0 && (leb (d .lo (d .n)) j && ltb j target))
 
-      reached-in : (j : ℕ) → 0 < el rank j → T (r j)
+      reached-in : (j : ℕ) → 0 < el turn j → T (r j)
       unfolding r
-      reached-in j some = or-left (ltb 0 (el rank j)) _ (lt→ltb 0 (el rank j) some)
+      reached-in j some = or-left (ltb 0 (el turn j)) _ (lt→ltb 0 (el turn j) some)
 
       closed-in : (j : ℕ) → d .cap j ≡ 0 → d .lo (d .n) ≤ j → j < target → T (r j)
       unfolding r
-      closed-in j none a b = or-right (ltb 0 (el rank j)) _
+      closed-in j none a b = or-right (ltb 0 (el turn j)) _
           (T-and (eqb (d .cap j) 0) _ (rw none (eqb-refl 0)) (T-and (leb (d .lo (d .n)) j) _ (le→leb (d .lo (d .n)) j a) (lt→ltb j target b)))
 
       -- both lie before the target and are full
-      in-range : (j : ℕ) → T (r j) → (d .lo (d .n) ≤ j) × (j < target) × ((0 < el rank j) ⊎ (d .cap j ≡ 0))
+      in-range : (j : ℕ) → T (r j) → (d .lo (d .n) ≤ j) × (j < target) × ((0 < el turn j) ⊎ (d .cap j ≡ 0))
       unfolding r
-      in-range j t = elim (or-T (ltb 0 (el rank j)) _ t) [
-        | inl some ↦ let b = s .reached j (ltb→lt 0 (el rank j) some) in (b .0, b .1, inl (ltb→lt 0 (el rank j) some))
+      in-range j t = elim (or-T (ltb 0 (el turn j)) _ t) [
+        | inl some ↦ let b = s .reached j (ltb→lt 0 (el turn j) some) in (b .0, b .1, inl (ltb→lt 0 (el turn j) some))
         | inr shut ↦
             let c = and-T (eqb (d .cap j) 0) _ shut in
             let b = and-T (leb (d .lo (d .n)) j) _ (c .1) in
@@ -185,7 +187,7 @@ module _ {d : Instance} {x p : ℕ → ℕ} {target : ℕ} {dist rank via : List
       in-window : far ≤ away dist target → (i j : ℕ) → i ≤ d .n → In d i j → d .lo i ≤ target → (0 < d .cap j → away dist j < far) → T (r j)
       in-window out i j l w low near = elim (eq? (d .cap j) 0) [
         | inl none ↦ closed-in j none (omega (arith, w .from, floor)) (before none)
-        | inr some ↦ elim (lt? 0 (el rank j)) [
+        | inr some ↦ elim (lt? 0 (el turn j)) [
           | inl done ↦ reached-in j done
           | inr fresh ↦ absurd (omega (arith, least j (omega arith), near (omega arith)))
         ]
@@ -233,13 +235,13 @@ module _ {d : Instance} {x p : ℕ → ℕ} {target : ℕ} {dist rank via : List
             absurd (scene .none-short (h .a) (h .b) (h .from) (h .stretch) (last .1) (h .short))
       ]
 
-      pub search-end : Searched d x p target dist rank via
+      pub search-end : Searched d x p target dist turn via
       search-end = record { t = t; so-far = s; least = least; near = not-far }
 
 -- ---- the flights that land in the period reached last
 
-module _ {d : Instance} {x p : ℕ → ℕ} {target : ℕ} {dist rank via : List ℕ} {t k m : ℕ} (s : Around d x p target dist rank via t k (m + 1)) where
-  pub around-pass : x m ≢ k → Around d x p target dist rank via t k m
+module _ {d : Instance} {x p : ℕ → ℕ} {target : ℕ} {dist turn via : List ℕ} {t k m : ℕ} (s : Around d x p target dist turn via t k (m + 1)) where
+  pub around-pass : x m ≢ k → Around d x p target dist turn via t k m
   around-pass e = record {
     so-far = record {
       rows = s .so-far .rows;
@@ -260,7 +262,7 @@ module _ {d : Instance} {x p : ℕ → ℕ} {target : ℕ} {dist rank via : List
   module _ (dist₂ via₂ : List ℕ) {hi from base : ℕ} (scene : Scene d x p target) (l : m < d .n) (lands : x m ≡ k) (to : hi ≡ d .hi m)
       (from-is : from ≡ away dist k) (base-is : base ≡ d .cost m k + p k) (dists : length dist₂ ≡ length dist) (vias : length via₂ ≡ length via)
       (o : Offered (d .lo m) hi (λ k. d .cost m k + p k) m from base (away dist target) (away dist) (away dist₂) (el via) (el via₂)) where
-    here : el rank (x m) ≡ t
+    here : el turn (x m) ≡ t
     here = rw lands (s .here)
 
     from-x : from ≡ away dist (x m)
@@ -269,7 +271,7 @@ module _ {d : Instance} {x p : ℕ → ℕ} {target : ℕ} {dist rank via : List
     base-x : base ≡ d .cost m (x m) + p (x m)
     base-x = rw lands base-is
 
-    kept : (j : ℕ) → 0 < el rank j → away dist₂ j ≡ away dist j
+    kept : (j : ℕ) → 0 < el turn j → away dist₂ j ≡ away dist j
     kept j q = offer-kept (s .so-far .near) l (s .some) here to from-x base-x o j q
 
     pub around-kept : away dist₂ k ≡ away dist k
@@ -292,10 +294,10 @@ module _ {d : Instance} {x p : ℕ → ℕ} {target : ℕ} {dist rank via : List
       ))
     ]
 
-    pub around-offered : Around d x p target dist₂ rank via₂ t k m
+    pub around-offered : Around d x p target dist₂ turn via₂ t k m
     around-offered = record {
       so-far = record {
-        rows = record { dists = dists ∙ s .so-far .rows .dists; ranks = s .so-far .rows .ranks; vias = vias ∙ s .so-far .rows .vias };
+        rows = record { dists = dists ∙ s .so-far .rows .dists; turns = s .so-far .rows .turns; vias = vias ∙ s .so-far .rows .vias };
         root = s .so-far .root;
         rooted = s .so-far .rooted;
         reach = s .so-far .reach;

@@ -1,4 +1,4 @@
--- Rows read at an index, and one entry stored.
+-- Distances read in their row, and one stored.
 -- Assumes nothing.
 use mathlib.Core.Path.{_≡_, refl}
 use mathlib.Core.List.{List, [], _∷_}
@@ -6,11 +6,8 @@ use Prim.Native.Nat.{ℕ, zero, suc, _<_}
 use native.Mathlib.Omega.{arith}
 use lib.ListN.{getD, length, set}
 use lib.Seq.{getD-set-same, getD-set-other}
-use Rattle.assignment.proofs.Moves.{Moved}
-use Rattle.path.specs.Path.{el, far, away}
-
-pub set-moved : (l : List ℕ) (i v : ℕ) → i < length l → Moved (el l) (el (set l i v)) i v
-set-moved l i v b = record { here = getD-set-same l i v 0 b; others = λ o e. getD-set-other l i o v 0 e }
+use Rattle.assignment.specs.Moves.{Moved}
+use Rattle.path.specs.Path.{far, away}
 
 pub away-moved : (l : List ℕ) (i v : ℕ) → i < length l → Moved (away l) (away (set l i v)) i v
 away-moved l i v b = record { here = getD-set-same l i v far b; others = λ o e. getD-set-other l i o v far e }

@@ -1,13 +1,14 @@
 -- The loop of `nearest`.
 -- Assumes nothing.
-use mathlib.Core.Path.{_≡_, refl, ap, _∙_}
+use mathlib.Core.Path.{_≡_}
 use mathlib.Core.Logic.{inl, inr}
 use mathlib.Core.List.{List}
 use Prim.Native.Nat.{ℕ, _+_, _≤_, _<_}
 use native.Mathlib.Omega.{arith}
 use lib.ListN.{getD, length}
+use Rattle.assignment.specs.Rows.{el}
 use Rattle.assignment.proofs.Tests.{eq?}
-use Rattle.path.specs.Path.{el, away, CanNear, NearestIn}
+use Rattle.path.specs.Path.{away, CanNear, NearestIn}
 use Rattle.path.proofs.Rows.{as-read}
 use Rattle.path.proofs.Listing.{list-to}
 

@@ -7,23 +7,20 @@ use Prim.Native.Nat.{ℕ, _+_, _-_, _*_, _≤_, _<_, min}
 use lib.ListN.{getD, length, set}
 use Rattle.assignment.specs.Sum.{count}
 use Rattle.assignment.specs.Assignment.{Instance, In, Short}
-use Rattle.assignment.proofs.Near.{Near, Offered}
-use Rattle.assignment.proofs.Insertion.{Sound, grown}
-use Rattle.assignment.proofs.Permuted.{Permuted, ordered}
-use Rattle.assignment.proofs.Chains as chains
-use Rattle.assignment.proofs.Closed.{opened}
-use Rattle.assignment.proofs.Restricted.{restricted}
+use Rattle.assignment.specs.Rows.{el}
+use Rattle.assignment.specs.Orders.{Permuted}
+use Rattle.assignment.specs.Chains as chains
+use Rattle.assignment.specs.Instances.{grown, ordered, opened, restricted}
+use Rattle.assignment.specs.Search.{Near, Offered}
+use Rattle.assignment.specs.Insertion.{Sound}
 use Rattle.day.specs.Day.{Day, width, P, N, ofPeriod, due, rate, jump, cost, latest, land}
 use Rattle.day.proofs.Valid.{Valid}
 use Rattle.day.proofs.Instance.{instance}
 
--- rows are read at the period or the place itself; a distance that does not stand in its row is far
-abbrev pub el : List ℕ → ℕ → ℕ
-el row k = getD row k 0
-
 abbrev pub far : ℕ
 far = 4611686018427387904
 
+-- a distance that does not stand in its row is far
 abbrev pub away : List ℕ → ℕ → ℕ
 away dist k = getD dist k far
 
@@ -83,30 +80,30 @@ pub record Scene (d : Instance) (x p : ℕ → ℕ) (target : ℕ) : Type 0 wher
   pub free : count (d .n) x target < d .cap target
   pub none-short : (a b : ℕ) → 1 ≤ a → a ≤ b → b < target → Short (grown d) a b → ⊥
 
--- the rows of a search
-pub record Rows (dist rank via : List ℕ) : Type 0 where
+-- the rows of a search: distances, the turn in which each period was reached (0: not yet), and by way of which place it is so far
+pub record Rows (dist turn via : List ℕ) : Type 0 where
   pub dists : length dist ≡ 98
-  pub ranks : length rank ≡ 98
+  pub turns : length turn ≡ 98
   pub vias : length via ≡ 98
 
 -- t periods are reached, and from the last of them the flights from m on have offered; root is what the new flight pays
-pub record Search (d : Instance) (x p : ℕ → ℕ) (target : ℕ) (dist rank via : List ℕ) (t m : ℕ) : Type 0 where
-  pub rows : Rows dist rank via
+pub record Search (d : Instance) (x p : ℕ → ℕ) (target : ℕ) (dist turn via : List ℕ) (t m : ℕ) : Type 0 where
+  pub rows : Rows dist turn via
   pub root : ℕ → ℕ
   pub rooted : (k : ℕ) → root k < far → In d (d .n) k × (root k ≡ d .cost (d .n) k + p k)
   pub reach : (k : ℕ) → In d (d .n) k → root k ≤ d .cost (d .n) k + p k
-  pub near : Near d x p root (away dist) (el rank) (el via) target t m
+  pub near : Near d x p root (away dist) (el turn) (el via) target t m
   pub most : (k : ℕ) → away dist k ≤ far
   pub inside : (k : ℕ) → away dist k < far → (d .lo (d .n) ≤ k) × (k ≤ target) × (away dist k ≤ (t + 1) * dearest) × (0 < d .cap k)
-  pub reached : (k : ℕ) → 0 < el rank k → (d .lo (d .n) ≤ k) × (k < target) × (away dist k ≤ t * dearest)
-  pub zeros : t + count 98 (el rank) 0 ≡ 98
+  pub reached : (k : ℕ) → 0 < el turn k → (d .lo (d .n) ≤ k) × (k < target) × (away dist k ≤ t * dearest)
+  pub zeros : t + count 98 (el turn) 0 ≡ 98
 
 -- period k was reached last
-pub record Around (d : Instance) (x p : ℕ → ℕ) (target : ℕ) (dist rank via : List ℕ) (t k m : ℕ) : Type 0 where
-  pub so-far : Search d x p target dist rank via t m
+pub record Around (d : Instance) (x p : ℕ → ℕ) (target : ℕ) (dist turn via : List ℕ) (t k m : ℕ) : Type 0 where
+  pub so-far : Search d x p target dist turn via t m
   pub some : 0 < t
-  pub here : el rank k ≡ t
-  pub only : (j : ℕ) → el rank j ≡ t → j ≡ k
+  pub here : el turn k ≡ t
+  pub only : (j : ℕ) → el turn j ≡ t → j ≡ k
 
 -- ---- the list of the periods that are not reached
 
@@ -138,29 +135,29 @@ pub record Waits (queue : List ℕ) (t queued j : ℕ) : Type 0 where
   pub is : el queue place ≡ j
 
 -- from the first period on, the list has the target and what is open, not reached and not in the queue
-pub record Listed (cap : ℕ → ℕ) (list rank queue : List ℕ) (left first target t queued : ℕ) : Type 0 where
+pub record Listed (cap : ℕ → ℕ) (list turn queue : List ℕ) (left first target t queued : ℕ) : Type 0 where
   pub shape : InList list left target
   pub low : (y : ℕ) → y ≤ left → first ≤ el list y
-  pub fresh : (y : ℕ) → y < left → el rank (el list y) ≡ 0
+  pub fresh : (y : ℕ) → y < left → el turn (el list y) ≡ 0
   pub some : (y : ℕ) → y < left → 0 < cap (el list y)
-  pub gaps : (j : ℕ) → Gap list left j → first ≤ j → 0 < cap j → (0 < el rank j) ⊎ Waits queue t queued j
+  pub gaps : (j : ℕ) → Gap list left j → first ≤ j → 0 < cap j → (0 < el turn j) ⊎ Waits queue t queued j
 
 -- an open period that is not reached, at distance `level`
-pub record Waiting (cap : ℕ → ℕ) (dist rank : List ℕ) (first target level k : ℕ) : Type 0 where
+pub record Waiting (cap : ℕ → ℕ) (dist turn : List ℕ) (first target level k : ℕ) : Type 0 where
   pub from : first ≤ k
   pub before : k < target
   pub some : 0 < cap k
-  pub fresh : el rank k ≡ 0
+  pub fresh : el turn k ≡ 0
   pub here : away dist k ≡ level
 
 -- t periods are reached; the queue has those behind them that are as near as `level`, and nothing in the list is nearer
-pub record Lined (cap : ℕ → ℕ) (dist rank list queue : List ℕ) (left first target level t queued : ℕ) : Type 0 where
-  pub listed : Listed cap list rank queue left first target t queued
+pub record Lined (cap : ℕ → ℕ) (dist turn list queue : List ℕ) (left first target level t queued : ℕ) : Type 0 where
+  pub listed : Listed cap list turn queue left first target t queued
   pub low : (y : ℕ) → y ≤ left → level ≤ away dist (el list y)
   pub row : length queue ≡ 98
   pub upto : t ≤ queued
   pub room : queued + left < 98
-  pub waits : (y : ℕ) → t ≤ y → y < queued → Waiting cap dist rank first target level (el queue y)
+  pub waits : (y : ℕ) → t ≤ y → y < queued → Waiting cap dist turn first target level (el queue y)
   pub apart : (y z : ℕ) → t ≤ y → y < z → z < queued → el queue y ≢ el queue z
   pub out : (y z : ℕ) → t ≤ y → y < queued → z < left → el queue y ≢ el list z
 
@@ -226,13 +223,13 @@ pub record NextLevel (dist list list₂ queue queue₂ : List ℕ) (left left₂
   pub none : left ≤ left₂ → away dist target ≤ level
 
 -- k is the nearest open period of first .. target that is not reached
-pub record Nearest (cap : ℕ → ℕ) (dist rank : List ℕ) (first target k : ℕ) : Type 0 where
+pub record Nearest (cap : ℕ → ℕ) (dist turn : List ℕ) (first target k : ℕ) : Type 0 where
   pub from : first ≤ k
   pub to : k ≤ target
-  pub fresh : k ≢ target → el rank k ≡ 0
+  pub fresh : k ≢ target → el turn k ≡ 0
   pub near : k ≢ target → away dist k < far
   pub some : k ≢ target → 0 < cap k
-  pub least : (j : ℕ) → first ≤ j → j < target → 0 < cap j → el rank j ≡ 0 → away dist k ≤ away dist j
+  pub least : (j : ℕ) → first ≤ j → j < target → 0 < cap j → el turn j ≡ 0 → away dist k ≤ away dist j
   pub target-least : away dist k ≤ away dist target
 
 -- period k comes to the distance v by way of `who`, if that is nearer
@@ -285,11 +282,11 @@ pub record CanExpand (d : Day) (places holds first-in next-in prices list dist v
 
 -- the flights that land in k have offered: nothing is farther, and k as far as it was
 pub record Expanded (d : Instance) (x p : ℕ → ℕ) (target : ℕ) (dist dist₂ via via₂ : List ℕ) (k : ℕ) : Type 0 where
-  pub keeps : (rank : List ℕ) (t : ℕ) → Around d x p target dist rank via t k (d .n) → Around d x p target dist₂ rank via₂ t k 0 × (away dist₂ k ≡ away dist k)
+  pub keeps : (turn : List ℕ) (t : ℕ) → Around d x p target dist turn via t k (d .n) → Around d x p target dist₂ turn via₂ t k 0 × (away dist₂ k ≡ away dist k)
   pub falls : (j : ℕ) → away dist₂ j ≤ away dist j
 
 -- nothing is reached yet
-pub record CanSearch (d : Day) (places holds first-in next-in prices list queue dist rank via : List ℕ) (n target : ℕ) : Type 0 where
+pub record CanSearch (d : Day) (places holds first-in next-in prices list queue dist turn via : List ℕ) (n target : ℕ) : Type 0 where
   pub table : Table d places
   pub scene : Scene (scope d places n target) (landing d places holds) (ofPeriod prices) target
   pub upto : n < N d
@@ -298,13 +295,13 @@ pub record CanSearch (d : Day) (places holds first-in next-in prices list queue 
   pub prices-row : target ≤ length prices + 1
   pub listed : length list ≡ 98
   pub queue-row : length queue ≡ 98
-  pub rows : Rows dist rank via
+  pub rows : Rows dist turn via
   pub all-far : (k : ℕ) → away dist k ≡ far
-  pub no-ranks : (k : ℕ) → el rank k ≡ 0
+  pub no-turns : (k : ℕ) → el turn k ≡ 0
 
 -- the target is the nearest of the periods that are not reached, and it is not far
-pub record Searched (d : Instance) (x p : ℕ → ℕ) (target : ℕ) (dist rank via : List ℕ) : Type 0 where
+pub record Searched (d : Instance) (x p : ℕ → ℕ) (target : ℕ) (dist turn via : List ℕ) : Type 0 where
   pub t : ℕ
-  pub so-far : Search d x p target dist rank via t 0
-  pub least : (k : ℕ) → el rank k ≡ 0 → away dist target ≤ away dist k
+  pub so-far : Search d x p target dist turn via t 0
+  pub least : (k : ℕ) → el turn k ≡ 0 → away dist target ≤ away dist k
   pub near : away dist target < far

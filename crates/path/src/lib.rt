@@ -3,7 +3,8 @@ ghost use mathlib.Core.Path.{_≡_};
 ghost use Prim.Native.Nat.{_+_, _<_};
 ghost use lib.ListN.{length};
 ghost use Rattle.day.specs.Day.{day, ofPeriod};
-ghost use Rattle.path.specs.Path.{landing, scope, el, away, CanList, Filled, Removed, CanNear, NearestIn, CanLevel, Levelled, NextLevel, Nearer, CanOffer, Offers, CanExpand, Expanded, CanSearch, Searched};
+ghost use Rattle.assignment.specs.Rows.{el};
+ghost use Rattle.path.specs.Path.{landing, scope, away, CanList, Filled, Removed, CanNear, NearestIn, CanLevel, Levelled, NextLevel, Nearer, CanOffer, Offers, CanExpand, Expanded, CanSearch, Searched};
 use day::after_of;
 use day::cost_of;
 use day::due_of;
@@ -251,13 +252,13 @@ pub fn find_path(
     list: &mut [usize],
     queue: &mut [usize],
     dist: &mut [usize],
-    rank: &mut [usize],
+    turn: &mut [usize],
     via: &mut [usize],
     n: usize,
     target: usize,
 )
-    requires { ⌜ CanSearch (day (now capacities) (now flights)) (now places) (now holds) (now first_in) (now next_in) (now prices) (now list) (now queue) (now dist) (now rank) (now via) n target ⌝ }
-    ensures { λ _. ⌜ Searched (scope (day (now (capacities .entry)) (now (flights .entry))) (now (places .entry)) n target) (landing (day (now (capacities .entry)) (now (flights .entry))) (now (places .entry)) (now (holds .entry))) (ofPeriod (now (prices .entry))) target (now (dist .exit)) (now (rank .exit)) (now (via .exit)) ⌝ }
+    requires { ⌜ CanSearch (day (now capacities) (now flights)) (now places) (now holds) (now first_in) (now next_in) (now prices) (now list) (now queue) (now dist) (now turn) (now via) n target ⌝ }
+    ensures { λ _. ⌜ Searched (scope (day (now (capacities .entry)) (now (flights .entry))) (now (places .entry)) n target) (landing (day (now (capacities .entry)) (now (flights .entry))) (now (places .entry)) (now (holds .entry))) (ofPeriod (now (prices .entry))) target (now (dist .exit)) (now (turn .exit)) (now (via .exit)) ⌝ }
 {
     let i = wide(places[n]);
     let first = due_of(flights, i);
@@ -281,7 +282,7 @@ pub fn find_path(
     while t < all - left {
         let k = queue[t];
         t += 1;
-        rank[k] = t;
+        turn[k] = t;
         expand(
             capacities,
             flights,

@@ -8,12 +8,11 @@ use native.Mathlib.Omega.{arith}
 use lib.Dec.{T, leb, ltb, eqb, ltb→lt, lt→ltb, leb→le, le→leb, eqb→eq, eqb-refl, leb·suc-suc, not-T, T-not}
 use borrow.Author.Tests.{eq-eqb, ne-eqb}
 use Rattle.assignment.specs.Sum.{gate, sum}
-use Rattle.assignment.proofs.Tests.{gate-on, gate-off, and-T, T-and, test, lt?, eq?}
+use Rattle.assignment.proofs.Tests.{gate-on, gate-off, and-T, T-and, test, lt?, eq?, is-true as on, is-false as off, or-T, T-or-l, T-or-r}
 use Rattle.assignment.proofs.Sums.{sum-zero, sum-set, sum-ext, sum-le}
 use Rattle.day.specs.Day.{Day, N, due, rate}
-use Rattle.quick_plan.specs.Quick.{less, ahead, rank, highest}
+use Rattle.quick_plan.specs.Quick.{less, ahead, goingBefore, highest}
 use Rattle.quick_plan.specs.Loop.{pick, bestTo}
-use Rattle.quick_plan.proofs.Row.{on, off, or-T, T-or-l, T-or-r}
 
 -- ---- the order
 
@@ -87,9 +86,9 @@ pub record Best (d : Day) (n : ℕ) (e : ℕ → Bool) (b : ℕ) : Type 0 where
   pub leads : (k : ℕ) → k < n → T (e k) → k ≢ b → T (ahead d b k)
 
 module _ (d : Day) (e : ℕ → Bool) (b : ℕ) (best : Best d (N d) e b) where
-  rank-best : rank d e b ≡ 0
-  unfolding rank
-  rank-best = sum-zero (N d) (λ k. gate (e k && ahead d k b) 1) (λ k l. gate-off (e k && ahead d k b) 1 (not-T (e k && ahead d k b) (λ t. none k l (and-T (e k) (ahead d k b) t))))
+  before-best : goingBefore d e b ≡ 0
+  unfolding goingBefore
+  before-best = sum-zero (N d) (λ k. gate (e k && ahead d k b) 1) (λ k l. gate-off (e k && ahead d k b) 1 (not-T (e k && ahead d k b) (λ t. none k l (and-T (e k) (ahead d k b) t))))
     where
       none : (k : ℕ) → k < N d → T (e k) × T (ahead d k b) → ⊥
       none k l t = elim (eq? k b) [
@@ -97,9 +96,9 @@ module _ (d : Day) (e : ℕ → Bool) (b : ℕ) (best : Best d (N d) e b) where
         | inr ne ↦ ahead-asym d k b (t .1) (best .leads k l (t .0) ne)
       ]
 
-  rank-other : (i : ℕ) → i < N d → T (e i) → i ≢ b → rank d e i ≡ suc (rank d (without e b) i)
-  unfolding rank
-  rank-other i l t ne =
+  before-other : (i : ℕ) → i < N d → T (e i) → i ≢ b → goingBefore d e i ≡ suc (goingBefore d (without e b) i)
+  unfolding goingBefore
+  before-other i l t ne =
       omega (
         arith,
         sum-set (N d) b (λ k. gate (without e b k && ahead d k i) 1) (λ k. gate (e k && ahead d k i) 1) (best .below) other,
@@ -122,15 +121,15 @@ module _ (d : Day) (e : ℕ → Bool) (b : ℕ) (best : Best d (N d) e b) where
   pub first-step : (m i : ℕ) → i < N d → highest d (suc m) e i ≡ eqb i b || highest d m (without e b) i
   unfolding highest
   first-step m i l = elim (eq? i b) [
-    | inl s ↦ rw (s, eq-eqb b b refl, on (e b) (best .is-in), rank-best, leb·suc-suc 0 m, le-leb0 m)
+    | inl s ↦ rw (s, eq-eqb b b refl, on (e b) (best .is-in), before-best, leb·suc-suc 0 m, le-leb0 m)
     | inr ne ↦ rw (ne-eqb i b ne) (other ne (e i) refl)
   ]
     where
       le-leb0 : (k : ℕ) → leb 0 k ≡ true
       le-leb0 k = on (leb 0 k) (le→leb 0 k zero-le)
 
-      other : i ≢ b → (t : Bool) → e i ≡ t → (t && ltb (rank d e i) (suc m)) ≡ (t && true && ltb (rank d (without e b) i) m)
-      other ne true q = rw (rank-other i l (rw q tt) ne, leb·suc-suc)
+      other : i ≢ b → (t : Bool) → e i ≡ t → (t && ltb (goingBefore d e i) (suc m)) ≡ (t && true && ltb (goingBefore d (without e b) i) m)
+      other ne true q = rw (before-other i l (rw q tt) ne, leb·suc-suc)
       other ne false q = refl
 
   pub rest-step : (m i : ℕ) → i < N d → rest d (suc m) e i ≡ rest d m (without e b) i
@@ -143,11 +142,11 @@ module _ (d : Day) (e : ℕ → Bool) (b : ℕ) (best : Best d (N d) e b) where
 
 pub first-in : (d : Day) (m : ℕ) (e : ℕ → Bool) (i : ℕ) → T (highest d m e i) → T (e i)
 unfolding highest
-first-in d m e i t = and-T (e i) (ltb (rank d e i) m) t .0
+first-in d m e i t = and-T (e i) (ltb (goingBefore d e i) m) t .0
 
 pub first-none : (d : Day) (e : ℕ → Bool) (i : ℕ) → highest d 0 e i ≡ false
 unfolding highest
-first-none d e i = off (e i && ltb (rank d e i) 0) (λ t. omega (arith, ltb→lt (rank d e i) 0 (and-T (e i) (ltb (rank d e i) 0) t .1)))
+first-none d e i = off (e i && ltb (goingBefore d e i) 0) (λ t. omega (arith, ltb→lt (goingBefore d e i) 0 (and-T (e i) (ltb (goingBefore d e i) 0) t .1)))
 
 -- ---- a best one is found
 

@@ -1,4 +1,3 @@
-pub mod Row
 pub mod Applies
 pub mod First
 pub mod Meaning

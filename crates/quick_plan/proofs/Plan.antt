@@ -9,14 +9,14 @@ use native.Mathlib.Nat.{zero-add, suc-add}
 use lib.ListN.{length}
 use lib.Dec.{T, leb, ltb, eqb, ltb→lt, lt→ltb, leb→le, le→leb, eqb→eq, eqb-refl, T-not}
 use Rattle.assignment.specs.Sum.{gate, count}
-use Rattle.assignment.proofs.Tests.{and-T, T-and, test, eq?}
+use Rattle.assignment.proofs.Rows.{row-at, row-length}
+use Rattle.assignment.proofs.Tests.{and-T, T-and, test, eq?, is-true as on, is-false as off, same-test as same, or-T, T-or-l, T-or-r}
 use Rattle.assignment.proofs.Sums.{sum-ext}
 use Rattle.day.specs.Day.{Day, P, N, due, capacity, latest, land, valid}
 use Rattle.day.specs.Plan.{Legal, firstJumpOrLimit}
 use Rattle.day.proofs.Costs.{latest-missing}
 use Rattle.day.proofs.Valid.{valid-means}
 use Rattle.quick_plan.specs.Quick.{eligible, operates, lands, quick}
-use Rattle.quick_plan.proofs.Row.{row-at, length-row, on, off, same, or-T, T-or-l, T-or-r}
 use Rattle.quick_plan.proofs.Applies.{no-limit}
 use Rattle.quick_plan.proofs.First.{first-in, landed}
 
@@ -166,7 +166,7 @@ module _ (d : Day) (v : valid d ≡ true) where
 
   pub quick-length : length (quick d) ≡ N d
   unfolding quick
-  quick-length = length-row (N d) (λ i. lands d (P d) i - due d i)
+  quick-length = row-length (N d) (λ i. lands d (P d) i - due d i)
 
   -- no flight is limited
   module _ (applies : firstJumpOrLimit d ≡ N d) where

@@ -11,18 +11,19 @@ use lib.Seq.{getD-set-same, getD-set-other, ext-getD}
 use lib.Dec.{T, leb, eqb, leb→le}
 use borrow.Author.Tests.{eq-eqb, ne-eqb}
 use Rattle.assignment.specs.Sum.{gate}
-use Rattle.assignment.proofs.Tests.{and-T, eq?}
+use Rattle.assignment.specs.Rows.{row}
+use Rattle.assignment.proofs.Rows.{row-at, row-length}
+use Rattle.assignment.proofs.Tests.{and-T, eq?, is-false as off}
 use Rattle.assignment.proofs.Sums.{sum-ext}
 use Rattle.day.specs.Day.{Day, P, N, due, capacity, land, valid}
 use Rattle.day.proofs.Valid.{valid-means}
-use Rattle.quick_plan.specs.Quick.{row, ahead, rank, highest, eligible, operates, lands, quick}
+use Rattle.quick_plan.specs.Quick.{ahead, goingBefore, highest, eligible, operates, lands, quick}
 use Rattle.quick_plan.specs.Loop.{waiting, top, put, landAll, rowTo}
-use Rattle.quick_plan.proofs.Row.{row-at, length-row, off}
 use Rattle.quick_plan.proofs.First.{without, Found, found, first-step, first-in, first-none}
 use Rattle.quick_plan.proofs.Plan.{eligible-is, lands-by}
 
 pub first-ext : (d : Day) (m : ℕ) (a b : ℕ → Bool) → ((k : ℕ) → k < N d → a k ≡ b k) → (i : ℕ) → i < N d → highest d m a i ≡ highest d m b i
-unfolding highest rank
+unfolding highest goingBefore
 first-ext d m a b h i l = rw (h i l, sum-ext (N d) (λ k. gate (a k && ahead d k i) 1) (λ k. gate (b k && ahead d k i) 1) (λ k o. ap (λ x. gate (x && ahead d k i) 1) (h k o)))
 
 first-absent : (d : Day) (m : ℕ) (e : ℕ → Bool) (i : ℕ) → (T (e i) → ⊥) → highest d m e i ≡ false
@@ -107,7 +108,7 @@ module _ (d : Day) (j : ℕ) (p : j ≤ P d) where
 module _ (d : Day) (v : valid d ≡ true) where
   pub rowTo-length : (j : ℕ) → j ≤ P d → length (rowTo d j) ≡ N d
   unfolding rowTo
-  rowTo-length zero p = length-row (N d) (λ i. P d + 1 - due d i)
+  rowTo-length zero p = row-length (N d) (λ i. P d + 1 - due d i)
   rowTo-length (suc j) p = landAll-length d (suc j) p (capacity d (suc j)) (rowTo d j) ∙ rowTo-length j (omega arith)
 
   standing : (j k : ℕ) → k < N d → getD (rowTo d j) k 0 ≡ lands d j k - due d k → land d (rowTo d j) k ≡ lands d j k
@@ -137,6 +138,6 @@ module _ (d : Day) (v : valid d ≡ true) where
   pub rowTo-quick : rowTo d (P d) ≡ quick d
   unfolding quick
   rowTo-quick = ext-getD 0 (rowTo d (P d)) (row (N d) (λ i. lands d (P d) i - due d i))
-      (rowTo-length (P d) (omega arith) ∙ sym (length-row (N d) (λ i. lands d (P d) i - due d i)))
+      (rowTo-length (P d) (omega arith) ∙ sym (row-length (N d) (λ i. lands d (P d) i - due d i)))
       (λ i l. let o : i < (N d) = omega (arith, rowTo-length (P d) (omega arith)) in
       rowTo-at (P d) (omega arith) i o ∙ sym (row-at (N d) (λ i. lands d (P d) i - due d i) i 0 o))

@@ -14,9 +14,10 @@ use borrow.Author.Tests.{eq-eqb, ne-eqb, le-leb, lt-leb, lt-ltb, le-ltb}
 use Rattle.day.specs.Day.{Day, P, N, width, due, rate, capacity, jump, limit, valid}
 use Rattle.day.specs.Plan.{jumpOrLimit, firstJumpOrLimit}
 use Rattle.day.proofs.Tests.{first-at, first-none}
-use Rattle.assignment.proofs.Tests.{eq?}
 use Rattle.day.proofs.Valid.{valid-means}
-use Rattle.quick_plan.specs.Quick.{row, ahead}
+use Rattle.assignment.specs.Rows.{row}
+use Rattle.assignment.proofs.Tests.{eq?}
+use Rattle.quick_plan.specs.Quick.{ahead}
 use Rattle.quick_plan.specs.Loop.{pick, bestTo, waiting, top, put, landAll, rowTo}
 use Rattle.quick_plan.proofs.Applies.{there}
 use Rattle.quick_plan.proofs.First.{Found, found}

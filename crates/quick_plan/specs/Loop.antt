@@ -7,7 +7,8 @@ use Prim.Native.Nat.{ℕ, zero, suc, _+_, _-_}
 use lib.ListN.{set}
 use lib.Dec.{leb, eqb}
 use Rattle.day.specs.Day.{Day, P, N, due, capacity, land}
-use Rattle.quick_plan.specs.Quick.{row, ahead}
+use Rattle.assignment.specs.Rows.{row}
+use Rattle.quick_plan.specs.Quick.{ahead}
 
 -- the better of flight k, if it is in the set, and b, which is `none` for none
 unfoldable pub pick : Day → (ℕ → Bool) → ℕ → ℕ → ℕ → ℕ

@@ -1,10 +1,11 @@
 -- The quick plan: the report's Fast Algorithm, section 2.2.2, period by period, with document 01's ties.
 -- Assumes nothing.
 use mathlib.Core.Bool.{Bool, false, cond, not, _&&_, _||_}
-use mathlib.Core.List.{List, [], _∷_, _++_}
+use mathlib.Core.List.{List}
 use Prim.Native.Nat.{ℕ, zero, suc, _+_, _-_}
 use lib.Dec.{ltb, eqb}
 use Rattle.assignment.specs.Sum.{gate, sum}
+use Rattle.assignment.specs.Rows.{row}
 use Rattle.day.specs.Day.{Day, P, N, due, rate, capacity}
 
 -- a is less than b, or they are equal and the next test decides
@@ -16,12 +17,12 @@ unfoldable pub ahead : Day → ℕ → ℕ → Bool
 ahead d k i = less (rate d i) (rate d k) (less (due d k) (due d i) (ltb k i))
 
 -- how many flights of a set go before flight i
-unfoldable pub rank : Day → (ℕ → Bool) → ℕ → ℕ
-rank d set i = sum (N d) (λ k. gate (set k && ahead d k i) 1)
+unfoldable pub goingBefore : Day → (ℕ → Bool) → ℕ → ℕ
+goingBefore d set i = sum (N d) (λ k. gate (set k && ahead d k i) 1)
 
 -- flight i is one of the m flights of a set that go first: "The capacity's number of highest rates land, or all if fewer."
 unfoldable pub highest : Day → ℕ → (ℕ → Bool) → ℕ → Bool
-highest d m set i = set i && ltb (rank d set i) m
+highest d m set i = set i && ltb (goingBefore d set i) m
 
 -- the report's E: "Eligible in j: due in j, or eligible in j−1 and not landed there." None is in period 0.
 unfoldable pub eligible : Day → ℕ → ℕ → Bool
@@ -36,11 +37,6 @@ operates d j i = highest d (capacity d j) (eligible d j) i
 unfoldable pub lands : Day → ℕ → ℕ → ℕ
 lands d zero i = P d + 1
 lands d (suc j) i = cond (operates d (suc j) i) (suc j) (lands d j i)
-
--- g 0, .. , g (n - 1) as a row
-unfoldable pub row {ℓ} : {A : Type ℓ} → ℕ → (ℕ → A) → List A
-row zero g = []
-row (suc n) g = row n g ++ (g n ∷ [])
 
 -- the quick plan's holds, in table order
 unfoldable pub quick : Day → List ℕ

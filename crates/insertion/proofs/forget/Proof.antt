@@ -6,10 +6,10 @@ use Rattle.insertion.proofs.forget.Statement.{statement}
 use Rattle.insertion.proofs.forget.Tie as tie
 
 abbrev Inv-loop : tie.InvT-loop
-Inv-loop dist₀ rank₀ first target k₀ dist rank k = Forgetting dist₀ dist rank₀ rank first target k
+Inv-loop dist₀ turn₀ first target k₀ dist turn k = Forgetting dist₀ dist turn₀ turn first target k
 
 abbrev μ-loop : tie.MeasureT-loop
-μ-loop dist₀ rank₀ first target k₀ dist rank k = (target + 1) - k
+μ-loop dist₀ turn₀ first target k₀ dist turn k = (target + 1) - k
 
 loop-holds : tie.Need-loop-holds Inv-loop μ-loop
 loop-holds c = forgetting-start (c .pre)
@@ -20,11 +20,11 @@ mul-dist c = omega (arith, forgetting-room (c .before .loop .inv) (c .loop-test 
 slice-write-dist : tie.Need-slice-write-dist Inv-loop μ-loop
 slice-write-dist c = forgetting-room (c .before .loop .inv) (c .loop-test .taken) .0
 
-mul-rank : tie.Need-mul-rank Inv-loop μ-loop
-mul-rank c = omega (arith, forgetting-room (c .before .loop .inv) (c .loop-test .taken))
+mul-turn : tie.Need-mul-turn Inv-loop μ-loop
+mul-turn c = omega (arith, forgetting-room (c .before .loop .inv) (c .loop-test .taken))
 
-slice-write-rank : tie.Need-slice-write-rank Inv-loop μ-loop
-slice-write-rank c = forgetting-room (c .before .loop .inv) (c .loop-test .taken) .1
+slice-write-turn : tie.Need-slice-write-turn Inv-loop μ-loop
+slice-write-turn c = forgetting-room (c .before .loop .inv) (c .loop-test .taken) .1
 
 add-k : tie.Need-add-k Inv-loop μ-loop
 add-k c = omega (arith, forgetting-room (c .before .loop .inv) (c .loop-test .taken))
@@ -53,8 +53,8 @@ forget-spec =
     loop-holds
     mul-dist
     slice-write-dist
-    mul-rank
-    slice-write-rank
+    mul-turn
+    slice-write-turn
     add-k
     loop-less
     loop-again

@@ -10,10 +10,10 @@ use Rattle.insertion.proofs.insert_all.Statement.{statement}
 use Rattle.insertion.proofs.insert_all.Tie as tie
 
 abbrev Inv-loop : tie.InvT-loop
-Inv-loop capacities flights holds₀ prices₀ places₀ loads₀ first-in₀ next-in₀ list₀ queue₀ dist₀ rank₀ via₀ total₀ n₀ holds prices places loads first-in next-in list queue dist rank via total n = Building (day capacities flights) places holds prices loads first-in next-in list queue dist rank via total n × (length holds ≡ length holds₀) × (length prices ≡ length prices₀)
+Inv-loop capacities flights holds₀ prices₀ places₀ loads₀ first-in₀ next-in₀ list₀ queue₀ dist₀ turn₀ via₀ total₀ n₀ holds prices places loads first-in next-in list queue dist turn via total n = Building (day capacities flights) places holds prices loads first-in next-in list queue dist turn via total n × (length holds ≡ length holds₀) × (length prices ≡ length prices₀)
 
 abbrev μ-loop : tie.MeasureT-loop
-μ-loop capacities flights holds₀ prices₀ places₀ loads₀ first-in₀ next-in₀ list₀ queue₀ dist₀ rank₀ via₀ total₀ n₀ holds prices places loads first-in next-in list queue dist rank via total n = length holds - n
+μ-loop capacities flights holds₀ prices₀ places₀ loads₀ first-in₀ next-in₀ list₀ queue₀ dist₀ turn₀ via₀ total₀ n₀ holds prices places loads first-in next-in list queue dist turn via total n = length holds - n
 
 slice-aggregate-order-flights : tie.Need-slice-aggregate-order-flights Inv-loop μ-loop
 slice-aggregate-order-flights c = search needs
@@ -49,7 +49,7 @@ slice-aggregate-insert-7 : tie.Need-slice-aggregate-insert-7 Inv-loop μ-loop
 slice-aggregate-insert-7 c = sym (c .before .before .before .before .before .before .before .before .before .before .loop .inv .0 .kept .rows .dists)
 
 slice-aggregate-insert-8 : tie.Need-slice-aggregate-insert-8 Inv-loop μ-loop
-slice-aggregate-insert-8 c = sym (c .before .before .before .before .before .before .before .before .before .before .before .loop .inv .0 .kept .rows .ranks)
+slice-aggregate-insert-8 c = sym (c .before .before .before .before .before .before .before .before .before .before .before .loop .inv .0 .kept .rows .turns)
 
 slice-aggregate-insert-9 : tie.Need-slice-aggregate-insert-9 Inv-loop μ-loop
 slice-aggregate-insert-9 c = sym (c .before .before .before .before .before .before .before .before .before .before .before .before .loop .inv .0 .kept .rows .vias)

@@ -1,4 +1,4 @@
--- Flights that land in periods of lower rank have not moved yet; the ranks fall. Assumes nothing.
+-- Flights that land in periods of lower turn have not moved yet; the turns fall. Assumes nothing.
 use native.Mathlib.Omega.{arith}
 use mathlib.Core.Path.{_∙_}
 use Prim.Native.Nat.{_+_, _-_}
@@ -9,10 +9,10 @@ use Rattle.insertion.proofs.walk.Statement.{statement}
 use Rattle.insertion.proofs.walk.Tie as tie
 
 abbrev Inv-loop : tie.InvT-loop
-Inv-loop capacities flights places₀ holds₀ rank via n target at₀ place₀ from₀ places holds at place from = Walking (day capacities flights) places₀ places holds₀ holds rank via n target at place from
+Inv-loop capacities flights places₀ holds₀ turn via n target at₀ place₀ from₀ places holds at place from = Walking (day capacities flights) places₀ places holds₀ holds turn via n target at place from
 
 abbrev μ-loop : tie.MeasureT-loop
-μ-loop capacities flights places₀ holds₀ rank via n target at₀ place₀ from₀ places holds at place from = getD rank at 0
+μ-loop capacities flights places₀ holds₀ turn via n target at₀ place₀ from₀ places holds at place from = getD turn at 0
 
 mul-from : tie.Need-mul-from Inv-loop μ-loop
 mul-from c = omega (arith, c .before .before .before .before .before .before .pre .within)

@@ -1,9 +1,8 @@
 -- The refusals in the order of the definition.
 -- Assumes nothing.
-use Rattle.legality.proofs.Laws.{check-bad-day, check-bad-length, check-not-legal, check-legal}
+use Rattle.legality.proofs.Laws.{check-bad-day, check-bad-length, check-not-legal, check-legal, can-sum}
 use mathlib.Core.Path.{sym, _∙_}
 use borrow.Author.Tests.{not-true, not-false}
-use Rattle.day.specs.Day.{N}
 use borrow.Author.Needs.{needs}
 use Rattle.legality.proofs.check_plan.Statement.{statement}
 use Rattle.legality.proofs.check_plan.Tie as tie
@@ -18,23 +17,18 @@ flight-count-requires : tie.Need-flight-count-requires
 flight-count-requires c κs = search needs
 
 returns-2 : tie.Need-returns-2
-unfolding N
 returns-2 c = check-bad-length _ _ (sym (c .before .before .before .is-valid .ensures) ∙ not-false _ (c .before .before .if1 .left)) (c .before .flight-count .ensures) (c .if2 .taken)
 
 first-break-requires : tie.Need-first-break-requires
-unfolding N
 first-break-requires c κs = ((sym (c .before .before .before .is-valid .ensures) ∙ not-false _ (c .before .before .if1 .left)), c .if2 .left ∙ c .before .flight-count .ensures)
 
 returns-3 : tie.Need-returns-3
-unfolding N
 returns-3 c = check-not-legal _ _ (sym (c .before .before .before .before .before .is-valid .ensures) ∙ not-false _ (c .before .before .before .before .if1 .left)) (c .before .before .before .flight-count .ensures) (c .before .before .if2 .left) (c .before .first-break .ensures) (c .if3 .taken)
 
 total-of-requires : tie.Need-total-of-requires
-unfolding N
-total-of-requires c κs = ((sym (c .before .before .before .before .before .is-valid .ensures) ∙ not-false _ (c .before .before .before .before .if1 .left)), c .before .before .if2 .left ∙ c .before .before .before .flight-count .ensures)
+total-of-requires c κs = can-sum _ (sym (c .before .before .before .before .before .is-valid .ensures) ∙ not-false _ (c .before .before .before .before .if1 .left)) (c .before .before .if2 .left ∙ c .before .before .before .flight-count .ensures)
 
 returns-4 : tie.Need-returns-4
-unfolding N
 returns-4 c = check-legal _ _ (sym (c .before .before .before .before .before .before .is-valid .ensures) ∙ not-false _ (c .before .before .before .before .before .if1 .left)) (c .before .before .before .before .flight-count .ensures) (c .before .before .before .if2 .left) (c .before .before .first-break .ensures) (c .before .if3 .left) (c .total-of .ensures)
 
 pub check-plan-spec : {M : Type 1} → statement M

@@ -13,12 +13,15 @@ returns : tie.Need-returns
 unfolding tooLong
 returns c = rw (lt-ltb _ _ (c .if1 .taken))
 
+flight-at-requires : tie.Need-flight-at-requires
+flight-at-requires c κs = search needs
+
 latest-of-requires : tie.Need-latest-of-requires
 latest-of-requires c κs = search needs
 
 returns-2 : tie.Need-returns-2
 unfolding tooLong
-returns-2 c = rw (c .latest-of .ensures, le-ltb _ _ (c .before .if1 .left))
+returns-2 c = rw (c .latest-of .ensures, c .before .flight-at .ensures, le-ltb _ _ (c .before .before .if1 .left))
 
 pub is-too-long-spec : {M : Type 1} → statement M
-is-too-long-spec = tie.close (tie.spec add-if1 returns latest-of-requires returns-2)
+is-too-long-spec = tie.close (tie.spec add-if1 returns flight-at-requires latest-of-requires returns-2)

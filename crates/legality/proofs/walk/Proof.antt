@@ -8,7 +8,7 @@ use Prim.Native.Nat.{_-_}
 use lib.ListN.{length}
 use Rattle.day.specs.Day.{day}
 use Rattle.legality.specs.Loop.{Walked}
-use Rattle.legality.proofs.Laws.{walk-place, walk-long, walk-in, walk-fits, walk-over, walk-next, walk-end}
+use Rattle.legality.proofs.Laws.{not-long, walk-place, walk-long, walk-in, walk-fits, walk-over, walk-next, walk-end}
 use Rattle.legality.proofs.walk.Statement.{statement}
 use Rattle.legality.proofs.walk.Tie as tie
 
@@ -43,7 +43,14 @@ add-load : tie.Need-add-load Inv-loop μ-loop
 add-load c = omega (arith, walk-fits (c .before .before .before .before .before .loop .inv) (c .before .before .before .before .loop-test .taken) (c .before .before .before .land-of .ensures .0) (sym (c .before .before .is-too-long .ensures) ∙ c .before .if1 .left))
 
 is-over-requires : tie.Need-is-over-requires Inv-loop μ-loop
-is-over-requires c κs = search needs
+is-over-requires c κs =
+    let at-loop = c .before .before .before .before .before in
+    let lands = c .before .before .before in
+    let short = sym (c .before .before .is-too-long .ensures) ∙ c .before .if1 .left in (
+      valid-means (at-loop .loop .inv .good) .periods-to,
+      not-long _ _ _ short .0,
+      omega (arith, walk-fits (at-loop .loop .inv) (c .before .before .before .before .loop-test .taken) (lands .land-of .ensures .0) short),
+    )
 
 same-length-2 : tie.Need-same-length-2 Inv-loop μ-loop
 same-length-2 c = search needs

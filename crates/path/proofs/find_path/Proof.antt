@@ -10,10 +10,10 @@ use Rattle.path.proofs.find_path.Statement.{statement}
 use Rattle.path.proofs.find_path.Tie as tie
 
 abbrev Inv-loop : tie.InvT-loop
-Inv-loop capacities flights places holds first-in next-in prices list₀ queue₀ dist₀ rank₀ via₀ n target i first all left₀ t₀ list queue dist rank via left t = Finding (day capacities flights) places holds first-in next-in prices list queue dist rank via n first all left target t
+Inv-loop capacities flights places holds first-in next-in prices list₀ queue₀ dist₀ turn₀ via₀ n target i first all left₀ t₀ list queue dist turn via left t = Finding (day capacities flights) places holds first-in next-in prices list queue dist turn via n first all left target t
 
 abbrev μ-loop : tie.MeasureT-loop
-μ-loop capacities flights places holds first-in next-in prices list₀ queue₀ dist₀ rank₀ via₀ n target i first all left₀ t₀ list queue dist rank via left t = all - t
+μ-loop capacities flights places holds first-in next-in prices list₀ queue₀ dist₀ turn₀ via₀ n target i first all left₀ t₀ list queue dist turn via left t = all - t
 
 mul-wide : tie.Need-mul-wide Inv-loop μ-loop
 mul-wide c = omega (arith, find-room (c .before .before .before .before .before .before .before .before .before .before .before .before .pre))
@@ -51,11 +51,11 @@ slice-read-k c = finding-in (c .before .before .loop .inv) (c .before .loop-test
 add-t : tie.Need-add-t Inv-loop μ-loop
 add-t c = omega (arith, finding-in (c .before .before .loop .inv) (c .before .loop-test .taken) refl)
 
-mul-rank : tie.Need-mul-rank Inv-loop μ-loop
-mul-rank c = omega (arith, finding-in (c .before .before .loop .inv) (c .before .loop-test .taken) refl)
+mul-turn : tie.Need-mul-turn Inv-loop μ-loop
+mul-turn c = omega (arith, finding-in (c .before .before .loop .inv) (c .before .loop-test .taken) refl)
 
-slice-write-rank : tie.Need-slice-write-rank Inv-loop μ-loop
-slice-write-rank c = finding-in (c .before .before .loop .inv) (c .before .loop-test .taken) refl .2
+slice-write-turn : tie.Need-slice-write-turn Inv-loop μ-loop
+slice-write-turn c = finding-in (c .before .before .loop .inv) (c .before .loop-test .taken) refl .2
 
 expand-requires : tie.Need-expand-requires Inv-loop μ-loop
 expand-requires c κs = finding-expand (c .before .before .before .before .before .loop .inv) (c .before .before .before .before .loop-test .taken) refl
@@ -82,7 +82,7 @@ same-length-3 : tie.Need-same-length-3 Inv-loop μ-loop
 same-length-3 c = c .before .before .before .before .before .before .before .expand .kept .1 .1 .1 .1 .1 .1 .1 .1 .0 ∙ c .before .before .before .before .before .before .before .before .before .before .before .before .before .loop .inv .so-far .rows .dists ∙ sym (c .before .before .before .before .before .before .before .before .before .before .before .before .before .before .before .before .before .before .before .before .before .before .before .before .before .before .before .before .before .before .before .before .before .before .before .before .before .before .before .before .before .before .before .before .before .before .before .before .before .pre .rows .dists)
 
 same-length-4 : tie.Need-same-length-4 Inv-loop μ-loop
-same-length-4 c = length-set (c .before .before .before .before .before .before .before .before .before .before .before .before .before .loop .rank) (getD (c .before .before .before .before .before .before .before .before .before .before .before .before .before .loop .queue) (c .before .before .before .before .before .before .before .before .before .before .before .before .before .loop .t) 0) (c .before .before .before .before .before .before .before .before .before .before .before .before .before .loop .t + 1) ∙ c .before .before .before .before .before .before .before .before .before .before .before .before .before .loop .inv .so-far .rows .ranks ∙ sym (c .before .before .before .before .before .before .before .before .before .before .before .before .before .before .before .before .before .before .before .before .before .before .before .before .before .before .before .before .before .before .before .before .before .before .before .before .before .before .before .before .before .before .before .before .before .before .before .before .before .pre .rows .ranks)
+same-length-4 c = length-set (c .before .before .before .before .before .before .before .before .before .before .before .before .before .loop .turn) (getD (c .before .before .before .before .before .before .before .before .before .before .before .before .before .loop .queue) (c .before .before .before .before .before .before .before .before .before .before .before .before .before .loop .t) 0) (c .before .before .before .before .before .before .before .before .before .before .before .before .before .loop .t + 1) ∙ c .before .before .before .before .before .before .before .before .before .before .before .before .before .loop .inv .so-far .rows .turns ∙ sym (c .before .before .before .before .before .before .before .before .before .before .before .before .before .before .before .before .before .before .before .before .before .before .before .before .before .before .before .before .before .before .before .before .before .before .before .before .before .before .before .before .before .before .before .before .before .before .before .before .before .pre .rows .turns)
 
 same-length-5 : tie.Need-same-length-5 Inv-loop μ-loop
 same-length-5 c = c .before .before .before .before .before .before .before .expand .kept .1 .1 .1 .1 .1 .1 .1 .1 .1 .0 ∙ c .before .before .before .before .before .before .before .before .before .before .before .before .before .loop .inv .so-far .rows .vias ∙ sym (c .before .before .before .before .before .before .before .before .before .before .before .before .before .before .before .before .before .before .before .before .before .before .before .before .before .before .before .before .before .before .before .before .before .before .before .before .before .before .before .before .before .before .before .before .before .before .before .before .before .pre .rows .vias)
@@ -118,7 +118,7 @@ same-length-8 : tie.Need-same-length-8 Inv-loop μ-loop
 same-length-8 c = c .before .loop .inv .so-far .rows .dists ∙ sym (c .before .before .before .before .before .before .before .before .before .before .before .before .before .before .before .before .before .before .before .before .before .before .before .before .before .before .before .before .before .before .before .before .before .before .before .before .before .pre .rows .dists)
 
 same-length-9 : tie.Need-same-length-9 Inv-loop μ-loop
-same-length-9 c = c .before .loop .inv .so-far .rows .ranks ∙ sym (c .before .before .before .before .before .before .before .before .before .before .before .before .before .before .before .before .before .before .before .before .before .before .before .before .before .before .before .before .before .before .before .before .before .before .before .before .before .pre .rows .ranks)
+same-length-9 c = c .before .loop .inv .so-far .rows .turns ∙ sym (c .before .before .before .before .before .before .before .before .before .before .before .before .before .before .before .before .before .before .before .before .before .before .before .before .before .before .before .before .before .before .before .before .before .before .before .before .before .pre .rows .turns)
 
 same-length-10 : tie.Need-same-length-10 Inv-loop μ-loop
 same-length-10 c = c .before .loop .inv .so-far .rows .vias ∙ sym (c .before .before .before .before .before .before .before .before .before .before .before .before .before .before .before .before .before .before .before .before .before .before .before .before .before .before .before .before .before .before .before .before .before .before .before .before .before .pre .rows .vias)
@@ -144,8 +144,8 @@ find-path-spec =
     mul-k
     slice-read-k
     add-t
-    mul-rank
-    slice-write-rank
+    mul-turn
+    slice-write-turn
     expand-requires
     mul-level
     slice-read-level

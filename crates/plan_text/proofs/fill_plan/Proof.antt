@@ -1,6 +1,5 @@
 -- Four texts, one behind the other.
 use Rattle.plan_text.proofs.Placing.{length-plan-names, length-total-name, length-plan, plan-put}
-use Rattle.day.specs.Day.{day}
 use Prim.Native.Nat.{_-_}
 use native.Mathlib.Omega.{arith}
 use borrow.Author.Needs.{needs}
@@ -9,41 +8,41 @@ use Rattle.plan_text.proofs.fill_plan.Tie as tie
 
 put-plan-names-requires : tie.Need-put-plan-names-requires
 put-plan-names-requires c κs =
-    let a = c .before .before .before .before .before .args in
-    let d = day (a .capacities .now) (a .flights .now) in
+    let a = c .before .before .before .before .args in
+    let f = a .flights .now in
     let h = a .holds .now in
-    omega (arith, length-plan d h (c .before .before .before .before .before .pre .0) (c .before .before .before .before .before .pre .1), length-plan-names, length-total-name, c .before .before .before .before .before .pre .3)
+    omega (arith, length-plan f h (c .before .before .before .before .pre .0) (c .before .before .before .before .pre .1), length-plan-names, length-total-name, c .before .before .before .before .pre .3)
 
 put-plan-lines-requires : tie.Need-put-plan-lines-requires
 put-plan-lines-requires c κs =
-    let a = c .before .before .before .before .before .before .before .before .before .args in
-    let d = day (a .capacities .now) (a .flights .now) in
+    let a = c .before .before .before .before .before .before .before .before .args in
+    let f = a .flights .now in
     let h = a .holds .now in
-    (c .before .before .before .before .before .before .before .before .before .pre .2, omega (arith, length-plan d h (c .before .before .before .before .before .before .before .before .before .pre .0) (c .before .before .before .before .before .before .before .before .before .pre .1), length-plan-names, length-total-name, c .before .before .before .before .before .before .before .before .before .pre .3, c .before .before .before .put-plan-names .ensures .place, c .before .before .before .put-plan-names .kept))
+    (c .before .before .before .before .before .before .before .before .pre .2, omega (arith, length-plan f h (c .before .before .before .before .before .before .before .before .pre .0) (c .before .before .before .before .before .before .before .before .pre .1), length-plan-names, length-total-name, c .before .before .before .before .before .before .before .before .pre .3, c .before .before .before .put-plan-names .ensures .place, c .before .before .before .put-plan-names .kept))
 
 put-total-name-requires : tie.Need-put-total-name-requires
 put-total-name-requires c κs =
-    let a = c .before .before .before .before .before .before .before .before .before .before .before .before .before .args in
-    let d = day (a .capacities .now) (a .flights .now) in
+    let a = c .before .before .before .before .before .before .before .before .before .before .before .before .args in
+    let f = a .flights .now in
     let h = a .holds .now in
-    omega (arith, length-plan d h (c .before .before .before .before .before .before .before .before .before .before .before .before .before .pre .0) (c .before .before .before .before .before .before .before .before .before .before .before .before .before .pre .1), length-plan-names, length-total-name, c .before .before .before .before .before .before .before .before .before .before .before .before .before .pre .3, c .before .before .before .before .before .before .before .put-plan-names .ensures .place, c .before .before .before .before .before .before .before .put-plan-names .kept, c .before .before .before .put-plan-lines .ensures .place, c .before .before .before .put-plan-lines .kept)
+    omega (arith, length-plan f h (c .before .before .before .before .before .before .before .before .before .before .before .before .pre .0) (c .before .before .before .before .before .before .before .before .before .before .before .before .pre .1), length-plan-names, length-total-name, c .before .before .before .before .before .before .before .before .before .before .before .before .pre .3, c .before .before .before .before .before .before .before .put-plan-names .ensures .place, c .before .before .before .before .before .before .before .put-plan-names .kept, c .before .before .before .put-plan-lines .ensures .place, c .before .before .before .put-plan-lines .kept)
 
 put-total-requires : tie.Need-put-total-requires
 put-total-requires c κs =
-    let a = c .before .before .before .before .before .before .before .before .before .before .before .before .before .before .before .before .before .args in
-    let d = day (a .capacities .now) (a .flights .now) in
+    let a = c .before .before .before .before .before .before .before .before .before .before .before .before .before .before .before .before .args in
+    let f = a .flights .now in
     let h = a .holds .now in
-    omega (arith, length-plan d h (c .before .before .before .before .before .before .before .before .before .before .before .before .before .before .before .before .before .pre .0) (c .before .before .before .before .before .before .before .before .before .before .before .before .before .before .before .before .before .pre .1), length-plan-names, length-total-name, c .before .before .before .before .before .before .before .before .before .before .before .before .before .before .before .before .before .pre .3, c .before .before .before .before .before .before .before .before .before .before .before .put-plan-names .ensures .place, c .before .before .before .before .before .before .before .before .before .before .before .put-plan-names .kept, c .before .before .before .before .before .before .before .put-plan-lines .ensures .place, c .before .before .before .before .before .before .before .put-plan-lines .kept, c .before .before .before .put-total-name .ensures .place, c .before .before .before .put-total-name .kept)
+    omega (arith, length-plan f h (c .before .before .before .before .before .before .before .before .before .before .before .before .before .before .before .before .pre .0) (c .before .before .before .before .before .before .before .before .before .before .before .before .before .before .before .before .pre .1), length-plan-names, length-total-name, c .before .before .before .before .before .before .before .before .before .before .before .before .before .before .before .before .pre .3, c .before .before .before .before .before .before .before .before .before .before .before .put-plan-names .ensures .place, c .before .before .before .before .before .before .before .before .before .before .before .put-plan-names .kept, c .before .before .before .before .before .before .before .put-plan-lines .ensures .place, c .before .before .before .before .before .before .before .put-plan-lines .kept, c .before .before .before .put-total-name .ensures .place, c .before .before .before .put-total-name .kept)
 
 same-length : tie.Need-same-length
 same-length c = search needs
 
 returns : tie.Need-returns
 returns c =
-    let a = c .before .before .before .before .before .before .before .before .before .before .before .before .before .before .before .before .before .before .before .before .args in
-    let d = day (a .capacities .now) (a .flights .now) in
+    let a = c .before .before .before .before .before .before .before .before .before .before .before .before .before .before .before .before .before .before .before .args in
+    let f = a .flights .now in
     let h = a .holds .now in
-    plan-put d h (c .before .before .before .before .before .before .before .before .before .before .before .before .before .before .before .before .before .before .before .before .pre .0) (c .before .before .before .before .before .before .before .before .before .before .before .before .before .before .before .before .before .before .before .before .pre .1) (c .before .before .before .before .before .before .before .before .before .before .before .before .before .before .before .before .before .before .before .before .pre .3) (c .before .before .before .before .before .before .before .before .before .before .before .before .before .before .put-plan-names .ensures) (c .before .before .before .before .before .before .before .before .before .before .put-plan-lines .ensures) (c .before .before .before .before .before .before .put-total-name .ensures) (c .before .before .put-total .ensures)
+    plan-put f h (c .before .before .before .before .before .before .before .before .before .before .before .before .before .before .before .before .before .before .before .pre .0) (c .before .before .before .before .before .before .before .before .before .before .before .before .before .before .before .before .before .before .before .pre .1) (c .before .before .before .before .before .before .before .before .before .before .before .before .before .before .before .before .before .before .before .pre .3) (c .before .before .before .before .before .before .before .before .before .before .before .before .before .before .put-plan-names .ensures) (c .before .before .before .before .before .before .before .before .before .before .put-plan-lines .ensures) (c .before .before .before .before .before .before .put-total-name .ensures) (c .before .before .put-total .ensures)
 
 pub fill-plan-spec : {M : Type 1} → statement M
 fill-plan-spec =

@@ -2,7 +2,6 @@
 use Rattle.text.proofs.Writing.{lent}
 use Rattle.plan_text.proofs.Placing.{line-is}
 use Rattle.text.specs.Digits.{line}
-use Rattle.day.specs.Day.{day, number, due, cost, hold, land}
 use Rattle.plan_text.specs.PlanText.{planLine}
 use Prim.Native.Nat.{_-_}
 use native.Mathlib.Omega.{arith}
@@ -10,6 +9,7 @@ use mathlib.Core.Path.{_≡_, ap, sym}
 use mathlib.Core.List.{[], _∷_}
 use lib.ListN.{length, length-take, length-drop}
 use borrow.Author.Needs.{needs}
+use Rattle.day.specs.Day.{column, flightAt, holdCost, hold, landOf}
 use Rattle.plan_text.proofs.put_plan_line.Statement.{statement}
 use Rattle.plan_text.proofs.put_plan_line.Tie as tie
 
@@ -33,36 +33,36 @@ slice-aggregate-put-line c = search needs
 
 put-line-requires : tie.Need-put-line-requires
 put-line-requires c κs =
-    let a = c .before .before .before .before .before .before .before .before .args in
-    let d = day (a .capacities .now) (a .flights .now) in
+    let a = c .before .before .before .before .before .before .before .args in
+    let f = a .flights .now in
     let h = a .holds .now in
-    let v : c .before .before .before .values-of .result ≡ number d (a .i) ∷ due d (a .i) ∷ land d h (a .i) ∷ hold h (a .i) ∷ [] = c .before .before .before .values-of .ensures in
-    let q : c .before .before .cost-at .result ≡ cost d (a .i) (hold h (a .i)) = c .before .before .cost-at .ensures in
-    let e : line (c .before .before .before .values-of .result) (c .before .before .cost-at .result) ≡ planLine d h (a .i) = rw (v, q) (sym (line-is d h (a .i))) in
-    rw e (simp (length-take, length-drop) (omega (arith, c .before .before .before .before .before .before .before .before .pre .2)))
+    let v : c .before .before .before .values-of .result ≡ column 0 f (a .i) ∷ column 1 f (a .i) ∷ landOf f h (a .i) ∷ hold h (a .i) ∷ [] = c .before .before .before .values-of .ensures in
+    let q : c .before .before .cost-at .result ≡ holdCost (flightAt f (a .i)) (hold h (a .i)) = c .before .before .cost-at .ensures in
+    let e : line (c .before .before .before .values-of .result) (c .before .before .cost-at .result) ≡ planLine f h (a .i) = rw (v, q) (sym (line-is f h (a .i))) in
+    rw e (simp (length-take, length-drop) (omega (arith, c .before .before .before .before .before .before .before .pre .2)))
 
 add-result : tie.Need-add-result
 add-result c =
-    let a = c .before .before .before .before .before .before .before .before .before .before .before .args in
-    let d = day (a .capacities .now) (a .flights .now) in
+    let a = c .before .before .before .before .before .before .before .before .before .before .args in
+    let f = a .flights .now in
     let h = a .holds .now in
-    let v : c .before .before .before .before .before .before .values-of .result ≡ number d (a .i) ∷ due d (a .i) ∷ land d h (a .i) ∷ hold h (a .i) ∷ [] = c .before .before .before .before .before .before .values-of .ensures in
-    let q : c .before .before .before .before .before .cost-at .result ≡ cost d (a .i) (hold h (a .i)) = c .before .before .before .before .before .cost-at .ensures in
-    let e : line (c .before .before .before .before .before .before .values-of .result) (c .before .before .before .before .before .cost-at .result) ≡ planLine d h (a .i) = rw (v, q) (sym (line-is d h (a .i))) in
-    omega (arith, c .before .before .put-line .ensures .place, ap length e, c .before .before .before .before .before .before .before .before .before .before .before .pre .2)
+    let v : c .before .before .before .before .before .before .values-of .result ≡ column 0 f (a .i) ∷ column 1 f (a .i) ∷ landOf f h (a .i) ∷ hold h (a .i) ∷ [] = c .before .before .before .before .before .before .values-of .ensures in
+    let q : c .before .before .before .before .before .cost-at .result ≡ holdCost (flightAt f (a .i)) (hold h (a .i)) = c .before .before .before .before .before .cost-at .ensures in
+    let e : line (c .before .before .before .before .before .before .values-of .result) (c .before .before .before .before .before .cost-at .result) ≡ planLine f h (a .i) = rw (v, q) (sym (line-is f h (a .i))) in
+    omega (arith, c .before .before .put-line .ensures .place, ap length e, c .before .before .before .before .before .before .before .before .before .before .pre .2)
 
 same-length : tie.Need-same-length
 same-length c = search needs
 
 returns : tie.Need-returns
 returns c =
-    let a = c .before .before .before .before .before .before .before .before .before .before .before .args in
-    let d = day (a .capacities .now) (a .flights .now) in
+    let a = c .before .before .before .before .before .before .before .before .before .before .args in
+    let f = a .flights .now in
     let h = a .holds .now in
-    let v : c .before .before .before .before .before .before .values-of .result ≡ number d (a .i) ∷ due d (a .i) ∷ land d h (a .i) ∷ hold h (a .i) ∷ [] = c .before .before .before .before .before .before .values-of .ensures in
-    let q : c .before .before .before .before .before .cost-at .result ≡ cost d (a .i) (hold h (a .i)) = c .before .before .before .before .before .cost-at .ensures in
-    let e : line (c .before .before .before .before .before .before .values-of .result) (c .before .before .before .before .before .cost-at .result) ≡ planLine d h (a .i) = rw (v, q) (sym (line-is d h (a .i))) in
-    lent (a .out .now) (planLine d h (a .i)) (a .at) _ _ (c .before .before .before .before .before .before .before .before .before .before .before .pre .2) (rw e at (c .before .before .put-line .ensures))
+    let v : c .before .before .before .before .before .before .values-of .result ≡ column 0 f (a .i) ∷ column 1 f (a .i) ∷ landOf f h (a .i) ∷ hold h (a .i) ∷ [] = c .before .before .before .before .before .before .values-of .ensures in
+    let q : c .before .before .before .before .before .cost-at .result ≡ holdCost (flightAt f (a .i)) (hold h (a .i)) = c .before .before .before .before .before .cost-at .ensures in
+    let e : line (c .before .before .before .before .before .before .values-of .result) (c .before .before .before .before .before .cost-at .result) ≡ planLine f h (a .i) = rw (v, q) (sym (line-is f h (a .i))) in
+    lent (a .out .now) (planLine f h (a .i)) (a .at) _ _ (c .before .before .before .before .before .before .before .before .before .before .pre .2) (rw e at (c .before .before .put-line .ensures))
 
 pub put-plan-line-spec : {M : Type 1} → statement M
 put-plan-line-spec =

@@ -1,6 +1,5 @@
 -- The text fits or not.
 use Rattle.text.proofs.Writing.{lent, not-fits, it-fits}
-use Rattle.day.specs.Day.{day}
 use Rattle.plan_text.specs.PlanText.{planText}
 use Prim.Native.Nat.{_≤_, _+_, _-_}
 use native.Mathlib.Omega.{arith}
@@ -15,21 +14,21 @@ plan-len-requires c κs = search needs
 
 returns : tie.Need-returns
 returns c =
-    let a = c .before .before .before .before .before .before .args in
-    let d = day (a .capacities .now) (a .flights .now) in
+    let a = c .before .before .before .before .before .args in
+    let f = a .flights .now in
     let h = a .holds .now in
-    rw (c .before .plan-len .ensures) (not-fits (a .buffer .now) (planText d h) (a .place) (omega (arith, c .if1 .taken)))
+    rw (c .before .plan-len .ensures) (not-fits (a .buffer .now) (planText f h) (a .place) (omega (arith, c .if1 .taken)))
 
 sub-if2 : tie.Need-sub-if2
 sub-if2 c = search needs
 
 returns-2 : tie.Need-returns-2
 returns-2 c =
-    let a = c .before .before .before .before .before .before .before .args in
-    let d = day (a .capacities .now) (a .flights .now) in
+    let a = c .before .before .before .before .before .before .args in
+    let f = a .flights .now in
     let h = a .holds .now in
-    let k : c .before .before .plan-len .result ≡ length (planText d h) = c .before .before .plan-len .ensures in
-    rw k (not-fits (a .buffer .now) (planText d h) (a .place) (omega (arith, k, c .before .if1 .left, c .if2 .taken)))
+    let k : c .before .before .plan-len .result ≡ length (planText f h) = c .before .before .plan-len .ensures in
+    rw k (not-fits (a .buffer .now) (planText f h) (a .place) (omega (arith, k, c .before .if1 .left, c .if2 .taken)))
 
 sub-fill-plan : tie.Need-sub-fill-plan
 sub-fill-plan c = search needs
@@ -48,12 +47,12 @@ same-length c = search needs
 
 returns-3 : tie.Need-returns-3
 returns-3 c =
-    let a = c .before .before .before .before .before .before .before .before .before .before .before .args in
-    let d = day (a .capacities .now) (a .flights .now) in
+    let a = c .before .before .before .before .before .before .before .before .before .before .args in
+    let f = a .flights .now in
     let h = a .holds .now in
-    let k : c .before .before .before .before .before .before .plan-len .result ≡ length (planText d h) = c .before .before .before .before .before .before .plan-len .ensures in
-    let g : a .place + length (planText d h) ≤ length (a .buffer .now) = omega (arith, k, c .before .before .before .before .if2 .left, c .before .before .before .before .before .if1 .left) in
-    rw k (it-fits (a .buffer .now) (planText d h) (a .place) g (lent (a .buffer .now) (planText d h) (a .place) _ _ g (c .before .before .fill-plan .ensures)))
+    let k : c .before .before .before .before .before .before .plan-len .result ≡ length (planText f h) = c .before .before .before .before .before .before .plan-len .ensures in
+    let g : a .place + length (planText f h) ≤ length (a .buffer .now) = omega (arith, k, c .before .before .before .before .if2 .left, c .before .before .before .before .before .if1 .left) in
+    rw k (it-fits (a .buffer .now) (planText f h) (a .place) g (lent (a .buffer .now) (planText f h) (a .place) _ _ g (c .before .before .fill-plan .ensures)))
 
 pub write-legal-spec : {M : Type 1} → statement M
 write-legal-spec =

@@ -1,0 +1,28 @@
+-- The laws of rows: made entry by entry, and with one entry stored.
+-- Assumes nothing.
+use mathlib.Core.Path.{_≡_, refl, _∙_}
+use mathlib.Core.Logic.{inl, inr}
+use mathlib.Core.List.{List, [], _∷_}
+use Prim.Native.Nat.{ℕ, zero, suc, _<_}
+use native.Mathlib.Omega.{arith}
+use lib.ListN.{length, getD, set, length-append, List·getD-append}
+use lib.Seq.{getD-at, getD-set-same, getD-set-other}
+use Rattle.assignment.specs.Rows.{el, row}
+use Rattle.assignment.specs.Moves.{Moved}
+use Rattle.assignment.proofs.Tests.{eq?}
+
+pub row-length {ℓ} : {A : Type ℓ} (n : ℕ) (g : ℕ → A) → length (row n g) ≡ n
+unfolding row
+row-length zero g = refl
+row-length (suc n) g = simp length-append (omega (arith, row-length n g))
+
+pub row-at {ℓ} : {A : Type ℓ} (n : ℕ) (g : ℕ → A) (i : ℕ) (d : A) → i < n → getD (row n g) i d ≡ g i
+unfolding row
+row-at zero g i d l = absurd (omega arith)
+row-at (suc n) g i d l = elim (eq? i n) [
+  | inl e ↦ rw e (getD-at (row n g) (g n) [] d n (row-length n g))
+  | inr o ↦ List·getD-append (row n g) (g n ∷ []) d i (omega (arith, row-length n g)) ∙ row-at n g i d (omega arith)
+]
+
+pub set-moved : (l : List ℕ) (i v : ℕ) → i < length l → Moved (el l) (el (set l i v)) i v
+set-moved l i v b = record { here = getD-set-same l i v 0 b; others = λ o e. getD-set-other l i o v 0 e }
