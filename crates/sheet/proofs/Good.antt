@@ -11,7 +11,8 @@ use borrow.Author.Tests.{le-leb, leb-true, eq-eqb, eqb-true, not-true}
 use Rattle.day.specs.declared.Flight.{Flight}
 use Rattle.day.specs.Day.{Day, day, P, N, mostPeriods, mostFlights, column, flightAt, flightCount, all, inside, flightFits, inRange, isNew, valid, width}
 use Rattle.day.specs.Flights.{firstFlights, flightsOf, rowOf}
-use Rattle.day.proofs.Tests.{all-at, all-from, and-true, true-and}
+use Rattle.assignment.proofs.Tests.{and-true, true-and}
+use Rattle.day.proofs.Tests.{all-at, all-from}
 use Rattle.day.proofs.Valid.{valid-means}
 use Rattle.day.proofs.Flights.{length-flights, rows-back}
 use Rattle.sheet.specs.Lines.{used}

@@ -21,7 +21,7 @@ use Rattle.text.proofs.Writing.{length-line}
 use Rattle.text.proofs.Fixed.{starts-is, starts-with}
 use Rattle.day.specs.declared.Flight.{Flight}
 use Rattle.day.specs.Day.{mostPeriods, mostFlights, flightFits}
-use Rattle.day.proofs.Tests.{and-true, true-and}
+use Rattle.assignment.proofs.Tests.{and-true, true-and}
 use Rattle.sheet.specs.declared.PeriodLine.{PeriodLine}
 use Rattle.sheet.specs.declared.PeriodLine.the-variants.{Period, NoPeriod}
 use Rattle.sheet.specs.declared.FlightLine.{FlightLine}
@@ -29,7 +29,7 @@ use Rattle.sheet.specs.declared.FlightLine.the-variants.{Row, NoRow}
 use Rattle.sheet.specs.Text.{periodNames, flightNames, limitText, periodText, beforeLimit, flightText, periodsText, flightsText, sheetText}
 use Rattle.sheet.specs.Lines.{mostDigits, periodLine, flightLine, used}
 use Rattle.sheet.specs.Sheet.{Reading, read, refused, onFlight, onPeriod, readFlights, named, readPeriods, readSheet}
-use Rattle.sheet.proofs.Lines.{short, limit-cases, limitFits, text-missing, text-number, period-read, flight-read, period-write, flight-write, fits-small, Small}
+use Rattle.sheet.proofs.Lines.{short, limit-cases, limitFits, text-missing, text-number, present, period-read, flight-read, period-write, flight-write, fits-small, Small}
 
 -- a day within the table's ranges, as lists
 
@@ -242,11 +242,11 @@ length-top = refl
 
 limit-short : (l : ℕ) → limitFits l ≡ true → length (limitText l) ≤ 8
 limit-short l h = elim (limit-cases l h) [
-  | inl k ↦ rw (text-number l k) (ended-short 10 l (omega arith))
-  | inr e ↦ rw (e, text-missing) (lit≤ tt)
+  | inl k ↦ rw (text-number l (present l k)) (ended-short 10 l (omega arith))
+  | inr e ↦ rw (text-missing l e) (lit≤ tt)
 ]
 
-flight-length : (f : Flight) → length (flightText f) ≡ length (separated (beforeLimit f)) + length (limitText (f .limit))
+pub flight-length : (f : Flight) → length (flightText f) ≡ length (separated (beforeLimit f)) + length (limitText (f .limit))
 unfolding flightText
 flight-length f = length-append (separated (beforeLimit f)) (limitText (f .limit))
 

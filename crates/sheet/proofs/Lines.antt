@@ -21,7 +21,7 @@ use Rattle.text.proofs.Reading.{Stands, join, parted, picked, at-place, there, 
 use Rattle.text.proofs.Lines.{AllShort, FieldsHere, LineHere, separated-read, separated-write, line-read, line-write, all-read, none-read, row-read, line-row}
 use Rattle.day.specs.declared.Flight.{Flight}
 use Rattle.day.specs.Day.{mostPeriods, missing, flightFits}
-use Rattle.day.proofs.Tests.{and-true}
+use Rattle.assignment.proofs.Tests.{and-true}
 use Rattle.day.proofs.Valid.{inside-means}
 use Rattle.sheet.specs.declared.PeriodLine.the-variants.{Period, NoPeriod}
 use Rattle.sheet.specs.declared.FlightLine.the-variants.{Row, NoRow}
@@ -41,13 +41,17 @@ limit-cases l = go (leb l 96) (eqb l 255) refl refl
     go false true p q e = inr (eqb-true l 255 q)
     go false false p q e = let z : _≡_ {A = ℕ} 0 1 = cc in absurd (omega arith)
 
-pub text-missing : limitText 255 ≡ 45 ∷ 10 ∷ []
+pub text-missing : (l : ℕ) → l ≡ 255 → limitText l ≡ 45 ∷ 10 ∷ []
 unfolding limitText
-text-missing = refl
+text-missing l e = rw e
 
-pub text-number : (l : ℕ) → l ≤ 96 → limitText l ≡ ended 10 l
+pub text-number : (l : ℕ) → (l ≡ 255 → ⊥) → limitText l ≡ ended 10 l
 unfolding limitText
-text-number l h = rw (ne-eqb l 255 (λ e. omega arith))
+text-number l e = rw (ne-eqb l 255 e)
+
+-- a limit of the table's range is no missing one
+pub present : (l : ℕ) → l ≤ 96 → l ≡ 255 → ⊥
+present l h e = omega arith
 
 written-fits : (n : ℕ) → limitFits (limitRead n) ≡ true → (n ≤ 96) × (limitRead n ≡ n)
 unfolding limitRead
@@ -68,7 +72,7 @@ from-number s at l next e h = go (field mostDigits 10 s at) refl e
         let w = written-fits n (rw (← a) at h) in
         let c : n ≡ l = sym (w .1) ∙ a in
         let k : l ≤ 96 = omega (arith, w .0) in
-        rw (text-number l k) (rw (c, b) at (field-read (lit< tt) q .stands))
+        rw (text-number l (present l k)) (rw (c, b) at (field-read (lit< tt) q .stands))
 
 from-dash : (s : List ℕ) (at l next : ℕ) → getD s at 0 ≡ 45 → cond (eqb (getD s (at + 1) 0) 10) (Value 255 (at + 2)) Bad ≡ Value l next
     → Stands (limitText l) s at next
@@ -80,7 +84,7 @@ from-dash s at l next e r =
     let d : drop (at + 1) s ≡ 10 ∷ drop (at + 2) s = drop-cons s (at + 1) 0 t ∙ rw (g, k) in
     let t2 : at < length s = omega arith in
     let d2 : drop at s ≡ 45 ∷ drop (at + 1) s = rw add-one (drop-cons s at 0 t2 ∙ rw e) in
-    rw (← (p .1), text-missing) (record { text = d2 ∙ rw (d, p .2); place = omega (arith, p .2) })
+    rw (text-missing l (sym (p .1))) (record { text = d2 ∙ rw (d, p .2); place = omega (arith, p .2) })
 
 pub limit-read : (s : List ℕ) (at l next : ℕ) → limitField s at ≡ Value l next → limitFits l ≡ true → Stands (limitText l) s at next
 unfolding limitField
@@ -95,8 +99,8 @@ limit-read s at l next = go (eqb (getD s at 0) 45) refl
 pub limit-write : (s : List ℕ) (at l next : ℕ) → limitFits l ≡ true → Stands (limitText l) s at next → limitField s at ≡ Value l next
 unfolding limitField limitRead
 limit-write s at l next h t = elim (limit-cases l h) [
-  | inl k ↦ number k (rw (text-number l k) at t)
-  | inr e ↦ rw e (dash (rw (e, text-missing) at t))
+  | inl k ↦ number k (rw (text-number l (present l k)) at t)
+  | inr e ↦ rw e (dash (rw (text-missing l e) at t))
 ]
   where
     here : (xs : List ℕ) → drop at s ≡ xs → getD s at 0 ≡ getD xs 0 0

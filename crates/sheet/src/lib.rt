@@ -18,6 +18,9 @@ pub enum FlightLine {
 // The most digits of a number in a sheet.
 pub const DIGITS: usize = 7;
 
+// A missing limit.
+pub const DASH: u8 = b'-';
+
 // The first names line.
 pub const PERIOD_NAMES_LEN: usize = 16;
 

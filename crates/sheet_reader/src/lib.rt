@@ -21,6 +21,7 @@ use day::flight_fits;
 use day::number_of;
 use day::put_flight;
 use day::wide;
+use sheet::DASH;
 use sheet::DIGITS;
 use sheet::FLIGHT_NAMES;
 use sheet::FLIGHT_NAMES_LEN;
@@ -28,6 +29,7 @@ use sheet::FlightLine;
 use sheet::PERIOD_NAMES;
 use sheet::PERIOD_NAMES_LEN;
 use sheet::PeriodLine;
+use text::LINE_END;
 use text::Number;
 use text::Place;
 use text::field_at;
@@ -35,17 +37,17 @@ use text::fixed_at;
 use text::line_at;
 use text::separated_at;
 
-// The last field of a flight line: a byte 45 for a missing limit, or a number.
+// The last field of a flight line: a dash for a missing limit, or a number.
 fn limit_at(s: &[u8], at: usize) -> Number
     requires { ⌜ at ≤ length (now s) ⌝ }
     ensures { λ r. ⌜ r ≡ limitField (now (s .entry)) at ⌝ }
 {
     if at < s.len() {
-        if s[at] == 45 {
+        if s[at] == DASH {
             if s.len() - at <= 1 {
                 return Number::Bad;
             }
-            if s[at + 1] == 10 {
+            if s[at + 1] == LINE_END {
                 return Number::Value {
                     n: MISSING,
                     next: at + 2,
@@ -54,7 +56,7 @@ fn limit_at(s: &[u8], at: usize) -> Number
             return Number::Bad;
         }
     }
-    let p = field_at(s, at, DIGITS, 10);
+    let p = field_at(s, at, DIGITS, LINE_END);
     let Number::Value { n, next } = p else {
         return Number::Bad;
     };

@@ -10,7 +10,7 @@ use answers::Answer;
 
 const COMMA: u8 = b',';
 
-const LINE_END: u8 = 10;
+pub const LINE_END: u8 = 10;
 
 // A number read: its value and the place behind it.
 pub enum Number {
