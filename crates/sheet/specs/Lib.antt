@@ -1,4 +1,3 @@
-pub mod Flights
 pub mod Text
 pub mod Lines
 pub mod Sheet

@@ -7,16 +7,17 @@ use Rattle.sheet_reader.specs.declared.Periods.{Periods}
 use Rattle.sheet_reader.specs.declared.Periods.the-variants.{Upto, Stopped}
 use Rattle.sheet_reader.specs.declared.Listing.{Listing}
 use Rattle.sheet_reader.specs.declared.Listing.the-variants.{Listed, Halted}
-use Rattle.sheet.specs.Flights.{firstFlights}
+use Rattle.day.specs.Day.{mostPeriods, mostFlights}
+use Rattle.day.specs.Flights.{firstFlights}
 use Rattle.sheet.specs.Sheet.{Reading, read, refused, readFlights}
 
 -- how the reading goes on after the period lines
 abbrev pub goOn : Periods → List ℕ → List ℕ → Reading
-goOn (Upto p at) s capacities = readFlights 128 s at (take p capacities) []
+goOn (Upto p at) s capacities = readFlights mostFlights s at (take p capacities) []
 goOn (Stopped a) s capacities = refused a
 
 abbrev pub Ready : Periods → List ℕ → Type 0
-Ready (Upto p at) s = (p ≤ 96) × (at ≤ length s)
+Ready (Upto p at) s = (p ≤ mostPeriods) × (at ≤ length s)
 Ready (Stopped a) s = Unit {0}
 
 -- what the flight lines have given
@@ -25,5 +26,5 @@ filled (Listed n) capacities row = read capacities (firstFlights n row)
 filled (Halted a) capacities row = refused a
 
 abbrev pub Few : Listing → Type 0
-Few (Listed n) = n ≤ 128
+Few (Listed n) = n ≤ mostFlights
 Few (Halted a) = Unit {0}

@@ -88,6 +88,21 @@ put-none o at h =
     let z : at + 0 ≡ at = omega arith in
     record { place = sym z; bytes = rw z (sym (take-append-drop at o)) }
 
+-- a buffer that is filled text by text: `t` stands from `start` to `at`
+pub record Grown (o : List ℕ) (start : ℕ) (t out : List ℕ) (at : ℕ) : Type 0 where
+  pub long : length out ≡ length o
+  pub put : Put o start t at out
+
+pub grown-none : (o : List ℕ) (start : ℕ) → start ≤ length o → Grown o start [] o start
+grown-none o start h = record { long = refl; put = put-none o start h }
+
+module _ {o : List ℕ} {start : ℕ} {t out : List ℕ} {at : ℕ} (g : Grown o start t out at) where
+  pub grown-room : (u : List ℕ) → start + length t + length u ≤ length o → at + length u ≤ length out
+  grown-room u h = omega (arith, g .long, g .put .place)
+
+  pub grown-more : {u next : List ℕ} {r : ℕ} → start + length t + length u ≤ length o → Put out at u r next → Grown o start (t ++ u) next r
+  grown-more h p = let q = then h (g .put) p in record { long = put-length (simp length-append (omega arith)) q; put = q }
+
 set-placed : (o : List ℕ) (m v : ℕ) → m < length o → set o m v ≡ placed o m (v ∷ [])
 unfolding placed
 set-placed o m v h = rw (add-one, set-split o m v h)

@@ -1,7 +1,7 @@
 -- What is decided by the flights still to compare with decides the whole.
 
-use Rattle.sheet.proofs.Rows.{used-here, used-below, used-none}
-use Rattle.sheet.specs.Flights.{firstFlights}
+use Rattle.sheet.proofs.Used.{used-here, used-below, used-none}
+use Rattle.day.specs.Flights.{firstFlights}
 use Rattle.sheet.specs.Lines.{used}
 use borrow.Author.Needs.{needs}
 use Prim.Native.Nat.{_≤_, _-_}

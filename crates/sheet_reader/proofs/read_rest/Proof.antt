@@ -1,6 +1,6 @@
 -- A refusal leaves the rows; a day is copied to their fronts.
 use Rattle.sheet_reader.proofs.Loops.{few-listed, refused-so, read-so}
-use Rattle.sheet.specs.Flights.{firstFlights}
+use Rattle.day.specs.Flights.{firstFlights}
 use Rattle.sheet_reader.specs.Loop.{filled}
 use Rattle.sheet.specs.Sheet.{read, refused, readFlights}
 use Rattle.sheet_reader.specs.declared.Listing.{Listing}

@@ -32,7 +32,9 @@ same-length c = search needs
 
 returns : tie.Need-returns
 unfolding flightNames
-returns c = lent _ flightNames _ _ _ (c .before .before .before .before .before .before .pre) (c .before .before .put-fixed .ensures)
+returns c =
+    let l = c .before .before in
+    lent _ flightNames _ _ _ (l .before .before .before .before .pre) (l .put-fixed .ensures)
 
 pub put-flight-names-spec : {M : Type 1} → statement M
 put-flight-names-spec =

@@ -1,6 +1,6 @@
 -- The part lent on is the rest of the buffer.
 use Rattle.text.proofs.Writing.{lent}
-use Rattle.sheet_writer.proofs.Placing.{length-period, period-line}
+use Rattle.sheet.specs.Text.{periodText}
 use Prim.Native.Nat.{_-_}
 use native.Mathlib.Omega.{arith}
 use lib.ListN.{length-take, length-drop}
@@ -21,18 +21,23 @@ slice-aggregate-put-line : tie.Need-slice-aggregate-put-line
 slice-aggregate-put-line c = search needs
 
 put-line-requires : tie.Need-put-line-requires
-put-line-requires c κs = simp (length-take, length-drop) (omega (arith, length-period (c .before .before .before .args .j) (c .before .before .before .args .capacity), c .before .before .before .pre))
+unfolding periodText
+put-line-requires c κs = simp (length-take, length-drop) (omega (arith, c .before .before .before .pre))
+
+-- the start, seen from behind the line
+abbrev start : tie.After-put-line → tie.Start
+start c = c .before .before .before .before
 
 add-result : tie.Need-add-result
-add-result c = omega (arith, c .before .before .put-line .ensures .place, length-period (c .before .before .before .before .before .before .args .j) (c .before .before .before .before .before .before .args .capacity), c .before .before .before .before .before .before .pre)
+unfolding periodText
+add-result c = let l = c .before .before in omega (arith, l .put-line .ensures .place, start l .pre)
 
 same-length : tie.Need-same-length
 same-length c = search needs
 
 returns : tie.Need-returns
-returns c =
-    let a = c .before .before .before .before .before .before .args in
-    rw (period-line (a .j) (a .capacity)) (lent _ _ _ _ _ (rw (period-line (a .j) (a .capacity)) at (c .before .before .before .before .before .before .pre)) (c .before .before .put-line .ensures))
+unfolding periodText
+returns c = let l = c .before .before in lent _ _ _ _ _ (start l .pre) (l .put-line .ensures)
 
 pub put-period-at-spec : {M : Type 1} → statement M
 put-period-at-spec =
