@@ -16,10 +16,10 @@ pub const FLIGHTS: usize = 128;
 // How many numbers a flight takes in its row, and the most numbers of a row of flights.
 pub const WIDTH: usize = 6;
 
-pub const FLIGHT_ROW: usize = 768;
+pub const FLIGHT_ROW: usize = FLIGHTS * WIDTH;
 
 // A row that is read at the period itself, from 0 to the closing period.
-pub const PERIOD_ROW: usize = 98;
+pub const PERIOD_ROW: usize = PERIODS + 2;
 
 // A limit that is missing.
 pub const MISSING: u32 = 255;

@@ -5,41 +5,51 @@ ghost use lib.ListN.{length};
 use crate::show::put;
 use crate::show::put_row;
 use answers::Code;
+use day::FLIGHT_ROW;
+use day::FLIGHTS;
+use day::PERIODS;
+use day::WIDTH;
 
 const RUBBISH: u32 = 4294967295;
 
 const RUBBISH_BYTE: u8 = 35;
 
 // Each row has room for one period or one flight more than a day may have.
-pub fn capacity_row(value: u32) -> [u32; 97]
+const MORE_PERIODS: usize = PERIODS + 1;
+
+const MORE_FLIGHTS: usize = FLIGHTS + 1;
+
+const LONGER_ROW: usize = FLIGHT_ROW + WIDTH;
+
+pub fn capacity_row(value: u32) -> [u32; MORE_PERIODS]
     ensures { λ r. ⌜ 97 ≡ length r ⌝ }
 {
-    [value; 97]
+    [value; MORE_PERIODS]
 }
 
-pub fn price_row() -> [u32; 97]
+pub fn price_row() -> [u32; MORE_PERIODS]
     ensures { λ r. ⌜ 97 ≡ length r ⌝ }
 {
     capacity_row(RUBBISH)
 }
 
-pub fn flight_row() -> [u32; 774]
+pub fn flight_row() -> [u32; LONGER_ROW]
     ensures { λ r. ⌜ 774 ≡ length r ⌝ }
 {
-    [RUBBISH; 774]
+    [RUBBISH; LONGER_ROW]
 }
 
-pub fn hold_row() -> [u32; 129]
+pub fn hold_row() -> [u32; MORE_FLIGHTS]
     ensures { λ r. ⌜ 129 ≡ length r ⌝ }
 {
-    [RUBBISH; 129]
+    [RUBBISH; MORE_FLIGHTS]
 }
 
 // Everyone lands when due.
-pub fn due_row() -> [u32; 129]
+pub fn due_row() -> [u32; MORE_FLIGHTS]
     ensures { λ r. ⌜ 129 ≡ length r ⌝ }
 {
-    [0; 129]
+    [0; MORE_FLIGHTS]
 }
 
 pub fn text_buffer() -> [u8; 4096]
