@@ -198,34 +198,44 @@ module _ {s : List ℕ} {start p : ℕ} {row : List ℕ} {n at : ℕ} (r : Fligh
 
 -- the whole call
 
+-- what is shown where it ends in a refusal: the answer, and the rows as they were
+abbrev Refused : Reading → List ℕ → List ℕ → Answer → Type 0
+Refused R caps flights a = (a ≡ answerOf R) × ((caps ≡ capacitiesAfter R caps) × (flights ≡ flightsAfter R flights))
+
+pub refused-so : (R : Reading) (a : Answer) (caps flights : List ℕ) → R ≡ refused a → Refused R caps flights a
+refused-so R a caps flights e = rw e (refl, (refl, refl))
+
 module _ (s caps flights : List ℕ) where
-  pub call-caps : (length caps ≡ mostPeriods → ⊥) → reading s caps flights ≡ refused (BadLength mostPeriods)
+  pub call-caps : (length caps ≡ mostPeriods → ⊥) → Refused (reading s caps flights) caps flights (BadLength mostPeriods)
   unfolding reading
-  call-caps h = rw (ne-eqb (length caps) mostPeriods h)
+  call-caps h = refused-so (reading s caps flights) (BadLength mostPeriods) caps flights (rw (ne-eqb (length caps) mostPeriods h))
 
-  pub call-flights : length caps ≡ mostPeriods → (length flights ≡ mostFlights * width → ⊥) → reading s caps flights ≡ refused (BadLength (mostFlights * width))
-  unfolding reading
-  call-flights h g = rw (eq-eqb (length caps) mostPeriods h, ne-eqb (length flights) (mostFlights * width) g)
+  module _ (h : length caps ≡ mostPeriods) where
+    pub call-flights : (length flights ≡ mostFlights * width → ⊥) → Refused (reading s caps flights) caps flights (BadLength (mostFlights * width))
+    unfolding reading
+    call-flights g =
+        refused-so (reading s caps flights) (BadLength (mostFlights * width)) caps flights (rw (eq-eqb (length caps) mostPeriods h, ne-eqb (length flights) (mostFlights * width) g))
 
-  module _ (h : length caps ≡ mostPeriods) (g : length flights ≡ mostFlights * width) where
-    pub call-long : 8192 < length s → reading s caps flights ≡ refused TooLong
-    unfolding reading readSheet
-    call-long l = rw (eq-eqb (length caps) mostPeriods h, eq-eqb (length flights) (mostFlights * width) g, lt-ltb 8192 (length s) l)
+    module _ (g : length flights ≡ mostFlights * width) where
+      sheet-read : reading s caps flights ≡ readSheet s
+      unfolding reading
+      sheet-read = rw (eq-eqb (length caps) mostPeriods h, eq-eqb (length flights) (mostFlights * width) g)
 
-    pub call-top : length s ≤ 8192 → startsWith s periodNames ≡ false → reading s caps flights ≡ refused (BadForm 0)
-    unfolding reading readSheet
-    call-top l t = rw (eq-eqb (length caps) mostPeriods h, eq-eqb (length flights) (mostFlights * width) g, le-ltb 8192 (length s) l, t)
+      pub call-long : 8192 < length s → Refused (reading s caps flights) caps flights TooLong
+      unfolding readSheet
+      call-long l = refused-so (reading s caps flights) TooLong caps flights (sheet-read ∙ rw (lt-ltb 8192 (length s) l))
 
-    pub call-on : length s ≤ 8192 → startsWith s periodNames ≡ true → reading s caps flights ≡ readPeriods mostPeriods s (length periodNames) []
-    unfolding reading readSheet
-    call-on l t = rw (eq-eqb (length caps) mostPeriods h, eq-eqb (length flights) (mostFlights * width) g, le-ltb 8192 (length s) l, t)
+      module _ (l : length s ≤ 8192) where
+        pub call-top : startsWith s periodNames ≡ false → Refused (reading s caps flights) caps flights (BadForm 0)
+        unfolding readSheet
+        call-top t = refused-so (reading s caps flights) (BadForm 0) caps flights (sheet-read ∙ rw (le-ltb 8192 (length s) l, t))
+
+        pub call-on : startsWith s periodNames ≡ true → reading s caps flights ≡ readPeriods mostPeriods s (length periodNames) []
+        unfolding readSheet
+        call-on t = sheet-read ∙ rw (le-ltb 8192 (length s) l, t)
 
 pub top-within : (s : List ℕ) → startsWith s periodNames ≡ true → length periodNames ≤ length s
 top-within s e = omega (arith, length-take (length periodNames) s, ap length (starts-is s periodNames e))
-
-pub refused-so : (R : Reading) (a : Answer) (caps flights : List ℕ) → R ≡ refused a
-    → (a ≡ answerOf R) × ((caps ≡ capacitiesAfter R caps) × (flights ≡ flightsAfter R flights))
-refused-so R a caps flights e = rw e (refl, (refl, refl))
 
 pub read-so : (R : Reading) (C row caps flights : List ℕ) (p n : ℕ) → R ≡ read C (firstFlights n row) → length C ≡ p → n * width ≤ length row
     → (caps′ flights′ : List ℕ) → caps′ ≡ C ++ drop p caps → flights′ ≡ take (n * width) row ++ drop (n * width) flights
