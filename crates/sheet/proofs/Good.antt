@@ -7,7 +7,7 @@ use mathlib.Core.List.{List, [], _∷_, _++_, append-assoc, append-nil}
 use mathlib.Core.Bool.{Bool, true, false, not, _&&_, _||_}
 use lib.ListN.{length, getD, length-append}
 use lib.Dec.{leb, eqb}
-use borrow.Author.Tests.{le-leb, leb-true, eq-eqb, eqb-true, not-true}
+use borrow.Author.Tests.{le-leb, eq-eqb, not-true}
 use Rattle.day.specs.declared.Flight.{Flight}
 use Rattle.day.specs.Day.{Day, day, P, N, mostPeriods, mostFlights, column, flightAt, flightCount, all, inside, flightFits, inRange, isNew, valid, width}
 use Rattle.day.specs.Flights.{firstFlights, flightsOf, rowOf}

@@ -96,7 +96,7 @@ limit-read s at l next = go (eqb (getD s at 0) 45) refl
     go true q r h = from-dash s at l next (eqb-true _ _ q) r
     go false q r h = from-number s at l next r h
 
-pub limit-write : (s : List ℕ) (at l next : ℕ) → limitFits l ≡ true → Stands (limitText l) s at next → limitField s at ≡ Value l next
+limit-write : (s : List ℕ) (at l next : ℕ) → limitFits l ≡ true → Stands (limitText l) s at next → limitField s at ≡ Value l next
 unfolding limitField limitRead
 limit-write s at l next h t = elim (limit-cases l h) [
   | inl k ↦ number k (rw (text-number l (present l k)) at t)

@@ -85,7 +85,7 @@ no-flights row = refl
 
 -- the whole
 
-pub length-sheet : (caps : List ℕ) (fs : List Flight) → length (sheetText caps fs) ≡ length (periodsText 1 caps) + length (flightsText fs) + 49
+length-sheet : (caps : List ℕ) (fs : List Flight) → length (sheetText caps fs) ≡ length (periodsText 1 caps) + length (flightsText fs) + 49
 unfolding sheetText
 length-sheet caps fs = simp length-append (omega (arith, length-top, length-names))
 

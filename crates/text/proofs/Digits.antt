@@ -65,7 +65,7 @@ pub count-pos : (n : ℕ) → 0 < length (digits n)
 count-pos n = by-digits (λ n. 0 < length (digits n)) (λ n h. omega (arith, count-short n h)) (λ n h ih. omega (arith, count-long n h)) n
 
 -- n is below 10 to the number of its digits ..
-pub below-power : (n : ℕ) → n < 10 ^ length (digits n)
+below-power : (n : ℕ) → n < 10 ^ length (digits n)
 below-power n = by-digits (λ n. n < 10 ^ length (digits n)) one more n
   where
     one : (n : ℕ) → n < 10 → n < 10 ^ length (digits n)
@@ -75,7 +75,7 @@ below-power n = by-digits (λ n. n < 10 ^ length (digits n)) one more n
     more n h ih = rw (count-long n h, add-one, pow-suc) (omega arith)
 
 -- .. and not below a tenth of that
-pub above-power : (n : ℕ) → 0 < n → 10 ^ length (digits n) ≤ n * 10
+above-power : (n : ℕ) → 0 < n → 10 ^ length (digits n) ≤ n * 10
 above-power n = by-digits (λ n. 0 < n → 10 ^ length (digits n) ≤ n * 10) one more n
   where
     one : (n : ℕ) → n < 10 → 0 < n → 10 ^ length (digits n) ≤ n * 10

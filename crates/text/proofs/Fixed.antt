@@ -42,7 +42,7 @@ starts-is (x ∷ xs) (y ∷ ys) e =
     let p = and-true (eqb x y) (startsWith xs ys) e in
     ap₂ _∷_ (eqb-true x y (p .0)) (starts-is xs ys (p .1))
 
-pub is-starts : (l w : List ℕ) → take (length w) l ≡ w → startsWith l w ≡ true
+is-starts : (l w : List ℕ) → take (length w) l ≡ w → startsWith l w ≡ true
 unfolding startsWith
 is-starts l [] e = refl
 is-starts [] (y ∷ ys) e = cc

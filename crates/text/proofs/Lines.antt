@@ -11,11 +11,11 @@ use lib.ListN.{length, getD, take, drop, set, length-append, length-set, drop-of
 use lib.Seq.{take-suc-set, drop-set-lt, drop-cons, length-take-le}
 use lib.Dec.{lit<}
 use Rattle.text.specs.Digits.{digits, ended, separated, line}
-use Rattle.text.specs.Reading.{field, Numbers, whole, upto, numbersRead, placeOf, withFront, thenNumbers, separatedAt, rowAfter, Line, values, noLine, lastOf, withLast, thenLast, lineAt}
+use Rattle.text.specs.Reading.{field, Numbers, whole, upto, numbersRead, placeOf, withFront, thenNumbers, separatedAt, rowAfter, values, lastOf, withLast, thenLast, lineAt}
 use Rattle.text.specs.declared.Number.{Number}
 use Rattle.text.specs.declared.Number.the-variants.{Value, Bad}
 use Rattle.text.specs.declared.Place.the-variants.{Behind, NoPlace}
-use Rattle.text.proofs.Reading.{Stands, within, join, parted, FieldHere, field-read, field-write, open-up, end-no-digit, comma-no-digit}
+use Rattle.text.proofs.Reading.{Stands, within, join, parted, field-read, field-write, open-up, end-no-digit, comma-no-digit}
 use Rattle.text.proofs.Digits.{length-ended, first-digit}
 
 -- each of the numbers has at most `most` digits

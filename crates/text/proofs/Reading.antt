@@ -16,7 +16,7 @@ use Rattle.text.specs.Digits.{digits, ended}
 use Rattle.text.specs.Reading.{isDigit, run, value, zeroFirst, numberOf, number, endedBy, field}
 use Rattle.text.specs.declared.Number.{Number}
 use Rattle.text.specs.declared.Number.the-variants.{Value, Bad}
-use Rattle.text.proofs.Digits.{split, digits-short, digits-long, by-digits, count-short, count-pos, count-is, count-le, first-pos, dec, digits-dec, length-ended}
+use Rattle.text.proofs.Digits.{split, digits-short, digits-long, by-digits, count-short, count-pos, count-is, first-pos, dec, digits-dec, length-ended}
 
 -- runs of digits
 
@@ -47,7 +47,11 @@ pub and-true : (a b : Bool) → a && b ≡ true → (a ≡ true) × (b ≡ true)
 and-true true b e = (refl, e)
 and-true false b e = (e, cc)
 
-pub digit-bounds : (d : ℕ) → isDigit d ≡ true → (48 ≤ d) × (d ≤ 57)
+and-false : (b : Bool) → b && false ≡ false
+and-false true = refl
+and-false false = refl
+
+digit-bounds : (d : ℕ) → isDigit d ≡ true → (48 ≤ d) × (d ≤ 57)
 unfolding isDigit
 digit-bounds d e = let p = and-true (leb 48 d) (leb d 57) e in (leb-true 48 d (p .0), leb-true d 57 (p .1))
 
@@ -80,7 +84,7 @@ value-snoc acc [] d = refl
 value-snoc acc (x ∷ xs) d = value-snoc (acc * 10 + (x - 48)) xs d
 
 -- digits write their number
-pub value-digits : (n : ℕ) → value 0 (digits n) ≡ n
+value-digits : (n : ℕ) → value 0 (digits n) ≡ n
 unfolding value
 value-digits n = by-digits (λ n. value 0 (digits n) ≡ n) (λ n h. rw (digits-short n h) (omega arith)) more n
   where
@@ -91,12 +95,8 @@ no-zero : (n : ℕ) → zeroFirst (digits n) ≡ false
 unfolding zeroFirst
 no-zero n = elim (split n 10) [ inl h ↦ short h | inr h ↦ rw (ne-eqb (getD (digits n) 0 0) 48 (λ e. omega (arith, rw append-nil at (first-pos n (omega arith) [])))) ]
   where
-    ended-false : (b : Bool) → b && false ≡ false
-    ended-false true = refl
-    ended-false false = refl
-
     short : n < 10 → eqb (getD (digits n) 0 0) 48 && ltb 1 (length (digits n)) ≡ false
-    short h = rw (count-short n h) (ended-false (eqb (getD (digits n) 0 0) 48))
+    short h = rw (count-short n h) (and-false (eqb (getD (digits n) 0 0) 48))
 
 -- digits at a place, and no digit behind them, are read as their number
 number-digits : (most : ℕ) (s : List ℕ) (at n x : ℕ) (ys : List ℕ) → length (digits n) ≤ most → isDigit x ≡ false → drop at s ≡ digits n ++ (x ∷ ys)
@@ -374,11 +374,7 @@ module _ (most : ℕ) (s : List ℕ) (at k : ℕ) (e : k ≡ length (run (drop a
 
   pub number-one : k ≤ 1 → 0 < k → k ≤ most → Value (value 0 (run (drop at s))) (at + k) ≡ number most s at
   unfolding zeroFirst
-  number-one o h g = value-when (rw (← e, le-ltb 1 k o) (go (eqb (getD (run (drop at s)) 0 0) 48))) h g
-    where
-      go : (b : Bool) → b && false ≡ false
-      go true = refl
-      go false = refl
+  number-one o h g = value-when (rw (← e, le-ltb 1 k o) (and-false (eqb (getD (run (drop at s)) 0 0) 48))) h g
 
   pub number-more : 1 < k → k ≤ most → (getD s at 0 ≡ 48 → ⊥) → Value (value 0 (run (drop at s))) (at + k) ≡ number most s at
   unfolding zeroFirst

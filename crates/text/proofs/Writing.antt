@@ -57,7 +57,7 @@ lent o t at r part h p =
     let a : take (length o - at) (drop at o) ≡ drop at o = take-all (length o - at) (drop at o) (rw length-drop (omega arith)) in
     record { place = omega (arith, p .place); bytes = rw (p .bytes, placed-zero, z, a, drop-drop, append-nil) }
 
-pub length-placed : (o t : List ℕ) (at : ℕ) → at + length t ≤ length o → length (placed o at t) ≡ length o
+length-placed : (o t : List ℕ) (at : ℕ) → at + length t ≤ length o → length (placed o at t) ≡ length o
 unfolding placed
 length-placed o t at h = simp (length-append, length-drop, length-take-le at o (omega arith)) (omega arith)
 

@@ -6,7 +6,7 @@ use Rattle.day.specs.Day.{mostPeriods}
 use Rattle.sheet.specs.Sheet.{readPeriods, reading}
 use Rattle.sheet.specs.Text.{periodNames}
 use Rattle.text.specs.Fixed.{startsWith}
-use Prim.Native.Nat.{ℕ, _≤_}
+use Prim.Native.Nat.{ℕ}
 use lib.ListN.{length}
 use mathlib.Core.Bool.{true}
 use mathlib.Core.List.{List, []}

@@ -1,6 +1,6 @@
 -- A valid day gives the bounds, and its text fits or not.
 use Rattle.text.proofs.Writing.{lent}
-use Rattle.day.specs.Day.{Day, day, N, valid}
+use Rattle.day.specs.Day.{Day, day, valid}
 use Rattle.day.specs.Flights.{firstFlights}
 use Rattle.day.proofs.Valid.{valid-means}
 use Rattle.sheet.specs.Text.{sheetText, sheetOf}
