@@ -33,36 +33,44 @@ slice-aggregate-put-line c = search needs
 
 put-line-requires : tie.Need-put-line-requires
 put-line-requires c κs =
-    let a = c .before .before .before .before .before .before .before .args in
+    let at-values-of = c .before .before .before in
+    let at-start = at-values-of .before .before .before .before in
+    let a = at-start .args in
     let f = a .flights .now in
     let h = a .holds .now in
-    let v : c .before .before .before .values-of .result ≡ column 0 f (a .i) ∷ column 1 f (a .i) ∷ landOf f h (a .i) ∷ hold h (a .i) ∷ [] = c .before .before .before .values-of .ensures in
+    let v : at-values-of .values-of .result ≡ column 0 f (a .i) ∷ column 1 f (a .i) ∷ landOf f h (a .i) ∷ hold h (a .i) ∷ [] = at-values-of .values-of .ensures in
     let q : c .before .before .cost-at .result ≡ holdCost (flightAt f (a .i)) (hold h (a .i)) = c .before .before .cost-at .ensures in
-    let e : line (c .before .before .before .values-of .result) (c .before .before .cost-at .result) ≡ planLine f h (a .i) = rw (v, q) (sym (line-is f h (a .i))) in
-    rw e (simp (length-take, length-drop) (omega (arith, c .before .before .before .before .before .before .before .pre .2)))
+    let e : line (at-values-of .values-of .result) (c .before .before .cost-at .result) ≡ planLine f h (a .i) = rw (v, q) (sym (line-is f h (a .i))) in
+    rw e (simp (length-take, length-drop) (omega (arith, at-start .pre .2)))
 
 add-result : tie.Need-add-result
 add-result c =
-    let a = c .before .before .before .before .before .before .before .before .before .before .args in
+    let at-cost-at = c .before .before .before .before .before in
+    let at-values-of = at-cost-at .before in
+    let at-start = at-values-of .before .before .before .before in
+    let a = at-start .args in
     let f = a .flights .now in
     let h = a .holds .now in
-    let v : c .before .before .before .before .before .before .values-of .result ≡ column 0 f (a .i) ∷ column 1 f (a .i) ∷ landOf f h (a .i) ∷ hold h (a .i) ∷ [] = c .before .before .before .before .before .before .values-of .ensures in
-    let q : c .before .before .before .before .before .cost-at .result ≡ holdCost (flightAt f (a .i)) (hold h (a .i)) = c .before .before .before .before .before .cost-at .ensures in
-    let e : line (c .before .before .before .before .before .before .values-of .result) (c .before .before .before .before .before .cost-at .result) ≡ planLine f h (a .i) = rw (v, q) (sym (line-is f h (a .i))) in
-    omega (arith, c .before .before .put-line .ensures .place, ap length e, c .before .before .before .before .before .before .before .before .before .before .pre .2)
+    let v : at-values-of .values-of .result ≡ column 0 f (a .i) ∷ column 1 f (a .i) ∷ landOf f h (a .i) ∷ hold h (a .i) ∷ [] = at-values-of .values-of .ensures in
+    let q : at-cost-at .cost-at .result ≡ holdCost (flightAt f (a .i)) (hold h (a .i)) = at-cost-at .cost-at .ensures in
+    let e : line (at-values-of .values-of .result) (at-cost-at .cost-at .result) ≡ planLine f h (a .i) = rw (v, q) (sym (line-is f h (a .i))) in
+    omega (arith, c .before .before .put-line .ensures .place, ap length e, at-start .pre .2)
 
 same-length : tie.Need-same-length
 same-length c = search needs
 
 returns : tie.Need-returns
 returns c =
-    let a = c .before .before .before .before .before .before .before .before .before .before .args in
+    let at-cost-at = c .before .before .before .before .before in
+    let at-values-of = at-cost-at .before in
+    let at-start = at-values-of .before .before .before .before in
+    let a = at-start .args in
     let f = a .flights .now in
     let h = a .holds .now in
-    let v : c .before .before .before .before .before .before .values-of .result ≡ column 0 f (a .i) ∷ column 1 f (a .i) ∷ landOf f h (a .i) ∷ hold h (a .i) ∷ [] = c .before .before .before .before .before .before .values-of .ensures in
-    let q : c .before .before .before .before .before .cost-at .result ≡ holdCost (flightAt f (a .i)) (hold h (a .i)) = c .before .before .before .before .before .cost-at .ensures in
-    let e : line (c .before .before .before .before .before .before .values-of .result) (c .before .before .before .before .before .cost-at .result) ≡ planLine f h (a .i) = rw (v, q) (sym (line-is f h (a .i))) in
-    lent (a .out .now) (planLine f h (a .i)) (a .at) _ _ (c .before .before .before .before .before .before .before .before .before .before .pre .2) (rw e at (c .before .before .put-line .ensures))
+    let v : at-values-of .values-of .result ≡ column 0 f (a .i) ∷ column 1 f (a .i) ∷ landOf f h (a .i) ∷ hold h (a .i) ∷ [] = at-values-of .values-of .ensures in
+    let q : at-cost-at .cost-at .result ≡ holdCost (flightAt f (a .i)) (hold h (a .i)) = at-cost-at .cost-at .ensures in
+    let e : line (at-values-of .values-of .result) (at-cost-at .cost-at .result) ≡ planLine f h (a .i) = rw (v, q) (sym (line-is f h (a .i))) in
+    lent (a .out .now) (planLine f h (a .i)) (a .at) _ _ (at-start .pre .2) (rw e at (c .before .before .put-line .ensures))
 
 pub put-plan-line-spec : {M : Type 1} → statement M
 put-plan-line-spec =

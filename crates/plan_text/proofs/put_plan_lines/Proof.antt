@@ -26,12 +26,14 @@ loop-holds c =
 
 put-plan-line-requires : tie.Need-put-plan-line-requires Inv-loop μ-loop
 put-plan-line-requires c κs =
-    let a = c .before .before .before .before .before .before .args in
+    let at-slice-known = c .before .before .before .before .before in
+    let at-start = at-slice-known .before in
+    let a = at-start .args in
     let f = a .flights .now in
     let h = a .holds .now in
     let l = c .before .before .loop in
     let t : l .i < length h = c .before .loop-test .taken in
-    (t, omega (arith, c .before .before .before .before .before .before .pre .0), omega (arith, lines-room f h (l .i) (length h) t, l .inv .2 .place, l .inv .1, c .before .before .before .before .before .before .pre .1))
+    (t, omega (arith, at-start .pre .0), omega (arith, lines-room f h (l .i) (length h) t, l .inv .2 .place, l .inv .1, at-start .pre .1))
 
 add-i : tie.Need-add-i Inv-loop μ-loop
 add-i c = search needs
@@ -41,14 +43,17 @@ loop-less c = search needs
 
 loop-again : tie.Need-loop-again Inv-loop μ-loop
 loop-again c =
-    let a = c .before .before .before .before .before .before .before .before .before .args in
+    let at-loop-test = c .before .before .before .before in
+    let at-loop = at-loop-test .before in
+    let at-start = at-loop .before .before .before .before in
+    let a = at-start .args in
     let f = a .flights .now in
     let h = a .holds .now in
-    let l = c .before .before .before .before .before .loop in
-    let t : l .i < length h = c .before .before .before .before .loop-test .taken in
+    let l = at-loop .loop in
+    let t : l .i < length h = at-loop-test .loop-test .taken in
     let p = lines-room f h (l .i) (length h) t in
-    let q = then (omega (arith, p, c .before .before .before .before .before .before .before .before .before .pre .1)) (l .inv .2) (c .before .before .put-plan-line .ensures) in
-    (omega arith, put-length (simp length-append (omega (arith, p, c .before .before .before .before .before .before .before .before .before .pre .1))) q, rw (lines-part f h (l .i)) q)
+    let q = then (omega (arith, p, at-start .pre .1)) (l .inv .2) (c .before .before .put-plan-line .ensures) in
+    (omega arith, put-length (simp length-append (omega (arith, p, at-start .pre .1))) q, rw (lines-part f h (l .i)) q)
 
 same-length : tie.Need-same-length Inv-loop μ-loop
 same-length c = search needs

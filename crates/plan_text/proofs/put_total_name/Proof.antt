@@ -32,7 +32,10 @@ same-length c = search needs
 
 returns : tie.Need-returns
 unfolding totalName
-returns c = lent _ totalName _ _ _ (c .before .before .before .before .before .before .pre) (c .before .before .put-fixed .ensures)
+returns c =
+    let at-slice-known = c .before .before .before .before .before in
+    let at-start = at-slice-known .before in
+    lent _ totalName _ _ _ (at-start .pre) (c .before .before .put-fixed .ensures)
 
 pub put-total-name-spec : {M : Type 1} → statement M
 put-total-name-spec =

@@ -24,7 +24,9 @@ sub-if2 c = search needs
 
 returns-2 : tie.Need-returns-2
 returns-2 c =
-    let a = c .before .before .before .before .before .before .args in
+    let at-shared-slice-known = c .before .before .before .before .before in
+    let at-start = at-shared-slice-known .before in
+    let a = at-start .args in
     let f = a .flights .now in
     let h = a .holds .now in
     let k : c .before .before .plan-len .result ≡ length (planText f h) = c .before .before .plan-len .ensures in
@@ -47,11 +49,15 @@ same-length c = search needs
 
 returns-3 : tie.Need-returns-3
 returns-3 c =
-    let a = c .before .before .before .before .before .before .before .before .before .before .args in
+    let at-if2 = c .before .before .before .before in
+    let at-if1 = at-if2 .before in
+    let at-plan-len = at-if1 .before in
+    let at-start = at-plan-len .before .before .before .before in
+    let a = at-start .args in
     let f = a .flights .now in
     let h = a .holds .now in
-    let k : c .before .before .before .before .before .before .plan-len .result ≡ length (planText f h) = c .before .before .before .before .before .before .plan-len .ensures in
-    let g : a .place + length (planText f h) ≤ length (a .buffer .now) = omega (arith, k, c .before .before .before .before .if2 .left, c .before .before .before .before .before .if1 .left) in
+    let k : at-plan-len .plan-len .result ≡ length (planText f h) = at-plan-len .plan-len .ensures in
+    let g : a .place + length (planText f h) ≤ length (a .buffer .now) = omega (arith, k, at-if2 .if2 .left, at-if1 .if1 .left) in
     rw k (it-fits (a .buffer .now) (planText f h) (a .place) g (lent (a .buffer .now) (planText f h) (a .place) _ _ g (c .before .before .fill-plan .ensures)))
 
 pub write-legal-spec : {M : Type 1} → statement M

@@ -26,17 +26,20 @@ Ready = tie.After-latest-of Inv-loop μ-loop
 abbrev at-start : Read → tie.Start Inv-loop μ-loop
 at-start r = r .before .before .before .before .before
 
+abbrev at-due : Ready → tie.After-wide Inv-loop μ-loop
+at-due s = s .before .before .before .before .before
+
 abbrev at-read : Ready → Read
-at-read s = s .before .before .before .before .before .before
+at-read s = at-due s .before
 
 -- what was read, in the definitions' words
-due-is : (s : Ready) → s .before .before .before .before .before .wide .result ≡ column 1 (at-start (at-read s) .args .flights .now) (at-start (at-read s) .args .i)
-due-is s = due-made _ _ _ (at-read s .flight-at .ensures) (s .before .before .before .before .before .wide .ensures)
+due-is : (s : Ready) → at-due s .wide .result ≡ column 1 (at-start (at-read s) .args .flights .now) (at-start (at-read s) .args .i)
+due-is s = due-made _ _ _ (at-read s .flight-at .ensures) (at-due s .wide .ensures)
 
 here-is : (s : Ready) → s .before .before .hold-cost .result + s .before .of-period .result
     ≡ cost (day (at-start (at-read s) .args .capacities .now) (at-start (at-read s) .args .flights .now)) (at-start (at-read s) .args .i) (hold (at-start (at-read s) .args .holds .now) (at-start (at-read s) .args .i))
     + ofPeriod (at-start (at-read s) .args .prices .now) (landOf (at-start (at-read s) .args .flights .now) (at-start (at-read s) .args .holds .now) (at-start (at-read s) .args .i))
-here-is s = here-made _ _ _ (at-read s .flight-at .ensures) (at-start (at-read s) .args .holds .now) (at-start (at-read s) .args .prices .now) (s .before .before .before .before .before .wide .ensures) (s .before .before .before .wide2 .ensures) (s .before .before .hold-cost .ensures) (s .before .of-period .ensures .0)
+here-is s = here-made _ _ _ (at-read s .flight-at .ensures) (at-start (at-read s) .args .holds .now) (at-start (at-read s) .args .prices .now) (at-due s .wide .ensures) (s .before .before .before .wide2 .ensures) (s .before .before .hold-cost .ensures) (s .before .of-period .ensures .0)
 
 latest-is : (s : Ready) → s .latest-of .result ≡ latest (day (at-start (at-read s) .args .capacities .now) (at-start (at-read s) .args .flights .now)) (at-start (at-read s) .args .i)
 latest-is s = latest-made _ _ _ (at-read s .flight-at .ensures) _ (s .latest-of .ensures)
