@@ -1,6 +1,6 @@
 -- Laws of decimal digits: how they grow, how many there are, and that they write their number.
 -- Assumes nothing.
-use Prim.Native.Nat.{ℕ, zero, suc, _≤_, _<_, _+_, _-_, _*_, _/_, _%_, _^_}
+use Prim.Native.Nat.{ℕ, zero, suc, _≤_, _<_, _+_, _*_, _/_, _%_, _^_}
 use native.Mathlib.Omega.{arith}
 use native.Mathlib.Numerals.{add-one}
 use native.Mathlib.Nat.{pow-suc, pow-le-pow-right}
@@ -12,6 +12,7 @@ use lib.ListN.{length, getD, length-append}
 use lib.Dec.{ltb, lit<}
 use borrow.Author.Tests.{lt-ltb, le-ltb, ltb-true, ltb-false}
 use Rattle.text.specs.Digits.{digitsIn, digits, ended, separated}
+use Rattle.text.specs.Loops.{dec}
 
 pub split : (a b : ℕ) → (a < b) ⊎ (b ≤ a)
 split a b = go (ltb a b) refl
@@ -122,11 +123,6 @@ first-pos n = by-digits (λ n. 0 < n → (ys : List ℕ) → 48 < getD (digits n
 
     more : (n : ℕ) → 10 ≤ n → (0 < n / 10 → (ys : List ℕ) → 48 < getD (digits (n / 10) ++ ys) 0 0) → 0 < n → (ys : List ℕ) → 48 < getD (digits n ++ ys) 0 0
     more n h ih p ys = rw (digits-long n h, append-assoc) (ih (omega arith) ((48 + n % 10) ∷ ys))
-
--- the last k digits of n, with zeros in front: what the writer's loop has written
-unfoldable pub dec : ℕ → ℕ → List ℕ
-dec zero n = []
-dec (suc k) n = dec k (n / 10) ++ ((48 + n % 10) ∷ [])
 
 pub length-dec : (k n : ℕ) → length (dec k n) ≡ k
 unfolding dec

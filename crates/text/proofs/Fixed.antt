@@ -1,6 +1,6 @@
 -- Fixed bytes compared: the loop's steps, and that they stand there exactly when the front of the list is them.
 -- Assumes nothing.
-use Prim.Native.Nat.{ℕ, _≤_, _<_, _+_, _-_}
+use Prim.Native.Nat.{ℕ, _≤_, _<_, _+_}
 use native.Mathlib.Numerals.{add-one}
 use native.Mathlib.Nat.{add-suc}
 use mathlib.Core.Path.{_≡_, refl, ap₂, _∙_}

@@ -14,9 +14,11 @@ use lib.Dec.{ltb, leb, eqb, lit<}
 use borrow.Author.Tests.{le-leb, leb-true, leb-false, ltb-false, eq-eqb, ne-eqb, eqb-true, eqb-false, lt-ltb, le-ltb}
 use Rattle.text.specs.Digits.{digits, ended}
 use Rattle.text.specs.Reading.{isDigit, run, value, zeroFirst, numberOf, number, endedBy, field}
+use Rattle.text.specs.Standing.{Stands, FieldHere}
+use Rattle.text.specs.Loops.{dec}
 use Rattle.text.specs.declared.Number.{Number}
 use Rattle.text.specs.declared.Number.the-variants.{Value, Bad}
-use Rattle.text.proofs.Digits.{split, digits-short, digits-long, by-digits, count-short, count-pos, count-is, first-pos, dec, digits-dec, length-ended}
+use Rattle.text.proofs.Digits.{split, digits-short, digits-long, by-digits, count-short, count-pos, count-is, first-pos, digits-dec, length-ended}
 
 -- runs of digits
 
@@ -116,6 +118,7 @@ number-digits most s at n x ys h d e =
 
 -- the other way round
 
+-- bytes that are digits
 allDigits : List ℕ → Type 0
 allDigits [] = Unit {0}
 allDigits (d ∷ ds) = (48 ≤ d) × (d ≤ 57) × allDigits ds
@@ -247,11 +250,6 @@ there s x h = go (leb (length s) x) refl
     go true e = absurd (omega (arith, List·getD-eq-default s 0 {n = x} (leb-true _ _ e)))
     go false e = leb-false _ _ e
 
--- a text stands from `at` to `next`
-pub record Stands (t s : List ℕ) (at next : ℕ) : Type 0 where
-  pub text : drop at s ≡ t ++ drop next s
-  pub place : next ≡ at + length t
-
 pub within : {t s : List ℕ} {at next : ℕ} → Stands t s at next → at ≤ length s → next ≤ length s
 within {t} {s} {at} {next} a h = omega (arith, a .place, length-drop at s, simp length-append at (ap length (a .text)))
 
@@ -286,10 +284,6 @@ unfolding isDigit
 comma-no-digit = refl
 
 -- a field read at a place is a number of at most `most` digits, written there with its end byte, and back
-
-pub record FieldHere (most e : ℕ) (s : List ℕ) (at n next : ℕ) : Type 0 where
-  pub short : length (digits n) ≤ most
-  pub stands : Stands (ended e n) s at next
 
 pub field-read : {most e : ℕ} {s : List ℕ} {at n next : ℕ} → 0 < e → field most e s at ≡ Value n next → FieldHere most e s at n next
 unfolding field ended

@@ -4,7 +4,7 @@ use Rattle.sheet.proofs.Used.{used-here, used-below, used-none}
 use Rattle.day.specs.Flights.{firstFlights}
 use Rattle.sheet.specs.Lines.{used}
 use borrow.Author.Needs.{needs}
-use Prim.Native.Nat.{_≤_, _-_}
+use Prim.Native.Nat.{_≤_}
 use native.Mathlib.Omega.{arith}
 use mathlib.Core.Path.{_≡_, sym, _∙_}
 use Rattle.sheet_reader.proofs.number_used.Statement.{statement}

@@ -1,6 +1,7 @@
 -- After i turns the first i numbers are written.
 
-use Rattle.text.proofs.Writing.{Grown, grown-none, grown-room, grown-more, separated-part, no-numbers}
+use Rattle.text.proofs.Writing.{grown-none, grown-room, grown-more, separated-part, no-numbers}
+use Rattle.text.specs.Loops.{Grown}
 use Rattle.text.specs.Digits.{ended, separated}
 use borrow.Author.Needs.{needs}
 use Prim.Native.Nat.{_≤_, _-_}

@@ -3,7 +3,7 @@
 use Rattle.text.proofs.Writing.{lent, length-refusal, length-refusal-names, refusal-put, not-fits, it-fits}
 use Rattle.text.specs.Digits.{line}
 use Rattle.text.specs.Fixed.{refusalText}
-use Prim.Native.Nat.{_≤_, _+_, _-_}
+use Prim.Native.Nat.{_≤_, _+_}
 use native.Mathlib.Omega.{arith}
 use mathlib.Core.Path.{_≡_}
 use mathlib.Core.List.{[], _∷_}
