@@ -1,13 +1,13 @@
 -- The day check of the two rows and the test of the lists of capacities and flights are the same.
 -- Assumes nothing.
-use Prim.Native.Nat.{ℕ, zero, suc, _≤_, _<_, _+_, _*_}
+use Prim.Native.Nat.{ℕ, zero, suc, _≤_, _<_, _*_}
 use native.Mathlib.Omega.{arith}
 use mathlib.Core.Path.{_≡_, refl, sym, _∙_}
 use mathlib.Core.List.{List, [], _∷_, _++_, append-assoc, append-nil}
 use mathlib.Core.Bool.{Bool, true, false, not, _&&_, _||_}
 use lib.ListN.{length, getD, length-append}
 use lib.Dec.{leb, eqb}
-use borrow.Author.Tests.{le-leb, leb-true, eq-eqb, eqb-true, not-true}
+use borrow.Author.Tests.{le-leb, eq-eqb, not-true}
 use Rattle.day.specs.declared.Flight.{Flight}
 use Rattle.day.specs.Day.{Day, day, P, N, mostPeriods, mostFlights, column, flightAt, flightCount, all, inside, flightFits, inRange, isNew, valid, width}
 use Rattle.day.specs.Flights.{firstFlights, flightsOf, rowOf}
@@ -16,7 +16,8 @@ use Rattle.day.proofs.Tests.{all-at, all-from}
 use Rattle.day.proofs.Valid.{valid-means}
 use Rattle.day.proofs.Flights.{length-flights, rows-back}
 use Rattle.sheet.specs.Lines.{used}
-use Rattle.sheet.proofs.Grammar.{Good, distinct, capsFit, flightsFit, fits-more, distinct-more}
+use Rattle.sheet.specs.Good.{distinct, capsFit, flightsFit, Good}
+use Rattle.sheet.proofs.Grammar.{fits-more, distinct-more}
 use Rattle.sheet.proofs.Used.{used-step}
 
 -- the last two tests of the day check: the ranges and the numbers

@@ -6,7 +6,7 @@ use mathlib.Core.Logic.{_⊎_, inl, inr}
 use mathlib.Core.Path.{_≡_, refl, ap, sym, _∙_}
 use mathlib.Core.List.{List, [], _∷_, _++_, append-assoc, append-nil}
 use mathlib.Core.Bool.{Bool, true, false, not, cond, _&&_}
-use lib.ListN.{length, getD, take, drop, length-append, length-drop, drop-of-length-le, take-append-drop}
+use lib.ListN.{length, getD, drop, length-append, length-drop, drop-of-length-le, take-append-drop}
 use lib.Seq.{drop-drop, drop-append-seam}
 use lib.Dec.{ltb, leb, eqb, lit≤}
 use borrow.Author.Tests.{leb-true, eq-eqb, ne-eqb, eqb-true, eqb-false, le-ltb, not-true}
@@ -29,30 +29,8 @@ use Rattle.sheet.specs.declared.FlightLine.the-variants.{Row, NoRow}
 use Rattle.sheet.specs.Text.{periodNames, flightNames, limitText, periodText, beforeLimit, flightText, periodsText, flightsText, sheetText}
 use Rattle.sheet.specs.Lines.{mostDigits, periodLine, flightLine, used}
 use Rattle.sheet.specs.Sheet.{Reading, read, refused, onFlight, onPeriod, readFlights, named, readPeriods, readSheet}
-use Rattle.sheet.proofs.Lines.{short, limit-cases, limitFits, text-missing, text-number, present, period-read, flight-read, period-write, flight-write, fits-small, Small}
-
--- a day within the table's ranges, as lists
-
--- no flight has a number that is used above it
-unfoldable pub distinct : List Flight → List Flight → Bool
-distinct above [] = true
-distinct above (f ∷ fs) = not (used (f .number) above) && distinct (above ++ (f ∷ [])) fs
-
-unfoldable pub capsFit : List ℕ → Bool
-capsFit [] = true
-capsFit (c ∷ cs) = leb c 255 && capsFit cs
-
-unfoldable pub flightsFit : ℕ → List Flight → Bool
-flightsFit p [] = true
-flightsFit p (f ∷ fs) = flightFits p f && flightsFit p fs
-
-pub record Good (caps : List ℕ) (fs : List Flight) : Type 0 where
-  pub some-period : 0 < length caps
-  pub periods : length caps ≤ mostPeriods
-  pub flights : length fs ≤ mostFlights
-  pub caps-fit : capsFit caps ≡ true
-  pub flights-fit : flightsFit (length caps) fs ≡ true
-  pub apart : distinct [] fs ≡ true
+use Rattle.sheet.specs.Good.{distinct, capsFit, flightsFit, Good, limitFits}
+use Rattle.sheet.proofs.Lines.{short, limit-cases, text-missing, text-number, present, period-read, flight-read, period-write, flight-write, fits-small}
 
 -- one line more
 

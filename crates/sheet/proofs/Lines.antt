@@ -1,6 +1,6 @@
 -- A line read is the line written, and back; and one law for each way through the functions that read a line.
 -- Assumes nothing.
-use Prim.Native.Nat.{ℕ, suc, _≤_, _<_, _+_, _-_}
+use Prim.Native.Nat.{ℕ, suc, _≤_, _<_, _+_}
 use native.Mathlib.Omega.{arith}
 use native.Mathlib.Numerals.{add-one}
 use mathlib.Core.Logic.{_⊎_, inl, inr}
@@ -17,21 +17,20 @@ use Rattle.text.specs.declared.Number.{Number}
 use Rattle.text.specs.declared.Number.the-variants.{Value, Bad}
 use Rattle.text.specs.declared.Place.the-variants.{Behind, NoPlace}
 use Rattle.text.proofs.Digits.{first-digit, count-le}
-use Rattle.text.proofs.Reading.{Stands, join, parted, picked, at-place, there, field-read, field-write, open-up, end-no-digit}
-use Rattle.text.proofs.Lines.{AllShort, FieldsHere, LineHere, separated-read, separated-write, line-read, line-write, all-read, none-read, row-read, line-row}
+use Rattle.text.specs.Standing.{Stands, FieldsHere, LineHere}
+use Rattle.text.proofs.Reading.{join, parted, picked, at-place, there, field-read, field-write, open-up, end-no-digit}
+use Rattle.text.proofs.Lines.{separated-read, separated-write, line-read, line-write, all-read, none-read, row-read, line-row}
 use Rattle.day.specs.declared.Flight.{Flight}
-use Rattle.day.specs.Day.{mostPeriods, missing, flightFits}
+use Rattle.day.specs.Day.{mostPeriods, flightFits}
 use Rattle.assignment.proofs.Tests.{and-true}
 use Rattle.day.proofs.Valid.{inside-means}
 use Rattle.sheet.specs.declared.PeriodLine.the-variants.{Period, NoPeriod}
 use Rattle.sheet.specs.declared.FlightLine.the-variants.{Row, NoRow}
 use Rattle.sheet.specs.Text.{limitText, periodText, beforeLimit, flightText}
+use Rattle.sheet.specs.Good.{limitFits, Small}
 use Rattle.sheet.specs.Lines.{mostDigits, periodOf, periodLine, limitRead, withLimit, limitField, flightWith, rowWith, thenLimit, flightLine}
 
 -- the limit
-
-abbrev pub limitFits : ℕ → Bool
-limitFits l = leb l 96 || missing l
 
 pub limit-cases : (l : ℕ) → limitFits l ≡ true → (l ≤ 96) ⊎ (l ≡ 255)
 limit-cases l = go (leb l 96) (eqb l 255) refl refl
@@ -96,7 +95,7 @@ limit-read s at l next = go (eqb (getD s at 0) 45) refl
     go true q r h = from-dash s at l next (eqb-true _ _ q) r
     go false q r h = from-number s at l next r h
 
-pub limit-write : (s : List ℕ) (at l next : ℕ) → limitFits l ≡ true → Stands (limitText l) s at next → limitField s at ≡ Value l next
+limit-write : (s : List ℕ) (at l next : ℕ) → limitFits l ≡ true → Stands (limitText l) s at next → limitField s at ≡ Value l next
 unfolding limitField limitRead
 limit-write s at l next h t = elim (limit-cases l h) [
   | inl k ↦ number k (rw (text-number l (present l k)) at t)
@@ -176,11 +175,6 @@ pub period-write : (s : List ℕ) (at j c next : ℕ) → j < 10000000 → c < 1
 unfolding periodLine periodText
 period-write s at j c next hj hc t =
     rw (line-write {k = 1} {most = mostDigits} {ns = j ∷ []} (record { count = refl; short = (short j hj, tt); last-short = short c hc; stands = t }))
-
--- what the ranges give
-pub record Small (f : Flight) : Type 0 where
-  pub numbers : AllShort mostDigits (beforeLimit f)
-  pub limit : limitFits (f .limit) ≡ true
 
 pub fits-small : (p : ℕ) (f : Flight) → p ≤ mostPeriods → flightFits p f ≡ true → Small f
 unfolding flightFits

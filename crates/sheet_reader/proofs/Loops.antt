@@ -26,28 +26,17 @@ use Rattle.sheet.specs.Lines.{periodLine, flightLine, used}
 use Rattle.sheet.specs.Sheet.{Reading, read, refused, answerOf, readFlights, named, readPeriods, readSheet, reading, capacitiesAfter, flightsAfter}
 use Rattle.sheet.proofs.Lines.{period-read, flight-read, fits-small}
 use Rattle.sheet.proofs.Grammar.{names-front, length-names, length-top, front-length}
-use Rattle.sheet_reader.specs.Loop.{Ready, Few}
+use Rattle.sheet_reader.specs.Loop.{Ready, Few, PeriodsRead, NoPeriods, FlightsRead, NoFlights, Refused}
 use Rattle.sheet_reader.specs.declared.Listing.{Listing}
 use Rattle.sheet_reader.specs.declared.Listing.the-variants.{Listed}
 use Rattle.sheet_reader.specs.declared.Periods.{Periods}
 use Rattle.sheet_reader.specs.declared.Periods.the-variants.{Upto}
 
--- the period lines' loop: n lines are read into the row, and the next one begins at `at`
-pub record PeriodsRead (s caps : List ℕ) (n at : ℕ) : Type 0 where
-  pub upto : n ≤ mostPeriods
-  pub inside : at ≤ length s
-  pub room : length caps ≡ mostPeriods
-  pub so-far : readPeriods mostPeriods s (length periodNames) [] ≡ readPeriods (mostPeriods - n) s at (take n caps)
-
--- what is shown where the loop is left with a refusal
-abbrev Stopped : List ℕ → List ℕ → Answer → Type 0
-Stopped s caps a = (length caps ≡ mostPeriods) × ((readPeriods mostPeriods s (length periodNames) [] ≡ refused a) × Unit {0})
-
 pub periods-start : (s caps : List ℕ) → length periodNames ≤ length s → length caps ≡ mostPeriods → PeriodsRead s caps 0 16
 periods-start s caps h l = record { upto = omega arith; inside = omega (arith, length-top); room = l; so-far = rw length-top refl }
 
 module _ {s caps : List ℕ} {n at : ℕ} (r : PeriodsRead s caps n at) where
-  stop : (a : Answer) → readPeriods (mostPeriods - n) s at (take n caps) ≡ refused a → Stopped s caps a
+  stop : (a : Answer) → readPeriods (mostPeriods - n) s at (take n caps) ≡ refused a → NoPeriods s caps a
   stop a e = (r .room, (r .so-far ∙ e, tt))
 
   count-is : length (take n caps) ≡ n
@@ -62,7 +51,7 @@ module _ {s caps : List ℕ} {n at : ℕ} (r : PeriodsRead s caps n at) where
         go zero = rw e
         go (suc k) = rw e
 
-    pub no-period : n ≡ 0 → Stopped s caps (BadCount at)
+    pub no-period : n ≡ 0 → NoPeriods s caps (BadCount at)
     unfolding named
     no-period h = stop (BadCount at) (names-there ∙ rw (count-is, eq-eqb n 0 h))
 
@@ -75,11 +64,11 @@ module _ {s caps : List ℕ} {n at : ℕ} (r : PeriodsRead s caps n at) where
         (r .room, (r .so-far ∙ (names-there ∙ rw (count-is, ne-eqb n 0 z, length-names)), (r .upto, omega (arith, r .inside, length-names))))
 
   module _ (e : startsWith (drop at s) flightNames ≡ false) where
-    pub full-end : n ≡ mostPeriods → at ≡ length s → Stopped s caps (BadForm at)
+    pub full-end : n ≡ mostPeriods → at ≡ length s → NoPeriods s caps (BadForm at)
     unfolding readPeriods
     full-end h z = let k : mostPeriods - n ≡ 0 = omega arith in stop (BadForm at) (rw (k, e, eq-eqb at (length s) z))
 
-    pub full-more : n ≡ mostPeriods → (at ≡ length s → ⊥) → Stopped s caps (BadCount at)
+    pub full-more : n ≡ mostPeriods → (at ≡ length s → ⊥) → NoPeriods s caps (BadCount at)
     unfolding readPeriods
     full-more h z = let k : mostPeriods - n ≡ 0 = omega arith in stop (BadCount at) (rw (k, e, ne-eqb at (length s) z))
 
@@ -87,16 +76,16 @@ module _ {s caps : List ℕ} {n at : ℕ} (r : PeriodsRead s caps n at) where
       one-more : mostPeriods - n ≡ suc (mostPeriods - (n + 1))
       one-more = omega (arith, r .upto)
 
-      pub period-form : periodLine s at ≡ NoPeriod → Stopped s caps (BadForm at)
+      pub period-form : periodLine s at ≡ NoPeriod → NoPeriods s caps (BadForm at)
       unfolding readPeriods
       period-form p = stop (BadForm at) (rw (one-more, e, p))
 
       module _ {j c next : ℕ} (p : periodLine s at ≡ Period j c next) where
-        pub period-count : (j ≡ n + 1 → ⊥) → Stopped s caps (OutOfRange at)
+        pub period-count : (j ≡ n + 1 → ⊥) → NoPeriods s caps (OutOfRange at)
         unfolding readPeriods
         period-count z = stop (OutOfRange at) (rw (one-more, e, p, count-is, ne-eqb j (n + 1) z))
 
-        pub period-range : j ≡ n + 1 → 255 < c → Stopped s caps (OutOfRange at)
+        pub period-range : j ≡ n + 1 → 255 < c → NoPeriods s caps (OutOfRange at)
         unfolding readPeriods
         period-range z q = stop (OutOfRange at) (rw (one-more, e, p, count-is, eq-eqb j (n + 1) z, lt-leb c 255 q))
 
@@ -125,26 +114,13 @@ copy-step from to₀ to i h g e =
       append-assoc,
     )
 
--- the flight lines' loop, on a day of p periods: n flights stand in the row, and the next line begins at `at`
-pub record FlightsRead (s : List ℕ) (start p : ℕ) (row : List ℕ) (n at : ℕ) : Type 0 where
-  pub upto : n ≤ mostFlights
-  pub inside : at ≤ length s
-  pub periods : p ≤ mostPeriods
-  pub room : length row ≡ mostFlights * width
-  pub so-far : (caps : List ℕ) → length caps ≡ p → readFlights mostFlights s start caps [] ≡ readFlights (mostFlights - n) s at caps (firstFlights n row)
-
--- what is shown where the loop is left with a refusal
-abbrev Halted : List ℕ → ℕ → ℕ → List ℕ → Answer → Type 0
-Halted s start p row a =
-    (length row ≡ mostFlights * width) × (Unit {0} × ((caps : List ℕ) → length caps ≡ p → readFlights mostFlights s start caps [] ≡ refused a))
-
 pub flights-start : (s : List ℕ) (start p : ℕ) (row : List ℕ) → start ≤ length s → p ≤ mostPeriods → length row ≡ mostFlights * width
     → FlightsRead s start p row 0 start
 unfolding firstFlights
 flights-start s start p row h f l = record { upto = omega arith; inside = h; periods = f; room = l; so-far = λ caps k. refl }
 
 module _ {s : List ℕ} {start p : ℕ} {row : List ℕ} {n at : ℕ} (r : FlightsRead s start p row n at) where
-  halt : (a : Answer) → ((caps : List ℕ) → length caps ≡ p → readFlights (mostFlights - n) s at caps (firstFlights n row) ≡ refused a) → Halted s start p row a
+  halt : (a : Answer) → ((caps : List ℕ) → length caps ≡ p → readFlights (mostFlights - n) s at caps (firstFlights n row) ≡ refused a) → NoFlights s start p row a
   halt a e = (r .room, (tt, λ caps k. r .so-far caps k ∙ e caps k))
 
   pub flights-end : length s ≤ at
@@ -161,7 +137,7 @@ module _ {s : List ℕ} {start p : ℕ} {row : List ℕ} {n at : ℕ} (r : Fligh
     not-end : eqb at (length s) ≡ false
     not-end = ne-eqb at (length s) (λ e. omega arith)
 
-    pub flights-full : n ≡ mostFlights → Halted s start p row (BadCount at)
+    pub flights-full : n ≡ mostFlights → NoFlights s start p row (BadCount at)
     unfolding readFlights
     flights-full h = let k : mostFlights - n ≡ 0 = omega arith in halt (BadCount at) (λ caps l. rw (k, not-end))
 
@@ -169,16 +145,16 @@ module _ {s : List ℕ} {start p : ℕ} {row : List ℕ} {n at : ℕ} (r : Fligh
       another : mostFlights - n ≡ suc (mostFlights - (n + 1))
       another = omega (arith, r .upto)
 
-      pub flight-form : flightLine s at ≡ NoRow → Halted s start p row (BadForm at)
+      pub flight-form : flightLine s at ≡ NoRow → NoFlights s start p row (BadForm at)
       unfolding readFlights
       flight-form e = halt (BadForm at) (λ caps l. rw (another, not-end, e))
 
       module _ {f : Flight} {next : ℕ} (e : flightLine s at ≡ Row f next) where
-        pub flight-range : flightFits p f ≡ false → Halted s start p row (OutOfRange at)
+        pub flight-range : flightFits p f ≡ false → NoFlights s start p row (OutOfRange at)
         unfolding readFlights
         flight-range q = halt (OutOfRange at) (λ caps l. rw (another, not-end, e, l, q))
 
-        pub flight-again : flightFits p f ≡ true → used (f .number) (firstFlights n row) ≡ true → Halted s start p row (NumberUsed at)
+        pub flight-again : flightFits p f ≡ true → used (f .number) (firstFlights n row) ≡ true → NoFlights s start p row (NumberUsed at)
         unfolding readFlights
         flight-again q u = halt (NumberUsed at) (λ caps l. rw (another, not-end, e, l, q, u))
 
@@ -198,34 +174,40 @@ module _ {s : List ℕ} {start p : ℕ} {row : List ℕ} {n at : ℕ} (r : Fligh
 
 -- the whole call
 
+pub refused-so : (R : Reading) (a : Answer) (caps flights : List ℕ) → R ≡ refused a → Refused R caps flights a
+refused-so R a caps flights e = rw e (refl, (refl, refl))
+
 module _ (s caps flights : List ℕ) where
-  pub call-caps : (length caps ≡ mostPeriods → ⊥) → reading s caps flights ≡ refused (BadLength mostPeriods)
+  pub call-caps : (length caps ≡ mostPeriods → ⊥) → Refused (reading s caps flights) caps flights (BadLength mostPeriods)
   unfolding reading
-  call-caps h = rw (ne-eqb (length caps) mostPeriods h)
+  call-caps h = refused-so (reading s caps flights) (BadLength mostPeriods) caps flights (rw (ne-eqb (length caps) mostPeriods h))
 
-  pub call-flights : length caps ≡ mostPeriods → (length flights ≡ mostFlights * width → ⊥) → reading s caps flights ≡ refused (BadLength (mostFlights * width))
-  unfolding reading
-  call-flights h g = rw (eq-eqb (length caps) mostPeriods h, ne-eqb (length flights) (mostFlights * width) g)
+  module _ (h : length caps ≡ mostPeriods) where
+    pub call-flights : (length flights ≡ mostFlights * width → ⊥) → Refused (reading s caps flights) caps flights (BadLength (mostFlights * width))
+    unfolding reading
+    call-flights g =
+        refused-so (reading s caps flights) (BadLength (mostFlights * width)) caps flights (rw (eq-eqb (length caps) mostPeriods h, ne-eqb (length flights) (mostFlights * width) g))
 
-  module _ (h : length caps ≡ mostPeriods) (g : length flights ≡ mostFlights * width) where
-    pub call-long : 8192 < length s → reading s caps flights ≡ refused TooLong
-    unfolding reading readSheet
-    call-long l = rw (eq-eqb (length caps) mostPeriods h, eq-eqb (length flights) (mostFlights * width) g, lt-ltb 8192 (length s) l)
+    module _ (g : length flights ≡ mostFlights * width) where
+      sheet-read : reading s caps flights ≡ readSheet s
+      unfolding reading
+      sheet-read = rw (eq-eqb (length caps) mostPeriods h, eq-eqb (length flights) (mostFlights * width) g)
 
-    pub call-top : length s ≤ 8192 → startsWith s periodNames ≡ false → reading s caps flights ≡ refused (BadForm 0)
-    unfolding reading readSheet
-    call-top l t = rw (eq-eqb (length caps) mostPeriods h, eq-eqb (length flights) (mostFlights * width) g, le-ltb 8192 (length s) l, t)
+      pub call-long : 8192 < length s → Refused (reading s caps flights) caps flights TooLong
+      unfolding readSheet
+      call-long l = refused-so (reading s caps flights) TooLong caps flights (sheet-read ∙ rw (lt-ltb 8192 (length s) l))
 
-    pub call-on : length s ≤ 8192 → startsWith s periodNames ≡ true → reading s caps flights ≡ readPeriods mostPeriods s (length periodNames) []
-    unfolding reading readSheet
-    call-on l t = rw (eq-eqb (length caps) mostPeriods h, eq-eqb (length flights) (mostFlights * width) g, le-ltb 8192 (length s) l, t)
+      module _ (l : length s ≤ 8192) where
+        pub call-top : startsWith s periodNames ≡ false → Refused (reading s caps flights) caps flights (BadForm 0)
+        unfolding readSheet
+        call-top t = refused-so (reading s caps flights) (BadForm 0) caps flights (sheet-read ∙ rw (le-ltb 8192 (length s) l, t))
+
+        pub call-on : startsWith s periodNames ≡ true → reading s caps flights ≡ readPeriods mostPeriods s (length periodNames) []
+        unfolding readSheet
+        call-on t = sheet-read ∙ rw (le-ltb 8192 (length s) l, t)
 
 pub top-within : (s : List ℕ) → startsWith s periodNames ≡ true → length periodNames ≤ length s
 top-within s e = omega (arith, length-take (length periodNames) s, ap length (starts-is s periodNames e))
-
-pub refused-so : (R : Reading) (a : Answer) (caps flights : List ℕ) → R ≡ refused a
-    → (a ≡ answerOf R) × ((caps ≡ capacitiesAfter R caps) × (flights ≡ flightsAfter R flights))
-refused-so R a caps flights e = rw e (refl, (refl, refl))
 
 pub read-so : (R : Reading) (C row caps flights : List ℕ) (p n : ℕ) → R ≡ read C (firstFlights n row) → length C ≡ p → n * width ≤ length row
     → (caps′ flights′ : List ℕ) → caps′ ≡ C ++ drop p caps → flights′ ≡ take (n * width) row ++ drop (n * width) flights

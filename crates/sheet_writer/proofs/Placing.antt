@@ -9,7 +9,7 @@ use mathlib.Core.Bool.{true, false}
 use lib.ListN.{length, getD, take, drop, set, length-append, take-append-drop}
 use lib.Seq.{take-suc, length-take-le}
 use Rattle.answers.specs.declared.Answer.the-variants.{Written, BadDay, BadLength}
-use Rattle.text.specs.Digits.{separated, line}
+use Rattle.text.specs.Digits.{separated}
 use Rattle.text.specs.Writing.{Put}
 use Rattle.text.proofs.Writing.{placed-zero, then, not-fits, it-fits}
 use Rattle.day.specs.declared.Flight.{Flight}
@@ -85,7 +85,7 @@ no-flights row = refl
 
 -- the whole
 
-pub length-sheet : (caps : List ℕ) (fs : List Flight) → length (sheetText caps fs) ≡ length (periodsText 1 caps) + length (flightsText fs) + 49
+length-sheet : (caps : List ℕ) (fs : List Flight) → length (sheetText caps fs) ≡ length (periodsText 1 caps) + length (flightsText fs) + 49
 unfolding sheetText
 length-sheet caps fs = simp length-append (omega (arith, length-top, length-names))
 

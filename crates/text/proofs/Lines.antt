@@ -10,31 +10,15 @@ use mathlib.Core.List.{List, [], _∷_, _++_, append-assoc, append-nil}
 use lib.ListN.{length, getD, take, drop, set, length-append, length-set, drop-of-length-le, take-append-drop}
 use lib.Seq.{take-suc-set, drop-set-lt, drop-cons, length-take-le}
 use lib.Dec.{lit<}
-use Rattle.text.specs.Digits.{digits, ended, separated, line}
-use Rattle.text.specs.Reading.{field, Numbers, whole, upto, numbersRead, placeOf, withFront, thenNumbers, separatedAt, rowAfter, Line, values, noLine, lastOf, withLast, thenLast, lineAt}
+use Rattle.text.specs.Digits.{ended, separated, line}
+use Rattle.text.specs.Reading.{field, Numbers, whole, upto, numbersRead, placeOf, withFront, thenNumbers, separatedAt, rowAfter, values, lastOf, withLast, thenLast, lineAt}
+use Rattle.text.specs.Standing.{AllShort, FieldsHere, LineHere}
+use Rattle.text.specs.Loops.{Walk}
 use Rattle.text.specs.declared.Number.{Number}
 use Rattle.text.specs.declared.Number.the-variants.{Value, Bad}
 use Rattle.text.specs.declared.Place.the-variants.{Behind, NoPlace}
-use Rattle.text.proofs.Reading.{Stands, within, join, parted, FieldHere, field-read, field-write, open-up, end-no-digit, comma-no-digit}
+use Rattle.text.proofs.Reading.{within, join, parted, field-read, field-write, open-up, end-no-digit, comma-no-digit}
 use Rattle.text.proofs.Digits.{length-ended, first-digit}
-
--- each of the numbers has at most `most` digits
-abbrev pub AllShort : ℕ → List ℕ → Type 0
-AllShort most [] = Unit {0}
-AllShort most (n ∷ ns) = (length (digits n) ≤ most) × AllShort most ns
-
--- k numbers of at most `most` digits stand from `at` to `next`, each with a comma behind it
-pub record FieldsHere (k most : ℕ) (s : List ℕ) (at : ℕ) (ns : List ℕ) (next : ℕ) : Type 0 where
-  pub count : length ns ≡ k
-  pub short : AllShort most ns
-  pub stands : Stands (separated ns) s at next
-
--- a line of k numbers and a last one, all of at most `most` digits, stands from `at` to `next`
-pub record LineHere (k most : ℕ) (s : List ℕ) (at : ℕ) (ns : List ℕ) (last next : ℕ) : Type 0 where
-  pub count : length ns ≡ k
-  pub short : AllShort most ns
-  pub last-short : length (digits last) ≤ most
-  pub stands : Stands (line ns last) s at next
 
 read-all : (k most : ℕ) (s : List ℕ) (at : ℕ) (ns : List ℕ) (next : ℕ) → separatedAt k most s at ≡ whole ns next → FieldsHere k most s at ns next
 unfolding separatedAt separated
@@ -117,14 +101,6 @@ line-read e = line-law _ _ _ _ _ _ _ .0 e
 pub line-write : {k most : ℕ} {s : List ℕ} {at : ℕ} {ns : List ℕ} {last next : ℕ} → LineHere k most s at ns last next
     → lineAt k most s at ≡ values ns last next
 line-write f = line-law _ _ _ _ _ _ _ .1 f
-
--- the loop that reads separated numbers: i of them are read, the next one begins at `next`, and the rest of the row is as it was
-pub record Walk (s : List ℕ) (at most : ℕ) (row₀ row : List ℕ) (i next : ℕ) : Type 0 where
-  pub upto : i ≤ length row₀
-  pub long : length row ≡ length row₀
-  pub within : next ≤ length s
-  pub rest : drop i row ≡ drop i row₀
-  pub so-far : separatedAt (length row₀) most s at ≡ withFront (take i row) (separatedAt (length row₀ - i) most s next)
 
 no-front : (x : Numbers) → x ≡ withFront [] x
 no-front (whole ns next) = refl

@@ -14,9 +14,11 @@ use lib.Dec.{ltb, leb, eqb, lit<}
 use borrow.Author.Tests.{le-leb, leb-true, leb-false, ltb-false, eq-eqb, ne-eqb, eqb-true, eqb-false, lt-ltb, le-ltb}
 use Rattle.text.specs.Digits.{digits, ended}
 use Rattle.text.specs.Reading.{isDigit, run, value, zeroFirst, numberOf, number, endedBy, field}
+use Rattle.text.specs.Standing.{Stands, FieldHere}
+use Rattle.text.specs.Loops.{dec}
 use Rattle.text.specs.declared.Number.{Number}
 use Rattle.text.specs.declared.Number.the-variants.{Value, Bad}
-use Rattle.text.proofs.Digits.{split, digits-short, digits-long, by-digits, count-short, count-pos, count-is, count-le, first-pos, dec, digits-dec, length-ended}
+use Rattle.text.proofs.Digits.{split, digits-short, digits-long, by-digits, count-short, count-pos, count-is, first-pos, digits-dec, length-ended}
 
 -- runs of digits
 
@@ -47,7 +49,11 @@ pub and-true : (a b : Bool) → a && b ≡ true → (a ≡ true) × (b ≡ true)
 and-true true b e = (refl, e)
 and-true false b e = (e, cc)
 
-pub digit-bounds : (d : ℕ) → isDigit d ≡ true → (48 ≤ d) × (d ≤ 57)
+and-false : (b : Bool) → b && false ≡ false
+and-false true = refl
+and-false false = refl
+
+digit-bounds : (d : ℕ) → isDigit d ≡ true → (48 ≤ d) × (d ≤ 57)
 unfolding isDigit
 digit-bounds d e = let p = and-true (leb 48 d) (leb d 57) e in (leb-true 48 d (p .0), leb-true d 57 (p .1))
 
@@ -80,7 +86,7 @@ value-snoc acc [] d = refl
 value-snoc acc (x ∷ xs) d = value-snoc (acc * 10 + (x - 48)) xs d
 
 -- digits write their number
-pub value-digits : (n : ℕ) → value 0 (digits n) ≡ n
+value-digits : (n : ℕ) → value 0 (digits n) ≡ n
 unfolding value
 value-digits n = by-digits (λ n. value 0 (digits n) ≡ n) (λ n h. rw (digits-short n h) (omega arith)) more n
   where
@@ -91,12 +97,8 @@ no-zero : (n : ℕ) → zeroFirst (digits n) ≡ false
 unfolding zeroFirst
 no-zero n = elim (split n 10) [ inl h ↦ short h | inr h ↦ rw (ne-eqb (getD (digits n) 0 0) 48 (λ e. omega (arith, rw append-nil at (first-pos n (omega arith) [])))) ]
   where
-    ended-false : (b : Bool) → b && false ≡ false
-    ended-false true = refl
-    ended-false false = refl
-
     short : n < 10 → eqb (getD (digits n) 0 0) 48 && ltb 1 (length (digits n)) ≡ false
-    short h = rw (count-short n h) (ended-false (eqb (getD (digits n) 0 0) 48))
+    short h = rw (count-short n h) (and-false (eqb (getD (digits n) 0 0) 48))
 
 -- digits at a place, and no digit behind them, are read as their number
 number-digits : (most : ℕ) (s : List ℕ) (at n x : ℕ) (ys : List ℕ) → length (digits n) ≤ most → isDigit x ≡ false → drop at s ≡ digits n ++ (x ∷ ys)
@@ -116,6 +118,7 @@ number-digits most s at n x ys h d e =
 
 -- the other way round
 
+-- bytes that are digits
 allDigits : List ℕ → Type 0
 allDigits [] = Unit {0}
 allDigits (d ∷ ds) = (48 ≤ d) × (d ≤ 57) × allDigits ds
@@ -247,11 +250,6 @@ there s x h = go (leb (length s) x) refl
     go true e = absurd (omega (arith, List·getD-eq-default s 0 {n = x} (leb-true _ _ e)))
     go false e = leb-false _ _ e
 
--- a text stands from `at` to `next`
-pub record Stands (t s : List ℕ) (at next : ℕ) : Type 0 where
-  pub text : drop at s ≡ t ++ drop next s
-  pub place : next ≡ at + length t
-
 pub within : {t s : List ℕ} {at next : ℕ} → Stands t s at next → at ≤ length s → next ≤ length s
 within {t} {s} {at} {next} a h = omega (arith, a .place, length-drop at s, simp length-append at (ap length (a .text)))
 
@@ -286,10 +284,6 @@ unfolding isDigit
 comma-no-digit = refl
 
 -- a field read at a place is a number of at most `most` digits, written there with its end byte, and back
-
-pub record FieldHere (most e : ℕ) (s : List ℕ) (at n next : ℕ) : Type 0 where
-  pub short : length (digits n) ≤ most
-  pub stands : Stands (ended e n) s at next
 
 pub field-read : {most e : ℕ} {s : List ℕ} {at n next : ℕ} → 0 < e → field most e s at ≡ Value n next → FieldHere most e s at n next
 unfolding field ended
@@ -374,11 +368,7 @@ module _ (most : ℕ) (s : List ℕ) (at k : ℕ) (e : k ≡ length (run (drop a
 
   pub number-one : k ≤ 1 → 0 < k → k ≤ most → Value (value 0 (run (drop at s))) (at + k) ≡ number most s at
   unfolding zeroFirst
-  number-one o h g = value-when (rw (← e, le-ltb 1 k o) (go (eqb (getD (run (drop at s)) 0 0) 48))) h g
-    where
-      go : (b : Bool) → b && false ≡ false
-      go true = refl
-      go false = refl
+  number-one o h g = value-when (rw (← e, le-ltb 1 k o) (and-false (eqb (getD (run (drop at s)) 0 0) 48))) h g
 
   pub number-more : 1 < k → k ≤ most → (getD s at 0 ≡ 48 → ⊥) → Value (value 0 (run (drop at s))) (at + k) ≡ number most s at
   unfolding zeroFirst

@@ -12,7 +12,8 @@ use Rattle.answers.specs.declared.Answer.the-variants.{Written, BadLength}
 use Rattle.text.specs.Digits.{digits, ended, separated, line}
 use Rattle.text.specs.Fixed.{refusalNames, refusalText}
 use Rattle.text.specs.Writing.{placed, fits, textAnswer, textAfter, Put}
-use Rattle.text.proofs.Digits.{dec, length-dec, digits-dec, separated-snoc}
+use Rattle.text.specs.Loops.{dec, Grown}
+use Rattle.text.proofs.Digits.{length-dec, digits-dec, separated-snoc}
 
 -- the number writer's loop, from the last digit on
 
@@ -57,7 +58,7 @@ lent o t at r part h p =
     let a : take (length o - at) (drop at o) ≡ drop at o = take-all (length o - at) (drop at o) (rw length-drop (omega arith)) in
     record { place = omega (arith, p .place); bytes = rw (p .bytes, placed-zero, z, a, drop-drop, append-nil) }
 
-pub length-placed : (o t : List ℕ) (at : ℕ) → at + length t ≤ length o → length (placed o at t) ≡ length o
+length-placed : (o t : List ℕ) (at : ℕ) → at + length t ≤ length o → length (placed o at t) ≡ length o
 unfolding placed
 length-placed o t at h = simp (length-append, length-drop, length-take-le at o (omega arith)) (omega arith)
 
@@ -87,11 +88,6 @@ unfolding placed
 put-none o at h =
     let z : at + 0 ≡ at = omega arith in
     record { place = sym z; bytes = rw z (sym (take-append-drop at o)) }
-
--- a buffer that is filled text by text: `t` stands from `start` to `at`
-pub record Grown (o : List ℕ) (start : ℕ) (t out : List ℕ) (at : ℕ) : Type 0 where
-  pub long : length out ≡ length o
-  pub put : Put o start t at out
 
 pub grown-none : (o : List ℕ) (start : ℕ) → start ≤ length o → Grown o start [] o start
 grown-none o start h = record { long = refl; put = put-none o start h }

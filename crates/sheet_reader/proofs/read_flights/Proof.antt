@@ -3,7 +3,8 @@ use borrow.Author.Needs.{needs}
 use Rattle.day.specs.Day.{mostFlights, flightFits}
 use Rattle.sheet.specs.Lines.{flightLine}
 use Rattle.sheet.specs.declared.FlightLine.the-variants.{Row}
-use Rattle.sheet_reader.proofs.Loops.{FlightsRead, flights-start, flights-end, flights-full, flight-form, flight-range, flight-again, flight-next}
+use Rattle.sheet_reader.specs.Loop.{FlightsRead}
+use Rattle.sheet_reader.proofs.Loops.{flights-start, flights-end, flights-full, flight-form, flight-range, flight-again, flight-next}
 use Prim.Native.Nat.{ℕ, _-_}
 use mathlib.Core.Bool.{true}
 use mathlib.Core.List.{List}

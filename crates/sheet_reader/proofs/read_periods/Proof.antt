@@ -1,7 +1,8 @@
 -- The whole reading is the reading of what is left, after the capacities read so far.
 use borrow.Author.Needs.{needs}
 use Rattle.day.specs.Day.{mostPeriods}
-use Rattle.sheet_reader.proofs.Loops.{PeriodsRead, periods-start, no-period, some-period, full-end, full-more, period-form, period-count, period-range, period-next}
+use Rattle.sheet_reader.specs.Loop.{PeriodsRead}
+use Rattle.sheet_reader.proofs.Loops.{periods-start, no-period, some-period, full-end, full-more, period-form, period-count, period-range, period-next}
 use Rattle.text.specs.Fixed.{startsWith}
 use Rattle.sheet.specs.Text.{flightNames}
 use Rattle.sheet.specs.Lines.{periodLine}

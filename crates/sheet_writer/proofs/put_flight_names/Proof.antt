@@ -2,7 +2,6 @@
 use Rattle.text.proofs.Writing.{lent}
 use Rattle.sheet.proofs.Grammar.{length-names}
 use Rattle.sheet.specs.Text.{flightNames}
-use Prim.Native.Nat.{_-_}
 use native.Mathlib.Omega.{arith}
 use lib.ListN.{length-take, length-drop}
 use borrow.Author.Needs.{needs}

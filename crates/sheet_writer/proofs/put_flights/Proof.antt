@@ -1,6 +1,7 @@
 -- After i turns the first i lines are written.
 use borrow.Author.Needs.{needs}
-use Rattle.text.proofs.Writing.{Grown, grown-none, grown-room, grown-more}
+use Rattle.text.specs.Loops.{Grown}
+use Rattle.text.proofs.Writing.{grown-none, grown-room, grown-more}
 use Rattle.sheet_writer.proofs.Placing.{flight-part, flight-room, no-flights}
 use Rattle.day.specs.Flights.{firstFlights}
 use Rattle.day.specs.Day.{flightAt}

@@ -1,7 +1,6 @@
 -- The part lent on is the rest of the buffer.
 use Rattle.text.proofs.Writing.{lent}
 use Rattle.sheet.specs.Text.{periodText}
-use Prim.Native.Nat.{_-_}
 use native.Mathlib.Omega.{arith}
 use lib.ListN.{length-take, length-drop}
 use borrow.Author.Needs.{needs}

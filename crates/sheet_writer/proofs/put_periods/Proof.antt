@@ -1,5 +1,6 @@
 -- After i turns the first i lines are written.
-use Rattle.text.proofs.Writing.{Grown, grown-none, grown-room, grown-more}
+use Rattle.text.specs.Loops.{Grown}
+use Rattle.text.proofs.Writing.{grown-none, grown-room, grown-more}
 use Rattle.sheet_writer.proofs.Placing.{period-part, no-periods}
 use Rattle.sheet.specs.Text.{periodText, periodsText}
 use borrow.Author.Needs.{needs}

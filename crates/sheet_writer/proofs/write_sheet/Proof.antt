@@ -1,11 +1,11 @@
 -- A valid day gives the bounds, and its text fits or not.
 use Rattle.text.proofs.Writing.{lent}
-use Rattle.day.specs.Day.{Day, day, N, valid}
+use Rattle.day.specs.Day.{Day, day, valid}
 use Rattle.day.specs.Flights.{firstFlights}
 use Rattle.day.proofs.Valid.{valid-means}
 use Rattle.sheet.specs.Text.{sheetText, sheetOf}
 use Rattle.sheet_writer.proofs.Placing.{bad-day, too-short, all-written, needed-is, text-of}
-use Prim.Native.Nat.{ℕ, _≤_, _+_, _-_}
+use Prim.Native.Nat.{ℕ, _≤_, _+_}
 use native.Mathlib.Omega.{arith}
 use mathlib.Core.Path.{_≡_, ap, sym, _∙_}
 use mathlib.Core.Bool.{true}

@@ -15,9 +15,13 @@ returns c = number-none _ _ _ _ (c .before .run-len .ensures) (c .if1 .taken)
 returns-2 : tie.Need-returns-2
 returns-2 c = number-long _ _ _ _ (c .before .before .run-len .ensures) (c .if2 .taken)
 
+-- where there are some digits, seen from where there are more than one
+abbrev tested : tie.Then3 → tie.Else1
+tested c = c .before .before
+
 shared-slice-read-if4 : tie.Need-shared-slice-read-if4
 shared-slice-read-if4 c =
-    let a = c .before .before .before .before .before .before .args in
+    let a = tested (c .before) .before .before .before .args in
     run-pos (a .s .now) (a .at) (omega arith) .0
 
 returns-3 : tie.Need-returns-3

@@ -2,7 +2,6 @@
 
 use Rattle.text.proofs.Writing.{lent}
 use borrow.Author.Needs.{needs}
-use Prim.Native.Nat.{_-_}
 use native.Mathlib.Omega.{arith}
 use Rattle.text.proofs.put_next.Statement.{statement}
 use Rattle.text.proofs.put_next.Tie as tie

@@ -1,6 +1,7 @@
 -- After i turns the first i numbers stand in the row, and the whole is those and what is left to read.
 use borrow.Author.Needs.{needs}
-use Rattle.text.proofs.Lines.{Walk, walk-start, walk-next, walk-stop, walk-end}
+use Rattle.text.specs.Loops.{Walk}
+use Rattle.text.proofs.Lines.{walk-start, walk-next, walk-stop, walk-end}
 use Prim.Native.Nat.{_-_}
 use lib.ListN.{length}
 use mathlib.Core.Path.{sym, _∙_}
