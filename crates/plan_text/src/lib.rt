@@ -3,7 +3,6 @@ ghost use mathlib.Core.Path.{_≡_};
 ghost use mathlib.Core.List.{[], _∷_};
 ghost use Prim.Native.Nat.{_+_, _*_, _≤_, _<_};
 ghost use lib.ListN.{length};
-ghost use Rattle.text.specs.Digits.{ended};
 ghost use Rattle.text.specs.Writing.{Put, textAnswer, textAfter};
 ghost use Rattle.day.specs.Day.{lent, mostFlights, width, column, flightAt, flightCount, holdCost, hold, landOf, totalOf};
 ghost use Rattle.plan_text.specs.PlanText.{planNames, totalName, planLine, planLines, planText, planTextAnswer, planTextAfter};
@@ -18,8 +17,9 @@ use legality::check_plan;
 use text::line_len;
 use text::number_len;
 use text::put_fixed;
-use text::put_line;
-use text::put_number;
+use text::put_fixed_at;
+use text::put_line_at;
+use text::put_number_at;
 
 const LINE_END: u8 = 10;
 
@@ -50,15 +50,14 @@ fn cost_at(flights: &[u32], holds: &[u32], i: usize) -> usize
     cost_of(flights, i, wide(holds[i]))
 }
 
-// The line of the flight at table place i from `at` on: the part that starts there is lent on.
+// The line of the flight at table place i from `at` on.
 fn put_plan_line(out: &mut [u8], at: usize, flights: &[u32], holds: &[u32], i: usize) -> usize
     requires { ⌜ (i < length (now holds)) × ((i + 1) * width ≤ length (now flights)) × (at + length (planLine (now flights) (now holds) i) ≤ length (now out)) ⌝ }
     ensures { λ r. ⌜ Put (now (out .entry)) at (planLine (now (flights .entry)) (now (holds .entry)) i) r (now (out .exit)) ⌝ }
 {
     let values = values_of(flights, holds, i);
     let cost = cost_at(flights, holds, i);
-    let k = put_line(&mut out[at..], &values, cost);
-    at + k
+    put_line_at(out, at, &values, cost)
 }
 
 fn plan_line_len(flights: &[u32], holds: &[u32], i: usize) -> usize
@@ -106,16 +105,7 @@ fn put_total_name(out: &mut [u8], at: usize) -> usize
     requires { ⌜ at + length totalName ≤ length (now out) ⌝ }
     ensures { λ r. ⌜ Put (now (out .entry)) at totalName r (now (out .exit)) ⌝ }
 {
-    let k = put_fixed(&mut out[at..], &TOTAL_NAME);
-    at + k
-}
-
-fn put_total(out: &mut [u8], at: usize, sum: usize) -> usize
-    requires { ⌜ at + length (ended 10 sum) ≤ length (now out) ⌝ }
-    ensures { λ r. ⌜ Put (now (out .entry)) at (ended 10 sum) r (now (out .exit)) ⌝ }
-{
-    let k = put_number(&mut out[at..], sum, LINE_END);
-    at + k
+    put_fixed_at(out, at, &TOTAL_NAME)
 }
 
 // The whole text, at the front of out.
@@ -126,7 +116,7 @@ fn fill_plan(out: &mut [u8], flights: &[u32], holds: &[u32], sum: usize) -> usiz
     let a = put_plan_names(out);
     let b = put_plan_lines(out, a, flights, holds);
     let c = put_total_name(out, b);
-    put_total(out, c, sum)
+    put_number_at(out, c, sum, LINE_END)
 }
 
 // How many bytes the text takes.

@@ -23,7 +23,8 @@ use text::LINE_END;
 use text::line_len;
 use text::number_len;
 use text::put_fixed;
-use text::put_line;
+use text::put_fixed_at;
+use text::put_line_at;
 use text::put_number;
 use text::put_separated;
 use text::separated_len;
@@ -107,8 +108,7 @@ fn put_period_at(out: &mut [u8], at: usize, j: usize, capacity: usize) -> usize
     ensures { λ r. ⌜ Put (now (out .entry)) at (periodText j capacity) r (now (out .exit)) ⌝ }
 {
     let values = [j];
-    let k = put_line(&mut out[at..], &values, capacity);
-    at + k
+    put_line_at(out, at, &values, capacity)
 }
 
 fn period_len(j: usize, capacity: usize) -> usize
@@ -181,8 +181,7 @@ fn put_flight_names(out: &mut [u8], at: usize) -> usize
     requires { ⌜ at + length flightNames ≤ length (now out) ⌝ }
     ensures { λ r. ⌜ Put (now (out .entry)) at flightNames r (now (out .exit)) ⌝ }
 {
-    let k = put_fixed(&mut out[at..], &FLIGHT_NAMES);
-    at + k
+    put_fixed_at(out, at, &FLIGHT_NAMES)
 }
 
 // The whole sheet, at the front of out.

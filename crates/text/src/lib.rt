@@ -207,12 +207,20 @@ pub fn put_fixed(out: &mut [u8], w: &[u8]) -> usize
     i
 }
 
-// A number from `at` on: the part that starts there is lent on.
-fn put_next(out: &mut [u8], at: usize, n: usize, e: u8) -> usize
+// The same from `at` on: the part that starts there is lent on.
+pub fn put_number_at(out: &mut [u8], at: usize, n: usize, e: u8) -> usize
     requires { ⌜ at + length (ended e n) ≤ length (now out) ⌝ }
     ensures { λ r. ⌜ Put (now (out .entry)) at (ended e n) r (now (out .exit)) ⌝ }
 {
     let k = put_number(&mut out[at..], n, e);
+    at + k
+}
+
+pub fn put_fixed_at(out: &mut [u8], at: usize, w: &[u8]) -> usize
+    requires { ⌜ at + length (now w) ≤ length (now out) ⌝ }
+    ensures { λ r. ⌜ Put (now (out .entry)) at (now (w .entry)) r (now (out .exit)) ⌝ }
+{
+    let k = put_fixed(&mut out[at..], w);
     at + k
 }
 
@@ -224,7 +232,7 @@ pub fn put_separated(out: &mut [u8], numbers: &[usize]) -> usize
     let mut at: usize = 0;
     let mut i: usize = 0;
     while i < numbers.len() {
-        at = put_next(out, at, numbers[i], COMMA);
+        at = put_number_at(out, at, numbers[i], COMMA);
         i += 1;
     }
     at
@@ -236,7 +244,16 @@ pub fn put_line(out: &mut [u8], numbers: &[usize], last: usize) -> usize
     ensures { λ r. ⌜ Put (now (out .entry)) 0 (line (now (numbers .entry)) last) r (now (out .exit)) ⌝ }
 {
     let at = put_separated(out, numbers);
-    put_next(out, at, last, LINE_END)
+    put_number_at(out, at, last, LINE_END)
+}
+
+// A line of numbers from `at` on.
+pub fn put_line_at(out: &mut [u8], at: usize, numbers: &[usize], last: usize) -> usize
+    requires { ⌜ at + length (line (now numbers) last) ≤ length (now out) ⌝ }
+    ensures { λ r. ⌜ Put (now (out .entry)) at (line (now (numbers .entry)) last) r (now (out .exit)) ⌝ }
+{
+    let k = put_line(&mut out[at..], numbers, last);
+    at + k
 }
 
 // How many bytes a number and the byte that ends its field take.

@@ -32,8 +32,8 @@ put-total-name-requires c κs =
     let h = a .holds .now in
     omega (arith, length-plan f h (at-start .pre .0) (at-start .pre .1), length-plan-names, length-total-name, at-start .pre .3, at-put-plan-names .put-plan-names .ensures .place, at-put-plan-names .put-plan-names .kept, at-put-plan-lines .put-plan-lines .ensures .place, at-put-plan-lines .put-plan-lines .kept)
 
-put-total-requires : tie.Need-put-total-requires
-put-total-requires c κs =
+put-number-at-requires : tie.Need-put-number-at-requires
+put-number-at-requires c κs =
     let at-put-total-name = c .before .before .before in
     let at-put-plan-lines = at-put-total-name .before .before .before .before in
     let at-put-plan-names = at-put-plan-lines .before .before .before .before in
@@ -56,7 +56,7 @@ returns c =
     let a = at-start .args in
     let f = a .flights .now in
     let h = a .holds .now in
-    plan-put f h (at-start .pre .0) (at-start .pre .1) (at-start .pre .3) (at-put-plan-names .put-plan-names .ensures) (at-put-plan-lines .put-plan-lines .ensures) (at-put-total-name .put-total-name .ensures) (c .before .before .put-total .ensures)
+    plan-put f h (at-start .pre .0) (at-start .pre .1) (at-start .pre .3) (at-put-plan-names .put-plan-names .ensures) (at-put-plan-lines .put-plan-lines .ensures) (at-put-total-name .put-total-name .ensures) (c .before .before .put-number-at .ensures)
 
 pub fill-plan-spec : {M : Type 1} → statement M
 fill-plan-spec =
@@ -65,6 +65,6 @@ fill-plan-spec =
     put-plan-names-requires
     put-plan-lines-requires
     put-total-name-requires
-    put-total-requires
+    put-number-at-requires
     same-length
     returns)

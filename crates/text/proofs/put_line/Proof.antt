@@ -10,14 +10,14 @@ use Rattle.text.proofs.put_line.Tie as tie
 abbrev start : tie.After-put-separated → tie.Start
 start c = c .before .before .before .before
 
-abbrev numbers : tie.After-put-next-arg → tie.After-put-separated
+abbrev numbers : tie.After-put-number-at-arg → tie.After-put-separated
 numbers c = c .before .before .before
 
 put-separated-requires : tie.Need-put-separated-requires
 put-separated-requires c κs = let s = c .before .before .before in omega (arith, length-line (s .args .numbers .now) (s .args .last), s .pre)
 
-put-next-requires : tie.Need-put-next-requires
-put-next-requires c κs =
+put-number-at-requires : tie.Need-put-number-at-requires
+put-number-at-requires c κs =
     let n = numbers c in
     let s = start n in
     omega (arith, length-line (s .args .numbers .now) (s .args .last), s .pre, n .put-separated .ensures .place, n .put-separated .kept)
@@ -29,7 +29,7 @@ returns : tie.Need-returns
 returns c =
     let l = c .before .before in
     let n = numbers (l .before) in
-    line-put _ _ (start n .pre) (n .put-separated .ensures) (l .put-next .ensures)
+    line-put _ _ (start n .pre) (n .put-separated .ensures) (l .put-number-at .ensures)
 
 pub put-line-spec : {M : Type 1} → statement M
-put-line-spec = tie.close (tie.spec put-separated-requires put-next-requires same-length returns)
+put-line-spec = tie.close (tie.spec put-separated-requires put-number-at-requires same-length returns)

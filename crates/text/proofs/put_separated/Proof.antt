@@ -28,14 +28,14 @@ begin c = c .before .before .before .before
 loop-holds : tie.Need-loop-holds Inv-loop μ-loop
 loop-holds c = (search needs, rw no-numbers (grown-none (c .before .before .args .out .now) 0 (omega arith)))
 
-mul-put-next : tie.Need-mul-put-next Inv-loop μ-loop
-mul-put-next c = search needs
+mul-put-number-at : tie.Need-mul-put-number-at Inv-loop μ-loop
+mul-put-number-at c = search needs
 
-shared-slice-read-put-next : tie.Need-shared-slice-read-put-next Inv-loop μ-loop
-shared-slice-read-put-next c = search needs
+shared-slice-read-put-number-at : tie.Need-shared-slice-read-put-number-at Inv-loop μ-loop
+shared-slice-read-put-number-at c = search needs
 
-put-next-requires : tie.Need-put-next-requires Inv-loop μ-loop
-put-next-requires c κs =
+put-number-at-requires : tie.Need-put-number-at-requires Inv-loop μ-loop
+put-number-at-requires c κs =
     let l = turn c .before .loop in
     let ns = begin (turn c) .args .numbers .now in
     grown-room (l .inv .1) (ended 44 (getD ns (l .i) 0)) (omega (arith, separated-part ns (l .i) (turn c .loop-test .taken) .1, begin (turn c) .pre))
@@ -52,7 +52,7 @@ loop-again c =
     let t = turn (q .before) in
     let l = t .before .loop in
     let p = separated-part (begin t .args .numbers .now) (l .i) (t .loop-test .taken) in
-    (omega (arith, t .loop-test .taken), rw (p .0) (grown-more (l .inv .1) (omega (arith, p .1, begin t .pre)) (q .put-next .ensures)))
+    (omega (arith, t .loop-test .taken), rw (p .0) (grown-more (l .inv .1) (omega (arith, p .1, begin t .pre)) (q .put-number-at .ensures)))
 
 same-length : tie.Need-same-length Inv-loop μ-loop
 same-length c = c .before .loop .inv .1 .long
@@ -71,9 +71,9 @@ put-separated-spec =
     Inv-loop
     μ-loop
     loop-holds
-    mul-put-next
-    shared-slice-read-put-next
-    put-next-requires
+    mul-put-number-at
+    shared-slice-read-put-number-at
+    put-number-at-requires
     add-i
     loop-less
     loop-again

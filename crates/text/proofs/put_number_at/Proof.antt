@@ -1,9 +1,10 @@
 -- The part lent on is the rest of the buffer.
+
 use Rattle.text.proofs.Writing.{lent}
-use Prim.Native.Nat.{_-_}
 use borrow.Author.Needs.{needs}
-use Rattle.plan_text.proofs.put_total.Statement.{statement}
-use Rattle.plan_text.proofs.put_total.Tie as tie
+use native.Mathlib.Omega.{arith}
+use Rattle.text.proofs.put_number_at.Statement.{statement}
+use Rattle.text.proofs.put_number_at.Tie as tie
 
 sub-put-number : tie.Need-sub-put-number
 sub-put-number c = search needs
@@ -18,7 +19,7 @@ put-number-requires : tie.Need-put-number-requires
 put-number-requires c κs = search needs
 
 add-result : tie.Need-add-result
-add-result c = search needs
+add-result c = omega (arith, c .before .before .put-number .ensures .place)
 
 same-length : tie.Need-same-length
 same-length c = search needs
@@ -26,8 +27,8 @@ same-length c = search needs
 returns : tie.Need-returns
 returns c = lent _ _ _ _ _ (c .before .before .before .before .before .pre) (c .before .before .put-number .ensures)
 
-pub put-total-spec : {M : Type 1} → statement M
-put-total-spec =
+pub put-number-at-spec : {M : Type 1} → statement M
+put-number-at-spec =
     tie.close
     (tie.spec
     sub-put-number
