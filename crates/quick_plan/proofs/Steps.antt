@@ -10,7 +10,7 @@ use native.Mathlib.Numerals.{add-one}
 use lib.ListN.{length, getD, set, take, length-set}
 use lib.Seq.{take-suc-set, take-all}
 use lib.Dec.{ltb, eqb}
-use borrow.Author.Tests.{eq-eqb, ne-eqb, le-leb, lt-leb, lt-ltb, le-ltb}
+use borrow.Author.Tests.{eq-eqb, ne-eqb, le-leb, lt-leb, le-ltb}
 use Rattle.day.specs.declared.Flight.{Flight}
 use Rattle.day.specs.Day.{Day, day, P, N, width, column, flightAt, flightCount, due, capacity, valid}
 use Rattle.day.specs.Plan.{jumpOrLimit, firstJumpOrLimit}

@@ -1,6 +1,5 @@
 -- Four texts, one behind the other.
 use Rattle.plan_text.proofs.Placing.{length-plan-names, length-total-name, length-plan, plan-put}
-use Prim.Native.Nat.{_-_}
 use native.Mathlib.Omega.{arith}
 use borrow.Author.Needs.{needs}
 use Rattle.plan_text.proofs.fill_plan.Statement.{statement}

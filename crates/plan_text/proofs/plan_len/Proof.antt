@@ -1,6 +1,5 @@
 -- The text's length is that of its parts.
 use Rattle.plan_text.proofs.Placing.{length-plan}
-use Prim.Native.Nat.{_-_}
 use native.Mathlib.Omega.{arith}
 use borrow.Author.Needs.{needs}
 use Rattle.plan_text.proofs.plan_len.Statement.{statement}

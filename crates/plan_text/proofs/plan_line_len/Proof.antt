@@ -2,7 +2,6 @@
 use Rattle.plan_text.proofs.Placing.{line-is}
 use Rattle.text.specs.Digits.{line}
 use Rattle.plan_text.specs.PlanText.{planLine}
-use Prim.Native.Nat.{_-_}
 use native.Mathlib.Omega.{arith}
 use mathlib.Core.Path.{_≡_, ap, sym, _∙_}
 use mathlib.Core.List.{[], _∷_}

@@ -1,7 +1,7 @@
 -- The text fits or not.
 use Rattle.text.proofs.Writing.{lent, not-fits, it-fits}
 use Rattle.plan_text.specs.PlanText.{planText}
-use Prim.Native.Nat.{_≤_, _+_, _-_}
+use Prim.Native.Nat.{_≤_, _+_}
 use native.Mathlib.Omega.{arith}
 use mathlib.Core.Path.{_≡_}
 use lib.ListN.{length}
