@@ -47,7 +47,8 @@ same-row [] (y ∷ g) e f = absurd (omega arith)
 same-row (x ∷ h) [] e f = absurd (omega arith)
 same-row (x ∷ h) (y ∷ g) e f = ap₂ _∷_ (f 0 (omega arith)) (same-row h g (omega arith) (λ k l. f (suc k) (omega arith)))
 
--- equal texts are texts of the same hold row
+-- equal texts are texts of the same hold row: behind equal names lines the flights' lines are equal one by one, since a number ends where its
+-- digits do, and each line shows its hold
 pub one-text : (d : Day) (h g : List ℕ) → Legal d h → Legal d g → planText (d .flights) h ≡ planText (d .flights) g → h ≡ g
 unfolding planText
 one-text d h g p q e =

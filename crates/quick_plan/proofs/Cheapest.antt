@@ -162,6 +162,10 @@ module _ (d : Day) (l : ℕ → ℕ) where
 
 -- ---- the quick plan against another
 
+-- The proof on paper. Fix a rate t and look at the flights of that rate or more. In the quick plan they never wait for others: as many of them
+-- land in a period as it takes, or all. In any legal plan no more than that land. So, period by period, the quick plan has the fewest of them
+-- waiting. A flight's rate is the number of those t that it reaches, so the rates of all who wait add up to the least too; and with no jumps
+-- the total is that sum over the periods.
 module _ (d : Day) (v : valid d ≡ true) (applies : firstJumpOrLimit (d .flights) ≡ N d) (y : List ℕ) (legal : Legal d y) where
   left-next : (t j : ℕ) → j < P d
       → crowd d t (waits d (end d v) (suc j)) ≤ crowd d t (waits-in d (end d v) j) - capacity d (suc j)
