@@ -1,38 +1,38 @@
 // The prices of the closed periods, those of capacity 0, for a plan whose other prices are known: a search leaves such periods out.
-ghost use Prim.Native.Nat.{_+_, _*_, _^_, _<_, _≤_};
-ghost use lib.ListN.{length};
-ghost use Rattle.day.specs.Day.{day, width, N};
+ghost use Prim.Native.Nat.{_<_};
+ghost use Rattle.day.specs.Day.{lent, flightCount};
 ghost use Rattle.closed_prices.specs.ClosedPrices.{CanPay, Shortfall, LeastPrice, CanPrice, Priced};
-use day::cost_of;
-use day::due_of;
+use day::flight_at;
 use day::flight_count;
+use day::hold_cost;
 use day::latest_of;
 use day::of_period;
 use day::wide;
 
-// How much the price of period k must be for the flight at table place i, that it gains nothing by landing there.
+// How much the price of period k must be for the flight at table place i, that it gains nothing by landing there. The day has so many periods.
 fn shortfall(
-    capacities: &[u32],
+    periods: usize,
     flights: &[u32],
     holds: &[u32],
     prices: &[u32],
     i: usize,
     k: usize,
 ) -> usize
-    requires { ⌜ CanPay (day (now capacities) (now flights)) (now holds) (now prices) k ⌝ }
-    requires { ⌜ i < N (day (now capacities) (now flights)) ⌝ }
-    ensures { λ r. ⌜ Shortfall (day (now (capacities .entry)) (now (flights .entry))) (now (holds .entry)) (now (prices .entry)) i k r ⌝ }
+    requires { ⌜ CanPay periods (now flights) (now holds) (now prices) k ⌝ }
+    requires { ⌜ i < flightCount (now flights) ⌝ }
+    ensures { λ r. ⌜ Shortfall periods (now (flights .entry)) (now (holds .entry)) (now (prices .entry)) i k r ⌝ }
 {
-    let due = due_of(flights, i);
+    let f = flight_at(flights, i);
+    let due = wide(f.due);
     if k < due {
         return 0;
     }
-    if latest_of(capacities, flights, i) < k {
+    if latest_of(periods, f) < k {
         return 0;
     }
     let hold = wide(holds[i]);
-    let pays = cost_of(capacities, flights, i, hold) + of_period(prices, due + hold);
-    let costs = cost_of(capacities, flights, i, k - due);
+    let pays = hold_cost(f, hold) + of_period(prices, due + hold);
+    let costs = hold_cost(f, k - due);
     if pays <= costs {
         return 0;
     }
@@ -40,21 +40,15 @@ fn shortfall(
 }
 
 // The least price of period k that keeps every flight where it lands.
-fn least_price(
-    capacities: &[u32],
-    flights: &[u32],
-    holds: &[u32],
-    prices: &[u32],
-    k: usize,
-) -> usize
-    requires { ⌜ CanPay (day (now capacities) (now flights)) (now holds) (now prices) k ⌝ }
-    ensures { λ r. ⌜ LeastPrice (day (now (capacities .entry)) (now (flights .entry))) (now (holds .entry)) (now (prices .entry)) k r ⌝ }
+fn least_price(periods: usize, flights: &[u32], holds: &[u32], prices: &[u32], k: usize) -> usize
+    requires { ⌜ CanPay periods (now flights) (now holds) (now prices) k ⌝ }
+    ensures { λ r. ⌜ LeastPrice periods (now (flights .entry)) (now (holds .entry)) (now (prices .entry)) k r ⌝ }
 {
     let count = flight_count(flights);
     let mut price = 0;
     let mut i = 0;
     while i < count {
-        let needed = shortfall(capacities, flights, holds, prices, i, k);
+        let needed = shortfall(periods, flights, holds, prices, i, k);
         i += 1;
         if price < needed {
             price = needed;
@@ -66,15 +60,16 @@ fn least_price(
 // Gives each closed period the least price that keeps every flight where it lands. Nobody lands in a closed period, so that no price that
 // is read here is stored here.
 pub fn price_closed(capacities: &[u32], flights: &[u32], holds: &[u32], prices: &mut [u32])
-    requires { ⌜ CanPrice (day (now capacities) (now flights)) (now holds) (now prices) ⌝ }
-    ensures { λ _. ⌜ Priced (day (now (capacities .entry)) (now (flights .entry))) (now (holds .entry)) (now (prices .entry)) (now (prices .exit)) ⌝ }
+    requires { ⌜ CanPrice (lent capacities flights) (now holds) (now prices) ⌝ }
+    ensures { λ _. ⌜ Priced (lent (capacities .entry) (flights .entry)) (now (holds .entry)) (now (prices .entry)) (now (prices .exit)) ⌝ }
 {
+    let periods = capacities.len();
     let mut at = 0;
-    while at < capacities.len() {
+    while at < periods {
         let here = at;
         at += 1;
         if capacities[here] == 0 {
-            prices[here] = least_price(capacities, flights, holds, prices, at) as u32;
+            prices[here] = least_price(periods, flights, holds, prices, at) as u32;
         }
     }
 }

@@ -11,6 +11,7 @@ use lib.ListN.{length, getD, List·getD-eq-default}
 use borrow.Author.Tests.{lt-ltb, le-ltb, eq-eqb, ne-eqb}
 use Rattle.assignment.specs.Sum.{gate}
 use Rattle.assignment.proofs.Tests.{lt?, gate-lt, gate-ge, gate-eq, gate-ne}
+use Rattle.day.specs.declared.Flight.{Flight}
 use Rattle.day.specs.Day.{Day, P, due, rate, after, jump, limit, ofPeriod, takes, flightAt, holdCost, cost, latestOf, latest}
 
 -- ---- rows by period
@@ -55,12 +56,12 @@ jump-rises a s t v l = elim (lt? a s) [
   | inr b ↦ omega (arith, gate-ge a s v b)
 ]
 
-module _ (d : Day) (i s t : ℕ) where
-  pub cost-rises : s ≤ t → cost d i s ≤ cost d i t
-  unfolding holdCost flightAt
-  cost-rises l = omega (arith, mul-le-mul-left (rate d i) l, jump-rises (after d i) s t (jump d i) l)
+pub hold-rises : (f : Flight) (s t : ℕ) → s ≤ t → holdCost f s ≤ holdCost f t
+unfolding holdCost
+hold-rises f s t l = omega (arith, mul-le-mul-left (f .rate) l, jump-rises (f .after) s t (f .jump) l)
 
-  -- and costs more, where the rate is not 0
+-- and costs more, where the rate is not 0
+module _ (d : Day) (i s t : ℕ) where
   pub cost-grows : 1 ≤ rate d i → s < t → cost d i s < cost d i t
   unfolding holdCost flightAt
   cost-grows pos l = omega (arith, mul-le-mul-left (rate d i) l, jump-rises (after d i) s t (jump d i) (omega arith))

@@ -9,7 +9,7 @@ use lib.Dec.{leb}
 use borrow.Author.Tests.{le-leb, lt-leb, eq-eqb, ne-eqb, leb-true, eqb-true, eqb-false, not-true}
 use Rattle.assignment.proofs.Tests.{and-true, true-and, and-assoc}
 use Rattle.day.specs.Day.{Day, P, N, mostPeriods, mostFlights, number, due, rate, after, jump, limit, missing, all, inside, flightAt, flightFits, inRange, isNew, valid, width}
-use Rattle.day.specs.Valid.{InRange, Valid}
+use Rattle.day.specs.Valid.{InRange, ValidFlights, Valid}
 use Rattle.day.proofs.Tests.{all-at, all-from}
 
 -- ---- the whole check, in its order
@@ -46,7 +46,7 @@ or-true : (a b : Bool) → (a || b) ≡ true → (a ≡ true) ⊎ (b ≡ true)
 or-true true b e = inl refl
 or-true false b e = inr e
 
-range-means : (d : Day) (i : ℕ) → inRange (P d) (d .flights) i ≡ true → InRange d i
+range-means : (d : Day) (i : ℕ) → inRange (P d) (d .flights) i ≡ true → InRange (P d) (d .flights) i
 unfolding flightFits flightAt
 range-means d i e =
     let limits = and-true e in
@@ -91,6 +91,9 @@ valid-means {d} e =
       distinct = λ i j l b. eqb-false _ _ (not-true _ (all-at i _ (all-at (N d) _ (numbers .1) i l) j b));
     }
 
+pub valid-flights : {d : Day} → Valid d → ValidFlights (P d) (d .flights)
+valid-flights v = record { periods-to = v .periods-to; whole = v .whole; flights-to = v .flights-to; flight = v .flight }
+
 -- ---- and the other way round: a day that is so passes, so that the record says just what the test does
 
 inside-from : (a b x : ℕ) → a ≤ x → x ≤ b → inside a b x ≡ true
@@ -100,7 +103,7 @@ or-right : (a b : Bool) → b ≡ true → (a || b) ≡ true
 or-right true b e = refl
 or-right false b e = e
 
-range-from : (d : Day) (i : ℕ) → InRange d i → inRange (P d) (d .flights) i ≡ true
+range-from : (d : Day) (i : ℕ) → InRange (P d) (d .flights) i → inRange (P d) (d .flights) i ≡ true
 unfolding flightFits flightAt
 range-from d i r =
     let number-in = inside-from 1 9999 (number d i) (r .number-from) (r .number-to) in

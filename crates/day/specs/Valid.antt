@@ -4,20 +4,28 @@
 use mathlib.Core.Path.{_≡_}
 use mathlib.Core.Logic.{_⊎_, _≢_}
 use Prim.Native.Nat.{ℕ, _*_, _≤_, _<_}
+use mathlib.Core.List.{List}
 use lib.ListN.{length, getD}
-use Rattle.day.specs.Day.{Day, P, N, mostPeriods, mostFlights, number, due, rate, after, jump, limit, width}
+use Rattle.day.specs.Day.{Day, P, N, mostPeriods, mostFlights, flightCount, number, column, width}
 
--- the numbers of one flight
-pub record InRange (d : Day) (i : ℕ) : Type 0 where
-  pub number-from : 1 ≤ number d i
-  pub number-to : number d i ≤ 9999
-  pub due-from : 1 ≤ due d i
-  pub due-to : due d i ≤ P d
-  pub rate-from : 1 ≤ rate d i
-  pub rate-to : rate d i ≤ 10000
-  pub after-to : after d i ≤ 96
-  pub jump-to : jump d i ≤ 1000000
-  pub limit-to : (limit d i ≤ 96) ⊎ (limit d i ≡ 255)
+-- the numbers of the flight at table place i of a row, on a day of p periods
+pub record InRange (p : ℕ) (flights : List ℕ) (i : ℕ) : Type 0 where
+  pub number-from : 1 ≤ column 0 flights i
+  pub number-to : column 0 flights i ≤ 9999
+  pub due-from : 1 ≤ column 1 flights i
+  pub due-to : column 1 flights i ≤ p
+  pub rate-from : 1 ≤ column 2 flights i
+  pub rate-to : column 2 flights i ≤ 10000
+  pub after-to : column 3 flights i ≤ 96
+  pub jump-to : column 4 flights i ≤ 1000000
+  pub limit-to : (column 5 flights i ≤ 96) ⊎ (column 5 flights i ≡ 255)
+
+-- the row of flights of such a day, for whoever reads no more of it
+pub record ValidFlights (p : ℕ) (flights : List ℕ) : Type 0 where
+  pub periods-to : p ≤ mostPeriods
+  pub whole : length flights ≡ flightCount flights * width
+  pub flights-to : flightCount flights ≤ mostFlights
+  pub flight : (i : ℕ) → i < flightCount flights → InRange p flights i
 
 pub record Valid (d : Day) : Type 0 where
   pub periods-from : 1 ≤ P d
@@ -25,5 +33,5 @@ pub record Valid (d : Day) : Type 0 where
   pub whole : length (d .flights) ≡ N d * width
   pub flights-to : N d ≤ mostFlights
   pub capacity-to : (k : ℕ) → k < P d → getD (d .capacities) k 0 ≤ 255
-  pub flight : (i : ℕ) → i < N d → InRange d i
+  pub flight : (i : ℕ) → i < N d → InRange (P d) (d .flights) i
   pub distinct : (i j : ℕ) → i < N d → j < i → number d j ≢ number d i

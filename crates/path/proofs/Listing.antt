@@ -11,7 +11,7 @@ use Rattle.assignment.specs.Rows.{el}
 use Rattle.assignment.specs.Moves.{Moved}
 use Rattle.assignment.proofs.Tests.{eq?, lt?}
 use Rattle.assignment.proofs.Rows.{set-moved}
-use Rattle.day.specs.Day.{ofPeriod}
+use Rattle.day.specs.Day.{periodRow, ofPeriod}
 use Rattle.path.specs.Path.{far, away, InList, Gap, At, Waits, Waiting, Lined, CanList, Filled, Removed, CanNear, NearestIn, Levelled, CanLevel, NextLevel, Nearest}
 use Rattle.path.proofs.Rows.{as-read}
 
@@ -24,14 +24,30 @@ module _ {list : List ℕ} {left target : ℕ} (o : InList list left target) whe
     | inr e ↦ omega (arith, o .rising y left (omega arith) (omega arith), o .ends)
   ]
 
+  pub list-apart : (y z : ℕ) → y ≤ left → z ≤ left → y ≢ z → el list y ≢ el list z
+  list-apart y z a b e f = elim (lt? y z) [
+    | inl l ↦ omega (arith, o .rising y z l b)
+    | inr l ↦ omega (arith, o .rising z y (omega arith) a)
+  ]
+
+  -- a gap is no place
+  pub gap-apart : {j : ℕ} → Gap list left j → (y : ℕ) → y ≤ left → el list y ≢ j
+  gap-apart g y a e = elim (lt? y (g .place)) [
+    | inl l ↦ omega (arith, g .above y l)
+    | inr l ↦ elim (eq? y (g .place)) [
+      | inl f ↦ omega (arith, g .below, ap (el list) f)
+      | inr f ↦ omega (arith, g .below, o .rising (g .place) y (omega arith) a)
+    ]
+  ]
+
   pub list-before : (y : ℕ) → y < left → el list y < target
   list-before y l = omega (arith, o .rising y left l (omega arith), o .ends)
 
   -- a period up to the target stands at a place, or in a gap
-  record Place (j : ℕ) : Type 0 where
-    place : ℕ
-    to : place ≤ left
-    is : el list place ≡ j
+  pub record Place (j : ℕ) : Type 0 where
+    pub place : ℕ
+    pub to : place ≤ left
+    pub is : el list place ≡ j
 
   seek : (j m : ℕ) → m ≤ left + 1 → Place j ⊎ (Gap list left j ⊎ ((z : ℕ) → z < m → el list z < j))
   seek j zero l = inr (inr (λ z b. absurd (omega arith)))
@@ -49,7 +65,7 @@ module _ {list : List ℕ} {left target : ℕ} (o : InList list left target) whe
     ]
   ]
 
-  place-or-gap : (j : ℕ) → j ≤ target → Place j ⊎ Gap list left j
+  pub place-or-gap : (j : ℕ) → j ≤ target → Place j ⊎ Gap list left j
   place-or-gap j l = elim (seek j (left + 1) (omega arith)) [
     | inl a ↦ inl a
     | inr q ↦ elim q [ inl g ↦ inr g | inr up ↦ absurd (omega (arith, up left (omega arith), o .ends)) ]
@@ -81,7 +97,7 @@ filling-start c = record {
 }
 
 module _ {capacities list₀ list : List ℕ} {first target left k : ℕ} (s : Filling capacities list₀ list first target left k) where
-  pub filling-room : (left < length list) × (left < 98)
+  pub filling-room : (left < length list) × (left < periodRow)
   filling-room = omega (arith, s .from, s .to, s .same, s .can .row, s .can .within)
 
   -- k is stored behind those
@@ -187,7 +203,7 @@ pub record Levelling (dist list₀ list queue₀ queue : List ℕ) (at left targ
   pub all : (j : ℕ) → At list₀ z j → At list kept j ⊎ Waits queue queued end j
 
 module _ {dist list queue : List ℕ} {at left target queued : ℕ} (c : CanLevel dist list queue at left target queued) where
-  pub level-room : (at < length list) × (el list at < length dist) × (at < 98) × (el list at < 98)
+  pub level-room : (at < length list) × (el list at < length dist) × (at < periodRow) × (el list at < periodRow)
   level-room = omega (arith, c .shape .row, c .shape .short, c .before, c .dists, c .within, list-to (c .shape) at (omega (arith, c .before)))
 
   pub levelling-start : Levelling dist list list queue queue at left target queued (getD dist (el list at) 0) at queued at
@@ -219,11 +235,11 @@ module _ {dist list₀ list queue₀ queue : List ℕ} {at left target queued le
   at-more : {j : ℕ} → At list₀ z j → At list₀ (z + 1) j
   at-more p = record { place = p .place; to = omega (arith, p .to); is = p .is }
 
-  pub last-room : (kept < length list) × (kept < 98)
+  pub last-room : (kept < length list) × (kept < periodRow)
   last-room = omega (arith, s .room, s .upto, s .same-l, s .can .shape .row, s .can .shape .short)
 
   module _ (l : z < left) where
-    pub levelling-room : (z < length list) × (z < 98) × (kept < length list) × (end < length queue) × (end < 98)
+    pub levelling-room : (z < length list) × (z < periodRow) × (kept < length list) × (end < length queue) × (end < periodRow)
     levelling-room = omega (
       arith,
       s .room,
@@ -241,7 +257,7 @@ module _ {dist list₀ list queue₀ queue : List ℕ} {at left target queued le
       k-at : k ≡ el list₀ z
       k-at = k-is ∙ s .rest z (omega arith)
 
-      pub levelling-read : (k < length dist) × (k < 98)
+      pub levelling-read : (k < length dist) × (k < periodRow)
       levelling-read = omega (arith, k-at, list-to (s .can .shape) z (omega arith), s .can .within, s .can .dists)
 
       same : getD dist k 0 ≡ away dist k
@@ -377,16 +393,16 @@ module _ {dist list₀ list queue₀ queue : List ℕ} {at left target queued le
 
 -- the places before z have what is to stand there
 pub record Taking (list₀ list : List ℕ) (at left z : ℕ) : Type 0 where
-  pub row : length list₀ ≡ 98
+  pub row : length list₀ ≡ periodRow
   pub same : length list ≡ length list₀
-  pub small : left < 98
+  pub small : left < periodRow
   pub lower : at ≤ z
   pub upper : z ≤ left
   pub before : (y : ℕ) → y < at → el list y ≡ el list₀ y
   pub done : (y : ℕ) → at ≤ y → y < z → el list y ≡ el list₀ (y + 1)
   pub rest : (y : ℕ) → z ≤ y → el list y ≡ el list₀ y
 
-pub taking-start : {list : List ℕ} {at left : ℕ} → (length list ≡ 98) × (at < left) × (left < 98) → Taking list list at left at
+pub taking-start : {list : List ℕ} {at left : ℕ} → (length list ≡ periodRow) × (at < left) × (left < periodRow) → Taking list list at left at
 taking-start c = record {
   row = c .0;
   same = refl;
@@ -403,7 +419,7 @@ module _ {list₀ list : List ℕ} {at left z : ℕ} (s : Taking list₀ list at
   taking-end l = record { before = s .before; behind = λ y a b. s .done y a (omega arith) }
 
   module _ (l : z < left) where
-    pub taking-room : (z < length list) × (z + 1 < length list) × (z + 1 < 98)
+    pub taking-room : (z < length list) × (z + 1 < length list) × (z + 1 < periodRow)
     taking-room = omega (arith, s .row, s .same, s .small)
 
     pub taking-next : Taking list₀ (set list z (el list (z + 1))) at left (z + 1)
@@ -425,7 +441,7 @@ module _ {list₀ list : List ℕ} {at left z : ℕ} (s : Taking list₀ list at
 
 -- ---- take_nearest
 
-pub near-room : {dist list : List ℕ} {left target level at : ℕ} → CanNear dist list left target level → at < left → (el list at < length dist) × (el list at < 98)
+pub near-room : {dist list : List ℕ} {left target level at : ℕ} → CanNear dist list left target level → at < left → (el list at < length dist) × (el list at < periodRow)
 near-room {at = at} c l = omega (arith, c .dists, c .within, list-to (c .shape) at (omega arith))
 
 -- one period goes
@@ -687,7 +703,7 @@ module _ {cap : ℕ → ℕ} {dist turn list queue : List ℕ} {left first targe
     })
 
 -- the list at the start has every open period, and nothing waits
-pub lined-start : {cap : ℕ → ℕ} {capacities list : List ℕ} (dist turn queue : List ℕ) {left first target : ℕ} → length list ≡ 98 → length queue ≡ 98
+pub lined-start : {cap : ℕ → ℕ} {capacities list : List ℕ} (dist turn queue : List ℕ) {left first target : ℕ} → length list ≡ periodRow → length queue ≡ periodRow
     → ((k : ℕ) → el turn k ≡ 0) → ((k : ℕ) → k < target → cap k ≡ ofPeriod capacities k) → Filled capacities list first target left
     → Lined cap dist turn list queue left first target 0 0 0
 lined-start {cap} {capacities} {list} dist turn queue {left} {first} {target} row queue-row none same h = record {

@@ -3,7 +3,7 @@
 -- Assumes nothing.
 use mathlib.Core.Path.{_≡_, refl, ap, _∙_}
 use mathlib.Core.Logic.{_⊎_, inl, inr, _≢_}
-use mathlib.Core.Bool.{Bool, true, false, _&&_, _||_}
+use mathlib.Core.Bool.{Bool, _&&_, _||_}
 use mathlib.Core.List.{List}
 use Prim.Native.Nat.{ℕ, _+_, _*_, _≤_, _<_}
 use native.Mathlib.Omega.{arith}
@@ -13,31 +13,20 @@ use Rattle.assignment.specs.Assignment.{Instance, In}
 use Rattle.assignment.specs.Rows.{el}
 use Rattle.assignment.specs.Moves.{Moved}
 use Rattle.assignment.specs.Search.{Took, Offered}
-use Rattle.assignment.proofs.Tests.{eq?, lt?, gate-eq, gate-ne, and-T, T-and}
+use Rattle.assignment.proofs.Tests.{eq?, lt?, gate-eq, gate-ne, and-T, T-and, or-T, T-or-l, T-or-r}
 use Rattle.assignment.proofs.Sums.{count-move, count-member, count-all}
 use Rattle.assignment.proofs.Closed.{lands-open}
 use Rattle.assignment.proofs.Near.{near-start, near-reach, near-pass, near-offer, offer-kept, offer-falls}
 use Rattle.assignment.proofs.Stuck.{Stuck, stuck-is-short}
 use Rattle.assignment.proofs.Rows.{set-moved}
+use Rattle.day.specs.Day.{periodRow}
 use Rattle.path.specs.Path.{far, away, dearest, InList, Scene, Search, Around, CanNear, Nearest, Searched}
-
-or-left : (a b : Bool) → T a → T (a || b)
-or-left true b t = t
-or-left false b t = absurd t
-
-or-right : (a b : Bool) → T b → T (a || b)
-or-right true b t = tt
-or-right false b t = t
-
-or-T : (a b : Bool) → T (a || b) → T a ⊎ T b
-or-T true b t = inl t
-or-T false b t = inr t
 
 -- ---- the start
 
 module _ {d : Instance} {x p : ℕ → ℕ} {target : ℕ} (dist₀ dist turn via₀ via : List ℕ) {hi : ℕ} (scene : Scene d x p target) (to : hi ≡ d .hi (d .n))
-    (dists : length dist ≡ 98) (vias : length via ≡ 98)
-    (far-first : (k : ℕ) → away dist₀ k ≡ far) (fresh : (k : ℕ) → el turn k ≡ 0) (turns : length turn ≡ 98)
+    (dists : length dist ≡ periodRow) (vias : length via ≡ periodRow)
+    (far-first : (k : ℕ) → away dist₀ k ≡ far) (fresh : (k : ℕ) → el turn k ≡ 0) (turns : length turn ≡ periodRow)
     (o : Offered (d .lo (d .n)) hi (λ k. d .cost (d .n) k + p k) (d .n) 0 0 (away dist₀ target) (away dist₀) (away dist) (el via₀) (el via)) where
   fits : (k : ℕ) → d .lo (d .n) ≤ k → k ≤ hi → In d (d .n) k
   fits k a b = record { from = a; to = omega arith }
@@ -94,7 +83,7 @@ module _ {d : Instance} {x p : ℕ → ℕ} {target : ℕ} (dist₀ dist turn vi
         let some = near-open k near in
         omega (arith, w .from, w .to, scene .ceiling (d .n) (omega arith) (scene .before), heard k w some .0, small k w some, some);
     reached = λ k some. absurd (omega (arith, fresh k));
-    zeros = omega (arith, count-all 98 0 (el turn) fresh);
+    zeros = omega (arith, count-all periodRow 0 (el turn) fresh);
   }
 
 -- ---- a period is reached
@@ -117,10 +106,10 @@ module _ {d : Instance} {x p : ℕ → ℕ} {target : ℕ} {dist turn via : List
     ]
 
     module _ (e : k ≢ target) where
-      pub reach-in : (k < target) × (k < 98) × (t < 98) × (k < length turn) × (away dist k ≤ 98 * dearest)
+      pub reach-in : (k < target) × (k < periodRow) × (t < periodRow) × (k < length turn) × (away dist k ≤ periodRow * dearest)
       reach-in =
-          let b : k < 98 = omega (arith, a .to, scene .within, scene .periods) in
-          let c : t < 98 = omega (arith, s .zeros, count-member 98 k 0 (el turn) b (a .fresh e)) in
+          let b : k < periodRow = omega (arith, a .to, scene .within, scene .periods) in
+          let c : t < periodRow = omega (arith, s .zeros, count-member periodRow k 0 (el turn) b (a .fresh e)) in
           omega (arith, a .to, s .rows .turns, s .inside k (a .near e))
 
       pub reach-next : Around d x p target dist (set turn k (t + 1)) via (t + 1) k (d .n)
@@ -140,7 +129,7 @@ module _ {d : Instance} {x p : ℕ → ℕ} {target : ℕ} {dist turn via : List
           zeros = omega (
             arith,
             s .zeros,
-            count-move 98 k (el turn) (el (set turn k (t + 1))) (reach-in .1) (λ j _ f. v .others j f) 0,
+            count-move periodRow k (el turn) (el (set turn k (t + 1))) (reach-in .1) (λ j _ f. v .others j f) 0,
             gate-eq (el turn k) 0 1 (a .fresh e),
             gate-ne (el (set turn k (t + 1)) k) 0 1 (omega (arith, v .here)),
           );
@@ -165,11 +154,11 @@ module _ {d : Instance} {x p : ℕ → ℕ} {target : ℕ} {dist turn via : List
 
       reached-in : (j : ℕ) → 0 < el turn j → T (r j)
       unfolding r
-      reached-in j some = or-left (ltb 0 (el turn j)) _ (lt→ltb 0 (el turn j) some)
+      reached-in j some = T-or-l (ltb 0 (el turn j)) _ (lt→ltb 0 (el turn j) some)
 
       closed-in : (j : ℕ) → d .cap j ≡ 0 → d .lo (d .n) ≤ j → j < target → T (r j)
       unfolding r
-      closed-in j none a b = or-right (ltb 0 (el turn j)) _
+      closed-in j none a b = T-or-r (ltb 0 (el turn j)) _
           (T-and (eqb (d .cap j) 0) _ (rw none (eqb-refl 0)) (T-and (leb (d .lo (d .n)) j) _ (le→leb (d .lo (d .n)) j a) (lt→ltb j target b)))
 
       -- both lie before the target and are full
@@ -235,8 +224,8 @@ module _ {d : Instance} {x p : ℕ → ℕ} {target : ℕ} {dist turn via : List
             absurd (scene .none-short (h .a) (h .b) (h .from) (h .stretch) (last .1) (h .short))
       ]
 
-      pub search-end : Searched d x p target dist turn via
-      search-end = record { t = t; so-far = s; least = least; near = not-far }
+      pub search-end : Searched d x p target dist via
+      search-end = record { turn = turn; t = t; so-far = s; least = least; near = not-far }
 
 -- ---- the flights that land in the period reached last
 

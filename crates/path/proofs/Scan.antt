@@ -8,6 +8,7 @@ use native.Mathlib.Omega.{arith}
 use lib.ListN.{getD, length}
 use Rattle.assignment.specs.Rows.{el}
 use Rattle.assignment.proofs.Tests.{eq?}
+use Rattle.day.specs.Day.{periodRow}
 use Rattle.path.specs.Path.{away, CanNear, NearestIn}
 use Rattle.path.proofs.Rows.{as-read}
 use Rattle.path.proofs.Listing.{list-to}
@@ -42,7 +43,7 @@ module _ {dist list : List ℕ} {left target level : ℕ} (c : CanNear dist list
 
 module _ {dist list : List ℕ} {left target level best at z : ℕ} (s : Scan dist list left target level best at z) where
   module _ (l : z < left) where
-    pub scan-in : (z < length list) × (el list z < length dist) × (z < 98) × (el list z < 98)
+    pub scan-in : (z < length list) × (el list z < length dist) × (z < periodRow) × (el list z < periodRow)
     scan-in = omega (arith, s .can .dists, s .can .shape .row, s .can .shape .short, s .can .within, list-to (s .can .shape) z (omega arith))
 
     same : getD dist (el list z) 0 ≡ away dist (el list z)

@@ -10,12 +10,14 @@ use Rattle.assignment.specs.Assignment.{Instance, In, Short}
 use Rattle.assignment.specs.Rows.{el}
 use Rattle.assignment.specs.Orders.{Permuted}
 use Rattle.assignment.specs.Chains as chains
-use Rattle.assignment.specs.Instances.{grown, ordered, opened, restricted}
-use Rattle.assignment.specs.Search.{Near, Offered}
+use Rattle.assignment.specs.Instances.{grown, ordered, restricted, opened}
+use Rattle.assignment.specs.Search.{Near, Took, Kept}
 use Rattle.assignment.specs.Insertion.{Sound}
-use Rattle.day.specs.Day.{Day, width, P, N, ofPeriod, due, rate, jump, cost, latest, land}
-use Rattle.day.proofs.Valid.{Valid}
-use Rattle.day.proofs.Instance.{instance}
+use Rattle.day.specs.declared.Flight.{Flight}
+use Rattle.day.specs.Day.{Day, N, day, mostFlights, periodRow, column, ofPeriod, due, holdCost, latestOf, hold}
+use Rattle.day.specs.Valid.{Valid}
+use Rattle.day.specs.Instance.{instance}
+use Rattle.path.specs.declared.Origin.{Origin}
 
 abbrev pub far : ℕ
 far = 4611686018427387904
@@ -45,12 +47,8 @@ abbrev pub scope : Day → List ℕ → ℕ → ℕ → Instance
 scope d places n target = restricted (begun d places n) target
 
 -- where the flight at place s lands
-abbrev pub landing : Day → List ℕ → List ℕ → ℕ → ℕ
-landing d places holds s = land d holds (el places s)
-
--- what a flight pays in period k
-abbrev pub payment : Day → List ℕ → ℕ → ℕ → ℕ
-payment d prices i k = opened (instance d) dear .cost i k + ofPeriod prices k
+abbrev pub landing : (flights places holds : List ℕ) → ℕ → ℕ
+landing flights places holds s = column 1 flights (el places s) + hold holds (el places s)
 
 -- a day that passes the check, and a row in which each of its table places stands once
 pub record Table (d : Day) (places : List ℕ) : Type 0 where
@@ -58,16 +56,19 @@ pub record Table (d : Day) (places : List ℕ) : Type 0 where
   pub row : N d ≤ length places
   pub permuted : Permuted (N d) (el places)
 
--- the places whose flights land in the same period are chained: one row has the newest of each period, the other the one before each place
-pub record Chained (x : ℕ → ℕ) (first-in next-in : List ℕ) (n : ℕ) : Type 0 where
-  pub firsts : length first-in ≡ 98
-  pub nexts : length next-in ≡ 128
-  pub chains : chains.Chained x 98 (el first-in) (el next-in) n
+-- a row of chains: entries by period, then by place
+abbrev pub chainRow : ℕ
+chainRow = periodRow + mostFlights
+
+-- the places whose flights land in the same period are chained: the row has the newest of each period, and behind these the one before each place
+pub record Chained (x : ℕ → ℕ) (links : List ℕ) (n : ℕ) : Type 0 where
+  pub row : length links ≡ chainRow
+  pub chains : chains.Chained x periodRow (el links) (λ s. el links (periodRow + s)) n
 
 -- a plan x of n flights with prices p, and a new flight; from its due period on, the target is the first period with room
 pub record Scene (d : Instance) (x p : ℕ → ℕ) (target : ℕ) : Type 0 where
   pub sound : Sound d x p
-  pub periods : d .m ≤ 98
+  pub periods : d .m ≤ periodRow
   pub pays : (i k : ℕ) → i ≤ d .n → In d i k → 0 < d .cap k → d .cost i k + p k ≤ dearest
   pub shut : (i k : ℕ) → d .cap k ≡ 0 → dear ≤ d .cost i k
   pub floor : (i : ℕ) → i < d .n → d .lo (d .n) ≤ d .lo i
@@ -80,11 +81,12 @@ pub record Scene (d : Instance) (x p : ℕ → ℕ) (target : ℕ) : Type 0 wher
   pub free : count (d .n) x target < d .cap target
   pub none-short : (a b : ℕ) → 1 ≤ a → a ≤ b → b < target → Short (grown d) a b → ⊥
 
--- the rows of a search: distances, the turn in which each period was reached (0: not yet), and by way of which place it is so far
+-- the rows of a search: distances, the turn in which each period was reached (0: not yet), and by way of which place it is so far. The turns
+-- stand in no row of the program
 pub record Rows (dist turn via : List ℕ) : Type 0 where
-  pub dists : length dist ≡ 98
-  pub turns : length turn ≡ 98
-  pub vias : length via ≡ 98
+  pub dists : length dist ≡ periodRow
+  pub turns : length turn ≡ periodRow
+  pub vias : length via ≡ periodRow
 
 -- t periods are reached, and from the last of them the flights from m on have offered; root is what the new flight pays
 pub record Search (d : Instance) (x p : ℕ → ℕ) (target : ℕ) (dist turn via : List ℕ) (t m : ℕ) : Type 0 where
@@ -96,7 +98,7 @@ pub record Search (d : Instance) (x p : ℕ → ℕ) (target : ℕ) (dist turn v
   pub most : (k : ℕ) → away dist k ≤ far
   pub inside : (k : ℕ) → away dist k < far → (d .lo (d .n) ≤ k) × (k ≤ target) × (away dist k ≤ (t + 1) * dearest) × (0 < d .cap k)
   pub reached : (k : ℕ) → 0 < el turn k → (d .lo (d .n) ≤ k) × (k < target) × (away dist k ≤ t * dearest)
-  pub zeros : t + count 98 (el turn) 0 ≡ 98
+  pub zeros : t + count periodRow (el turn) 0 ≡ periodRow
 
 -- period k was reached last
 pub record Around (d : Instance) (x p : ℕ → ℕ) (target : ℕ) (dist turn via : List ℕ) (t k m : ℕ) : Type 0 where
@@ -109,8 +111,8 @@ pub record Around (d : Instance) (x p : ℕ → ℕ) (target : ℕ) (dist turn v
 
 -- the periods of the list stand rising at places 0 .. left, the target last
 pub record InList (list : List ℕ) (left target : ℕ) : Type 0 where
-  pub row : length list ≡ 98
-  pub short : left < 98
+  pub row : length list ≡ periodRow
+  pub short : left < periodRow
   pub ends : el list left ≡ target
   pub rising : (y z : ℕ) → y < z → z ≤ left → el list y < el list z
 
@@ -154,21 +156,21 @@ pub record Waiting (cap : ℕ → ℕ) (dist turn : List ℕ) (first target leve
 pub record Lined (cap : ℕ → ℕ) (dist turn list queue : List ℕ) (left first target level t queued : ℕ) : Type 0 where
   pub listed : Listed cap list turn queue left first target t queued
   pub low : (y : ℕ) → y ≤ left → level ≤ away dist (el list y)
-  pub row : length queue ≡ 98
+  pub row : length queue ≡ periodRow
   pub upto : t ≤ queued
-  pub room : queued + left < 98
+  pub room : queued + left < periodRow
   pub waits : (y : ℕ) → t ≤ y → y < queued → Waiting cap dist turn first target level (el queue y)
   pub apart : (y z : ℕ) → t ≤ y → y < z → z < queued → el queue y ≢ el queue z
   pub out : (y z : ℕ) → t ≤ y → y < queued → z < left → el queue y ≢ el list z
 
 pub record CanList (list : List ℕ) (first target : ℕ) : Type 0 where
-  pub row : length list ≡ 98
+  pub row : length list ≡ periodRow
   pub before : first ≤ target
-  pub within : target < 98
+  pub within : target < periodRow
 
 -- the open periods from first on, and the target
 pub record Filled (capacities list : List ℕ) (first target left : ℕ) : Type 0 where
-  pub short : left < 98
+  pub short : left < periodRow
   pub ends : el list left ≡ target
   pub rising : (y z : ℕ) → y < z → z ≤ left → el list y < el list z
   pub low : (y : ℕ) → y ≤ left → first ≤ el list y
@@ -179,9 +181,9 @@ pub record Filled (capacities list : List ℕ) (first target left : ℕ) : Type 
 
 -- nothing in the list is nearer than `level`
 pub record CanNear (dist list : List ℕ) (left target level : ℕ) : Type 0 where
-  pub dists : length dist ≡ 98
+  pub dists : length dist ≡ periodRow
   pub shape : InList list left target
-  pub within : target < 98
+  pub within : target < periodRow
   pub low : (y : ℕ) → y ≤ left → level ≤ away dist (el list y)
 
 -- the period at place `at` of the list is the nearest
@@ -207,11 +209,11 @@ pub record Levelled (dist list list₂ queue queue₂ : List ℕ) (left left₂ 
   pub all : (j : ℕ) → At list left j → At list₂ left₂ j ⊎ Waits queue₂ queued (queued + (left - left₂)) j
 
 pub record CanLevel (dist list queue : List ℕ) (at left target queued : ℕ) : Type 0 where
-  pub dists : length dist ≡ 98
+  pub dists : length dist ≡ periodRow
   pub shape : InList list left target
-  pub within : target < 98
-  pub queue-row : length queue ≡ 98
-  pub room : queued + left < 98
+  pub within : target < periodRow
+  pub queue-row : length queue ≡ periodRow
+  pub room : queued + left < periodRow
   pub before : at < left
 
 -- `level` is the least distance in the list; what is as near goes to the queue, unless the target is
@@ -237,44 +239,55 @@ pub record Nearer (dist dist₂ via via₂ : List ℕ) (k v who : ℕ) : Type 0 
   pub cases : ((v < away dist k) × (dist₂ ≡ set dist k v) × (via₂ ≡ set via k who))
       ⊎ ((away dist k ≤ v) × (dist₂ ≡ dist) × (via₂ ≡ via))
 
--- a period that does not stand in the list is no farther than an offer to it
-pub record CanOffer (d : Day) (prices list dist via : List ℕ) (left target i from base : ℕ) : Type 0 where
-  pub few : P d ≤ 96
-  pub room : (i + 1) * width ≤ length (d .flights)
-  pub rates : rate d i ≤ 10000
-  pub jumps : jump d i ≤ 1000000
-  pub within : target < 98
-  pub dists : length dist ≡ 98
-  pub vias : length via ≡ 98
-  pub low : from ≤ 98 * dearest
-  pub base-low : base ≤ dearest
-  pub most : away dist target ≤ far
-  pub pays : (k : ℕ) → due d i ≤ k → k ≤ min (latest d i) target → 0 < room-in d k
-      → (base ≤ from + payment d prices i k) × (payment d prices i k ≤ dearest)
+-- ---- the offers of one flight
+
+-- what a flight pays in period k
+abbrev pub pays : Flight → List ℕ → ℕ → ℕ
+pays f prices k = holdCost f (k - f .due) + ofPeriod prices k
+
+-- the last period that it may offer: none behind the target matters, so that a missing limit may as well end there
+abbrev pub offersTo : Flight → ℕ → ℕ
+offersTo f target = min (latestOf (target - 1) f) target
+
+pub record CanOffer (f : Flight) (o : Origin) (prices list dist via : List ℕ) (left target : ℕ) : Type 0 where
+  pub shape : InList list left target
+  pub within : target < periodRow
+  pub dists : length dist ≡ periodRow
+  pub vias : length via ≡ periodRow
   pub prices-row : target ≤ length prices + 1
   pub free : ofPeriod prices target ≡ 0
-  pub from-due : 1 ≤ due d i
-  pub by-target : due d i ≤ target
-  pub shape : InList list left target
-  pub some : (y : ℕ) → y ≤ left → 0 < room-in d (el list y)
-  pub passed : (j : ℕ) → Gap list left j → due d i ≤ j → j ≤ min (latest d i) target → away dist j + base ≤ from + payment d prices i j
+  pub from-due : 1 ≤ f .due
+  pub by-target : f .due ≤ target
+  pub low : o .from ≤ periodRow * dearest
+  pub base-low : o .base ≤ dearest
+  pub most : away dist target ≤ far
+  pub fair : (y : ℕ) → y ≤ left → f .due ≤ el list y → el list y ≤ offersTo f target
+      → (o .base ≤ o .from + pays f prices (el list y)) × (pays f prices (el list y) ≤ dearest)
 
-abbrev pub Offers : (d : Day) (prices : List ℕ) (target i who from base : ℕ) (dist dist₂ via via₂ : List ℕ) → Type 0
-Offers d prices target i who from base dist dist₂ via via₂ =
-    Offered (due d i) (min (latest d i) target) (payment d prices i) who from base (away dist target) (away dist) (away dist₂) (el via) (el via₂)
+-- each period of the list comes nearer, or an offer to it is no nearer than it is or than the target
+pub record Offers (f : Flight) (o : Origin) (prices list dist dist₂ via via₂ : List ℕ) (left target : ℕ) : Type 0 where
+  pub listed : (y : ℕ) → y ≤ left
+      → Took (f .due) (offersTo f target) (pays f prices) (o .who) (o .from) (o .base) (away dist) (away dist₂) (el via₂) (el list y)
+      ⊎ Kept (f .due) (offersTo f target) (pays f prices) (o .from) (o .base) (away dist target) (away dist) (away dist₂) (el via) (el via₂) (el list y)
+  pub others : (j : ℕ) → ((y : ℕ) → y ≤ left → el list y ≢ j) → (away dist₂ j ≡ away dist j) × (el via₂ j ≡ el via j)
 
-pub record CanExpand (d : Day) (places holds first-in next-in prices list dist via : List ℕ) (n left target k : ℕ) : Type 0 where
+-- ---- the search
+
+-- a plan x of the flights at the first n places, in its rows, and a new flight at place n
+pub record Ready (d : Day) (x : ℕ → ℕ) (places links prices : List ℕ) (n target : ℕ) : Type 0 where
   pub table : Table d places
-  pub scene : Scene (scope d places n target) (landing d places holds) (ofPeriod prices) target
+  pub scene : Scene (scope d places n target) x (ofPeriod prices) target
   pub upto : n < N d
-  pub holds-row : length holds ≡ N d
-  pub chained : Chained (landing d places holds) first-in next-in n
-  pub dists : length dist ≡ 98
-  pub vias : length via ≡ 98
-  pub to : k < target
-  pub near : away dist k ≤ 98 * dearest
-  pub most : (j : ℕ) → away dist j ≤ far
+  pub chained : Chained x links n
   pub prices-row : target ≤ length prices + 1
+
+pub record CanExpand (d : Day) (x : ℕ → ℕ) (places links prices list dist via : List ℕ) (n left target k : ℕ) : Type 0 where
+  pub ready : Ready d x places links prices n target
+  pub dists : length dist ≡ periodRow
+  pub vias : length via ≡ periodRow
+  pub to : k < target
+  pub near : away dist k ≤ periodRow * dearest
+  pub most : (j : ℕ) → away dist j ≤ far
   pub shape : InList list left target
   pub here : 0 < room-in d k
   pub some : (y : ℕ) → y ≤ left → 0 < room-in d (el list y)
@@ -285,23 +298,39 @@ pub record Expanded (d : Instance) (x p : ℕ → ℕ) (target : ℕ) (dist dist
   pub keeps : (turn : List ℕ) (t : ℕ) → Around d x p target dist turn via t k (d .n) → Around d x p target dist₂ turn via₂ t k 0 × (away dist₂ k ≡ away dist k)
   pub falls : (j : ℕ) → away dist₂ j ≤ away dist j
 
--- nothing is reached yet
-pub record CanSearch (d : Day) (places holds first-in next-in prices list queue dist turn via : List ℕ) (n target : ℕ) : Type 0 where
-  pub table : Table d places
-  pub scene : Scene (scope d places n target) (landing d places holds) (ofPeriod prices) target
-  pub upto : n < N d
-  pub holds-row : length holds ≡ N d
-  pub chained : Chained (landing d places holds) first-in next-in n
-  pub prices-row : target ≤ length prices + 1
-  pub listed : length list ≡ 98
-  pub queue-row : length queue ≡ 98
-  pub rows : Rows dist turn via
+-- there is a day with these flights, and a plan of some of them
+pub record CanExpandSome (flights places links prices list dist via : List ℕ) (left target k : ℕ) : Type 0 where
+  pub capacities : List ℕ
+  pub x : ℕ → ℕ
+  pub n : ℕ
+  pub can : CanExpand (day capacities flights) x places links prices list dist via n left target k
+
+-- whatever the day and the plan are
+abbrev pub ExpandedAll : (flights places links prices list dist dist₂ via via₂ : List ℕ) (left target k : ℕ) → Type 0
+ExpandedAll flights places links prices list dist dist₂ via via₂ left target k =
+    (capacities : List ℕ) (x : ℕ → ℕ) (n : ℕ) → CanExpand (day capacities flights) x places links prices list dist via n left target k
+    → Expanded (scope (day capacities flights) places n target) x (ofPeriod prices) target dist dist₂ via via₂ k
+
+-- all is far
+pub record CanSearch (d : Day) (x : ℕ → ℕ) (places links prices dist via : List ℕ) (n target : ℕ) : Type 0 where
+  pub ready : Ready d x places links prices n target
+  pub dists : length dist ≡ periodRow
+  pub vias : length via ≡ periodRow
   pub all-far : (k : ℕ) → away dist k ≡ far
-  pub no-turns : (k : ℕ) → el turn k ≡ 0
 
 -- the target is the nearest of the periods that are not reached, and it is not far
-pub record Searched (d : Instance) (x p : ℕ → ℕ) (target : ℕ) (dist turn via : List ℕ) : Type 0 where
+pub record Searched (d : Instance) (x p : ℕ → ℕ) (target : ℕ) (dist via : List ℕ) : Type 0 where
+  pub turn : List ℕ
   pub t : ℕ
   pub so-far : Search d x p target dist turn via t 0
   pub least : (k : ℕ) → el turn k ≡ 0 → away dist target ≤ away dist k
   pub near : away dist target < far
+
+-- there is a plan; whatever it is
+pub record CanSearchSome (d : Day) (places links prices dist via : List ℕ) (n target : ℕ) : Type 0 where
+  pub x : ℕ → ℕ
+  pub can : CanSearch d x places links prices dist via n target
+
+abbrev pub SearchedAll : (d : Day) (places links prices dist dist₂ via via₂ : List ℕ) (n target : ℕ) → Type 0
+SearchedAll d places links prices dist dist₂ via via₂ n target =
+    (x : ℕ → ℕ) → CanSearch d x places links prices dist via n target → Searched (scope d places n target) x (ofPeriod prices) target dist₂ via₂

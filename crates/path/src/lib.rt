@@ -2,24 +2,40 @@
 ghost use mathlib.Core.Path.{_≡_};
 ghost use Prim.Native.Nat.{_+_, _<_};
 ghost use lib.ListN.{length};
-ghost use Rattle.day.specs.Day.{day, ofPeriod};
 ghost use Rattle.assignment.specs.Rows.{el};
-ghost use Rattle.path.specs.Path.{landing, scope, away, CanList, Filled, Removed, CanNear, NearestIn, CanLevel, Levelled, NextLevel, Nearer, CanOffer, Offers, CanExpand, Expanded, CanSearch, Searched};
-use day::after_of;
-use day::cost_of;
+ghost use Rattle.day.specs.Day.{lent, periodRow};
+ghost use Rattle.path.specs.Path.{away, CanList, Filled, Removed, CanNear, NearestIn, CanLevel, Levelled, NextLevel, Nearer, CanOffer, Offers, CanExpandSome, ExpandedAll, CanSearchSome, SearchedAll};
+use day::Flight;
+use day::PERIOD_ROW;
 use day::due_of;
+use day::flight_at;
 use day::hold_cost;
-use day::jump_of;
 use day::latest_of;
 use day::of_period;
-use day::rate_of;
 use day::wide;
 
 // A distance that no chain of moves has.
 pub const FAR: usize = 4611686018427387904;
 
+// A row of chains: an entry for each period, then one for each place.
+pub const CHAIN_ROW: usize = 226;
+
+// Where an offer starts: the place of the flight that makes it, how far the period is in which it lands, and what it pays there.
+struct Origin {
+    who: usize,
+    from: usize,
+    base: usize,
+}
+
+// A period of the list or of the queue, which fits a byte.
+fn period(x: u8) -> usize
+    ensures { λ r. ⌜ r ≡ x ⌝ }
+{
+    x as usize
+}
+
 // Lists the open periods from first on, rising, and behind them the target; the target's place.
-fn list_periods(capacities: &[u32], list: &mut [usize], first: usize, target: usize) -> usize
+fn list_periods(capacities: &[u32], list: &mut [u8], first: usize, target: usize) -> usize
     requires { ⌜ CanList (now list) first target ⌝ }
     ensures { λ left. ⌜ Filled (now (capacities .entry)) (now (list .exit)) first target left ⌝ }
 {
@@ -29,17 +45,17 @@ fn list_periods(capacities: &[u32], list: &mut [usize], first: usize, target: us
         let here = k;
         k += 1;
         if 0 < of_period(capacities, here) {
-            list[left] = here;
+            list[left] = here as u8;
             left += 1;
         }
     }
-    list[left] = target;
+    list[left] = target as u8;
     left
 }
 
 // The place of the nearest period of the list, whose last is the target. None is nearer than `level`, so that the first which is as near
 // ends the search.
-fn nearest(dist: &[usize], list: &[usize], left: usize, target: usize, level: usize) -> usize
+fn nearest(dist: &[usize], list: &[u8], left: usize, target: usize, level: usize) -> usize
     requires { ⌜ CanNear (now dist) (now list) left target level ⌝ }
     ensures { λ at. ⌜ NearestIn (now (dist .entry)) (now (list .entry)) left at ⌝ }
 {
@@ -49,7 +65,7 @@ fn nearest(dist: &[usize], list: &[usize], left: usize, target: usize, level: us
     while z < left {
         let here = z;
         z += 1;
-        let away = dist[list[here]];
+        let away = dist[period(list[here])];
         if away < best {
             if away <= level {
                 return here;
@@ -62,8 +78,8 @@ fn nearest(dist: &[usize], list: &[usize], left: usize, target: usize, level: us
 }
 
 // Takes the period at place `at` out of a list whose last place is `left`.
-fn take_out(list: &mut [usize], at: usize, left: usize)
-    requires { ⌜ (length (now list) ≡ 98) × (at < left) × (left < 98) ⌝ }
+fn take_out(list: &mut [u8], at: usize, left: usize)
+    requires { ⌜ (length (now list) ≡ periodRow) × (at < left) × (left < periodRow) ⌝ }
     ensures { λ _. ⌜ Removed (now (list .entry)) (now (list .exit)) at left ⌝ }
 {
     let mut z = at;
@@ -78,8 +94,8 @@ fn take_out(list: &mut [usize], at: usize, left: usize)
 // where the target then stands in the list.
 fn take_level(
     dist: &[usize],
-    list: &mut [usize],
-    queue: &mut [usize],
+    list: &mut [u8],
+    queue: &mut [u8],
     at: usize,
     left: usize,
     target: usize,
@@ -88,14 +104,14 @@ fn take_level(
     requires { ⌜ CanLevel (now dist) (now list) (now queue) at left target queued ⌝ }
     ensures { λ r. ⌜ (r < left) × Levelled (now (dist .entry)) (now (list .entry)) (now (list .exit)) (now (queue .entry)) (now (queue .exit)) left r queued (away (now (dist .entry)) (el (now (list .entry)) at)) ⌝ }
 {
-    let level = dist[list[at]];
+    let level = dist[period(list[at])];
     let mut kept = at;
     let mut end = queued;
     let mut z = at;
     while z < left {
         let k = list[z];
         z += 1;
-        if dist[k] == level {
+        if dist[period(k)] == level {
             queue[end] = k;
             end += 1;
         } else {
@@ -103,7 +119,7 @@ fn take_level(
             kept += 1;
         }
     }
-    list[kept] = target;
+    list[kept] = target as u8;
     kept
 }
 
@@ -111,15 +127,15 @@ fn take_level(
 // `level`, what was reached last, others often are too, and all of them are moved at once.
 fn take_nearest(
     dist: &[usize],
-    list: &mut [usize],
-    queue: &mut [usize],
+    list: &mut [u8],
+    queue: &mut [u8],
     left: usize,
     target: usize,
     level: usize,
     queued: usize,
 ) -> usize
     requires { ⌜ CanNear (now dist) (now list) left target level ⌝ }
-    requires { ⌜ (length (now queue) ≡ 98) × (queued + left < 98) ⌝ }
+    requires { ⌜ (length (now queue) ≡ periodRow) × (queued + left < periodRow) ⌝ }
     ensures { λ r. ⌜ NextLevel (now (dist .entry)) (now (list .entry)) (now (list .exit)) (now (queue .entry)) (now (queue .exit)) left r queued target ⌝ }
 {
     let at = nearest(dist, list, left, target, level);
@@ -127,7 +143,7 @@ fn take_nearest(
         return left;
     }
     let k = list[at];
-    if dist[k] <= level {
+    if dist[period(k)] <= level {
         return take_level(dist, list, queue, at, left, target, queued);
     }
     queue[queued] = k;
@@ -137,7 +153,7 @@ fn take_nearest(
 
 // Period k comes to the distance `away` by way of `who`, if that is nearer.
 fn bring_nearer(dist: &mut [usize], via: &mut [usize], k: usize, away: usize, who: usize)
-    requires { ⌜ (k < length (now dist)) × (k < length (now via)) × (k < 98) ⌝ }
+    requires { ⌜ (k < length (now dist)) × (k < length (now via)) × (k < periodRow) ⌝ }
     ensures { λ _. ⌜ Nearer (now (dist .entry)) (now (dist .exit)) (now (via .entry)) (now (via .exit)) k away who ⌝ }
 {
     if away < dist[k] {
@@ -146,95 +162,73 @@ fn bring_nearer(dist: &mut [usize], via: &mut [usize], k: usize, away: usize, wh
     }
 }
 
-// The flight at table place i, which stands at place `who`, offers the periods of its window that stand in the list: from distance `from`,
-// where it pays `base`, to what it pays there. Costs rise with the hold, so that behind the first offer that is no nearer than the target
-// none is. The target has no price.
+// A flight offers the periods of its window that stand in the list, up to the target, which stands last: from the distance of its origin to
+// what it pays there more than at home. Costs rise with the hold, so that behind the first offer that is no nearer than the target none is.
+// The target has no price.
 fn offer(
-    capacities: &[u32],
-    flights: &[u32],
+    f: Flight,
+    o: Origin,
     prices: &[u32],
-    list: &[usize],
+    list: &[u8],
     dist: &mut [usize],
     via: &mut [usize],
     left: usize,
     target: usize,
-    i: usize,
-    who: usize,
-    from: usize,
-    base: usize,
 )
-    requires { ⌜ CanOffer (day (now capacities) (now flights)) (now prices) (now list) (now dist) (now via) left target i from base ⌝ }
-    ensures { λ _. ⌜ Offers (day (now (capacities .entry)) (now (flights .entry))) (now (prices .entry)) target i who from base (now (dist .entry)) (now (dist .exit)) (now (via .entry)) (now (via .exit)) ⌝ }
+    requires { ⌜ CanOffer f o (now prices) (now list) (now dist) (now via) left target ⌝ }
+    ensures { λ _. ⌜ Offers f o (now (prices .entry)) (now (list .entry)) (now (dist .entry)) (now (dist .exit)) (now (via .entry)) (now (via .exit)) left target ⌝ }
 {
-    let due = due_of(flights, i);
-    let rate = rate_of(flights, i);
-    let after = after_of(flights, i);
-    let jump = jump_of(flights, i);
-    let last = latest_of(capacities, flights, i);
-    let goal = dist[target] + base;
+    let due = wide(f.due);
+    let last = latest_of(target - 1, f);
+    let goal = dist[target] + o.base;
     let mut z = 0;
     while z < left {
-        let at = list[z];
+        let at = period(list[z]);
         z += 1;
         if last < at {
             return;
         }
         if due <= at {
-            let reach = from + hold_cost(rate, after, jump, at - due);
+            let reach = o.from + hold_cost(f, at - due);
             if goal <= reach {
                 return;
             }
             let price = wide(prices[at - 1]);
-            bring_nearer(dist, via, at, reach + price - base, who);
+            bring_nearer(dist, via, at, reach + price - o.base, o.who);
         }
     }
     if target <= last {
-        let reach = from + hold_cost(rate, after, jump, target - due);
-        bring_nearer(dist, via, target, reach - base, who);
+        let reach = o.from + hold_cost(f, target - due);
+        bring_nearer(dist, via, target, reach - o.base, o.who);
     }
 }
 
 // The flights that land in period k offer the periods of their windows.
 fn expand(
-    capacities: &[u32],
     flights: &[u32],
     places: &[u32],
-    holds: &[u32],
-    first_in: &[usize],
-    next_in: &[usize],
+    links: &[usize],
     prices: &[u32],
-    list: &[usize],
+    list: &[u8],
     dist: &mut [usize],
     via: &mut [usize],
-    n: usize,
     left: usize,
     target: usize,
     k: usize,
 )
-    requires { ⌜ CanExpand (day (now capacities) (now flights)) (now places) (now holds) (now first_in) (now next_in) (now prices) (now list) (now dist) (now via) n left target k ⌝ }
-    ensures { λ _. ⌜ Expanded (scope (day (now (capacities .entry)) (now (flights .entry))) (now (places .entry)) n target) (landing (day (now (capacities .entry)) (now (flights .entry))) (now (places .entry)) (now (holds .entry))) (ofPeriod (now (prices .entry))) target (now (dist .entry)) (now (dist .exit)) (now (via .entry)) (now (via .exit)) k ⌝ }
+    requires { ⌜ CanExpandSome (now flights) (now places) (now links) (now prices) (now list) (now dist) (now via) left target k ⌝ }
+    ensures { λ _. ⌜ ExpandedAll (now (flights .entry)) (now (places .entry)) (now (links .entry)) (now (prices .entry)) (now (list .entry)) (now (dist .entry)) (now (dist .exit)) (now (via .entry)) (now (via .exit)) left target k ⌝ }
 {
     let from = dist[k];
-    let mut next = first_in[k];
+    let price = of_period(prices, k);
+    let mut next = links[k];
     while 0 < next {
         let who = next - 1;
-        next = next_in[who];
-        let i = wide(places[who]);
-        let base = cost_of(capacities, flights, i, wide(holds[i])) + of_period(prices, k);
-        offer(
-            capacities,
-            flights,
-            prices,
-            list,
-            dist,
-            via,
-            left,
-            target,
-            i,
-            who,
-            from,
-            base,
-        );
+        next = links[PERIOD_ROW + who];
+        let f = flight_at(flights, wide(places[who]));
+        let base = hold_cost(f, k - wide(f.due)) + price;
+        let o = Origin { who, from, base };
+        offer(f, o, prices, list, dist, via, left, target);
     }
 }
 
@@ -245,56 +239,39 @@ pub fn find_path(
     capacities: &[u32],
     flights: &[u32],
     places: &[u32],
-    holds: &[u32],
-    first_in: &[usize],
-    next_in: &[usize],
+    links: &[usize],
     prices: &[u32],
-    list: &mut [usize],
-    queue: &mut [usize],
     dist: &mut [usize],
-    turn: &mut [usize],
     via: &mut [usize],
     n: usize,
     target: usize,
 )
-    requires { ⌜ CanSearch (day (now capacities) (now flights)) (now places) (now holds) (now first_in) (now next_in) (now prices) (now list) (now queue) (now dist) (now turn) (now via) n target ⌝ }
-    ensures { λ _. ⌜ Searched (scope (day (now (capacities .entry)) (now (flights .entry))) (now (places .entry)) n target) (landing (day (now (capacities .entry)) (now (flights .entry))) (now (places .entry)) (now (holds .entry))) (ofPeriod (now (prices .entry))) target (now (dist .exit)) (now (turn .exit)) (now (via .exit)) ⌝ }
+    requires { ⌜ CanSearchSome (lent capacities flights) (now places) (now links) (now prices) (now dist) (now via) n target ⌝ }
+    ensures { λ _. ⌜ SearchedAll (lent (capacities .entry) (flights .entry)) (now (places .entry)) (now (links .entry)) (now (prices .entry)) (now (dist .entry)) (now (dist .exit)) (now (via .entry)) (now (via .exit)) n target ⌝ }
 {
-    let i = wide(places[n]);
-    let first = due_of(flights, i);
-    let all = list_periods(capacities, list, first, target);
-    offer(
-        capacities,
-        flights,
-        prices,
-        list,
-        dist,
-        via,
-        all,
-        target,
-        i,
-        n,
-        0,
-        0,
-    );
-    let mut left = take_nearest(dist, list, queue, all, target, 0, 0);
+    let mut list = [0u8; PERIOD_ROW];
+    let mut queue = [0u8; PERIOD_ROW];
+    let f = flight_at(flights, wide(places[n]));
+    let all = list_periods(capacities, &mut list, wide(f.due), target);
+    let o = Origin {
+        who: n,
+        from: 0,
+        base: 0,
+    };
+    offer(f, o, prices, &list, dist, via, all, target);
+    let mut left = take_nearest(dist, &mut list, &mut queue, all, target, 0, 0);
     let mut t = 0;
     while t < all - left {
-        let k = queue[t];
+        let k = period(queue[t]);
         t += 1;
-        turn[k] = t;
         expand(
-            capacities,
             flights,
             places,
-            holds,
-            first_in,
-            next_in,
+            links,
             prices,
-            list,
+            &list,
             dist,
             via,
-            n,
             left,
             target,
             k,
@@ -304,7 +281,7 @@ pub fn find_path(
             return;
         }
         if t == all - left {
-            left = take_nearest(dist, list, queue, left, target, level, t);
+            left = take_nearest(dist, &mut list, &mut queue, left, target, level, t);
         }
     }
 }

@@ -1,22 +1,21 @@
 -- The price is the least for the flights looked at so far. Assumes nothing.
 use native.Mathlib.Omega.{arith}
 use Prim.Native.Nat.{_-_}
-use Rattle.day.specs.Day.{day}
 use Rattle.closed_prices.proofs.Pricing.{Pricing, pricing-start, pricing-in, pricing-keep, pricing-up, pricing-end}
 use Rattle.closed_prices.proofs.least_price.Statement.{statement}
 use Rattle.closed_prices.proofs.least_price.Tie as tie
 
 abbrev Inv-loop : tie.InvT-loop
-Inv-loop capacities flights holds prices k count price₀ i₀ price i = Pricing (day capacities flights) holds prices k count price i
+Inv-loop periods flights holds prices k count price₀ i₀ price i = Pricing periods flights holds prices k count price i
 
 abbrev μ-loop : tie.MeasureT-loop
-μ-loop capacities flights holds prices k count price₀ i₀ price i = count - i
+μ-loop periods flights holds prices k count price₀ i₀ price i = count - i
 
 flight-count-requires : tie.Need-flight-count-requires Inv-loop μ-loop
 flight-count-requires c κs = tt
 
 loop-holds : tie.Need-loop-holds Inv-loop μ-loop
-loop-holds c = pricing-start (c .before .before .before .before .before .pre) (c .flight-count .ensures)
+loop-holds c = pricing-start (c .before .before .before .before .pre) (c .flight-count .ensures)
 
 shortfall-requires : tie.Need-shortfall-requires Inv-loop μ-loop
 shortfall-requires c κs = (c .before .loop .inv .can, pricing-in (c .before .loop .inv) (c .loop-test .taken) .0)

@@ -8,10 +8,10 @@ use Rattle.closed_prices.proofs.price_closed.Statement.{statement}
 use Rattle.closed_prices.proofs.price_closed.Tie as tie
 
 abbrev Inv-loop : tie.InvT-loop
-Inv-loop capacities flights holds prices₀ at₀ prices at = Closing (day capacities flights) holds prices₀ prices at
+Inv-loop capacities flights holds prices₀ periods at₀ prices at = Closing (day capacities flights) holds prices₀ prices at
 
 abbrev μ-loop : tie.MeasureT-loop
-μ-loop capacities flights holds prices₀ at₀ prices at = length capacities - at
+μ-loop capacities flights holds prices₀ periods at₀ prices at = periods - at
 
 loop-holds : tie.Need-loop-holds Inv-loop μ-loop
 loop-holds c = closing-start (c .before .before .before .before .pre)

@@ -2,7 +2,6 @@
 use native.Mathlib.Omega.{arith}
 use mathlib.Core.Path.{refl}
 use mathlib.Core.Logic.{inl, inr}
-use borrow.Author.Needs.{needs}
 use lib.ListN.{length-set}
 use Rattle.path.proofs.Rows.{as-read}
 use Rattle.path.proofs.bring_nearer.Statement.{statement}

@@ -1,34 +1,54 @@
 -- The flights behind `next` that land in k have offered; the chain of the period leads from one to the next. Assumes nothing.
 use native.Mathlib.Omega.{arith}
-use mathlib.Core.Path.{_∙_}
-use Rattle.day.specs.Day.{day}
-use Rattle.path.proofs.Expanding.{Expanding, expand-room, expanding-start, expanding-end, expanding-room, expanding-less, expanding-stands, expanding-hold, expanding-small, expanding-can, expanding-offered}
+use Rattle.path.proofs.Expanding.{ExpandingAll, expand-room, expanding-start, expanding-sizes, expanding-end, expanding-room, expanding-less, expanding-stands, expanding-home, expanding-small, expanding-can, expanding-offered}
 use Rattle.path.proofs.expand.Statement.{statement}
 use Rattle.path.proofs.expand.Tie as tie
 
 abbrev Inv-loop : tie.InvT-loop
-Inv-loop capacities flights places holds first-in next-in prices list dist₀ via₀ n left target k from next₀ dist via next = Expanding (day capacities flights) places holds first-in next-in prices list n left target dist₀ dist via₀ via k from next
+Inv-loop flights places links prices list dist₀ via₀ left target k from price next₀ dist via next = ExpandingAll flights places links prices list dist₀ dist via₀ via left target k from price next
 
 abbrev μ-loop : tie.MeasureT-loop
-μ-loop capacities flights places holds first-in next-in prices list dist₀ via₀ n left target k from next₀ dist via next = next
+μ-loop flights places links prices list dist₀ via₀ left target k from price next₀ dist via next = next
 
 mul-from : tie.Need-mul-from Inv-loop μ-loop
-mul-from c = omega (arith, expand-room (c .before .before .before .before .before .before .before .before .before .before .pre))
+mul-from c =
+    let at-shared-slice-known2 = c .before .before .before .before .before in
+    let at-start = at-shared-slice-known2 .before .before in
+    omega (arith, expand-room (at-start .pre))
 
 slice-read-from : tie.Need-slice-read-from Inv-loop μ-loop
-slice-read-from c = expand-room (c .before .before .before .before .before .before .before .before .before .before .before .pre) .0
+slice-read-from c =
+    let at-shared-slice-known3 = c .before .before .before .before .before in
+    let at-start = at-shared-slice-known3 .before .before .before in
+    expand-room (at-start .pre) .0
+
+of-period-requires : tie.Need-of-period-requires Inv-loop μ-loop
+of-period-requires c κs = tt
 
 mul-next : tie.Need-mul-next Inv-loop μ-loop
-mul-next c = omega (arith, expand-room (c .before .before .before .before .before .before .before .before .before .before .before .pre))
+mul-next c =
+    let at-shared-slice-known4 = c .before .before .before .before .before in
+    let at-start = at-shared-slice-known4 .before .before .before .before in
+    omega (arith, expand-room (at-start .pre))
 
 shared-slice-read-next : tie.Need-shared-slice-read-next Inv-loop μ-loop
-shared-slice-read-next c = expand-room (c .before .before .before .before .before .before .before .before .before .before .before .before .pre) .1
+shared-slice-read-next c =
+    let at-shared-slice-known5 = c .before .before .before .before .before in
+    let at-start = at-shared-slice-known5 .before .before .before .before .before in
+    expand-room (at-start .pre) .1
 
 loop-holds : tie.Need-loop-holds Inv-loop μ-loop
-loop-holds c = expanding-start (c .before .before .before .before .before .before .before .before .before .before .before .before .pre)
+loop-holds c =
+    let at-of-period = c .before in
+    let at-shared-slice-known4 = at-of-period .before .before .before .before .before in
+    let at-start = at-shared-slice-known4 .before .before .before .before in
+    expanding-start (at-start .pre) (at-of-period .of-period .ensures .0)
 
 sub-who : tie.Need-sub-who Inv-loop μ-loop
 sub-who c = omega (arith, c .loop-test .taken)
+
+add-next : tie.Need-add-next Inv-loop μ-loop
+add-next c = omega (arith, expanding-room (c .before .loop .inv) (c .loop-test .taken))
 
 mul-next-2 : tie.Need-mul-next-2 Inv-loop μ-loop
 mul-next-2 c = omega (arith, expanding-room (c .before .loop .inv) (c .loop-test .taken))
@@ -45,38 +65,71 @@ shared-slice-read-wide c = expanding-room (c .before .before .before .loop .inv)
 wide-requires : tie.Need-wide-requires Inv-loop μ-loop
 wide-requires c κs = tt
 
-mul-wide-2 : tie.Need-mul-wide-2 Inv-loop μ-loop
-mul-wide-2 c = omega (arith, expanding-stands (c .before .before .before .before .loop .inv) (c .before .before .before .loop-test .taken) (c .wide .ensures))
-
-shared-slice-read-wide-2 : tie.Need-shared-slice-read-wide-2 Inv-loop μ-loop
-shared-slice-read-wide-2 c = expanding-stands (c .before .before .before .before .before .loop .inv) (c .before .before .before .before .loop-test .taken) (c .before .wide .ensures) .1
+flight-at-requires : tie.Need-flight-at-requires Inv-loop μ-loop
+flight-at-requires c κs = expanding-stands (c .before .before .before .before .loop .inv) (c .before .before .before .loop-test .taken) (c .wide .ensures)
 
 wide-requires-2 : tie.Need-wide-requires-2 Inv-loop μ-loop
 wide-requires-2 c κs = tt
 
-cost-of-requires : tie.Need-cost-of-requires Inv-loop μ-loop
-cost-of-requires c κs = (expanding-stands (c .before .before .before .before .before .before .loop .inv) (c .before .before .before .before .before .loop-test .taken) (c .before .before .wide .ensures) .0, expanding-hold (c .before .before .before .before .before .before .loop .inv) (c .before .before .before .before .before .loop-test .taken) (c .before .before .wide .ensures) (c .wide2 .ensures))
+sub-hold-cost : tie.Need-sub-hold-cost Inv-loop μ-loop
+sub-hold-cost c =
+    let at-flight-at = c .before in
+    let at-wide = at-flight-at .before in
+    let at-loop-test = at-wide .before .before .before in
+    let at-loop = at-loop-test .before in
+    expanding-home (at-loop .loop .inv) (at-loop-test .loop-test .taken) (at-wide .wide .ensures) (at-flight-at .flight-at .ensures) (c .wide2 .ensures) .0
 
-of-period-requires : tie.Need-of-period-requires Inv-loop μ-loop
-of-period-requires c κs = tt
+hold-cost-requires : tie.Need-hold-cost-requires Inv-loop μ-loop
+hold-cost-requires c κs =
+    let at-flight-at = c .before in
+    let at-wide = at-flight-at .before in
+    let at-loop-test = at-wide .before .before .before in
+    let at-loop = at-loop-test .before in
+    expanding-home (at-loop .loop .inv) (at-loop-test .loop-test .taken) (at-wide .wide .ensures) (at-flight-at .flight-at .ensures) (c .wide2 .ensures) .1
 
 add-base : tie.Need-add-base Inv-loop μ-loop
-add-base c = omega (arith, expanding-small (c .before .before .before .before .before .before .before .before .loop .inv) (c .before .before .before .before .before .before .before .loop-test .taken) (c .before .before .before .before .wide .ensures) (c .before .before .wide2 .ensures) (c .before .cost-of .ensures) (c .of-period .ensures .0))
+add-base c =
+    let at-wide2 = c .before in
+    let at-flight-at = at-wide2 .before in
+    let at-wide = at-flight-at .before in
+    let at-loop-test = at-wide .before .before .before in
+    let at-loop = at-loop-test .before in
+    omega (arith, expanding-small (at-loop .loop .inv) (at-loop-test .loop-test .taken) (at-wide .wide .ensures) (at-flight-at .flight-at .ensures) (at-wide2 .wide2 .ensures) (c .hold-cost .ensures))
 
 offer-requires : tie.Need-offer-requires Inv-loop μ-loop
-offer-requires c κs = expanding-can (c .before .before .before .before .before .before .before .before .before .before .loop .inv) (c .before .before .before .before .before .before .before .before .before .loop-test .taken) (c .before .before .before .before .before .before .wide .ensures) (c .before .before .before .before .wide2 .ensures) (c .before .before .before .cost-of .ensures) (c .before .before .of-period .ensures .0)
+offer-requires c κs =
+    let at-hold-cost = c .before .before in
+    let at-wide2 = at-hold-cost .before in
+    let at-flight-at = at-wide2 .before in
+    let at-wide = at-flight-at .before in
+    let at-loop-test = at-wide .before .before .before in
+    let at-loop = at-loop-test .before in
+    expanding-can (at-loop .loop .inv) (at-loop-test .loop-test .taken) (at-wide .wide .ensures) (at-flight-at .flight-at .ensures) (at-wide2 .wide2 .ensures) (at-hold-cost .hold-cost .ensures)
 
 loop-less : tie.Need-loop-less Inv-loop μ-loop
-loop-less c = expanding-less (c .before .before .before .before .before .before .before .before .before .before .before .before .before .before .before .loop .inv) (c .before .before .before .before .before .before .before .before .before .before .before .before .before .before .loop-test .taken)
+loop-less c =
+    let at-offer-arg2 = c .before .before .before .before .before in
+    let at-wide = at-offer-arg2 .before .before .before .before .before in
+    let at-loop-test = at-wide .before .before .before in
+    let at-loop = at-loop-test .before in
+    expanding-less (at-loop .loop .inv) (at-loop-test .loop-test .taken)
 
 loop-again : tie.Need-loop-again Inv-loop μ-loop
-loop-again c = expanding-offered (c .before .before .before .before .before .before .before .before .before .before .before .before .before .before .before .loop .inv) (c .before .before .before .before .before .before .before .before .before .before .before .before .before .before .loop-test .taken) (c .before .before .before .before .before .before .before .before .before .before .before .wide .ensures) (c .before .before .before .before .before .before .before .before .before .wide2 .ensures) (c .before .before .before .before .before .before .before .before .cost-of .ensures) (c .before .before .before .before .before .before .before .of-period .ensures .0) (c .before .before .before .before .offer .kept .1 .1 .1 .1 .0) (c .before .before .before .before .offer .kept .1 .1 .1 .1 .1 .0) (c .before .before .before .before .offer .ensures)
+loop-again c =
+    let at-offer = c .before .before .before .before in
+    let at-hold-cost = at-offer .before .before .before in
+    let at-wide2 = at-hold-cost .before in
+    let at-flight-at = at-wide2 .before in
+    let at-wide = at-flight-at .before in
+    let at-loop-test = at-wide .before .before .before in
+    let at-loop = at-loop-test .before in
+    expanding-offered (at-loop .loop .inv) (at-loop-test .loop-test .taken) (at-wide .wide .ensures) (at-flight-at .flight-at .ensures) (at-wide2 .wide2 .ensures) (at-hold-cost .hold-cost .ensures) (at-offer .offer .kept .1 .1 .1 .1 .0) (at-offer .offer .kept .1 .1 .1 .1 .1 .0) (at-offer .offer .ensures)
 
 same-length : tie.Need-same-length Inv-loop μ-loop
-same-length c = c .before .loop .inv .same-d
+same-length c = expanding-sizes (c .before .loop .inv) .0
 
 same-length-2 : tie.Need-same-length-2 Inv-loop μ-loop
-same-length-2 c = c .before .loop .inv .same-v
+same-length-2 c = expanding-sizes (c .before .loop .inv) .1
 
 returns : tie.Need-returns Inv-loop μ-loop
 returns c = expanding-end (c .before .loop .inv) (c .loop-test .left)
@@ -89,20 +142,21 @@ expand-spec =
     μ-loop
     mul-from
     slice-read-from
+    of-period-requires
     mul-next
     shared-slice-read-next
     loop-holds
     sub-who
+    add-next
     mul-next-2
     shared-slice-read-next-2
     mul-wide
     shared-slice-read-wide
     wide-requires
-    mul-wide-2
-    shared-slice-read-wide-2
+    flight-at-requires
     wide-requires-2
-    cost-of-requires
-    of-period-requires
+    sub-hold-cost
+    hold-cost-requires
     add-base
     offer-requires
     loop-less

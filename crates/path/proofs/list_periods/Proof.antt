@@ -1,7 +1,7 @@
 -- The open periods before k are listed. Assumes nothing.
 use native.Mathlib.Omega.{arith}
+use Prim.Native.Nat.{_-_}
 use mathlib.Core.Path.{_∙_}
-use Prim.Native.Nat.{_+_, _-_}
 use lib.ListN.{length-set}
 use Rattle.path.proofs.Listing.{Filling, filling-start, filling-room, filling-pass, filling-next, filling-end}
 use Rattle.path.proofs.list_periods.Statement.{statement}
@@ -22,8 +22,8 @@ add-k c = omega (arith, c .loop-test .taken, c .before .loop .inv .can .within)
 of-period-requires : tie.Need-of-period-requires Inv-loop μ-loop
 of-period-requires c κs = tt
 
-mul-list : tie.Need-mul-list Inv-loop μ-loop
-mul-list c = omega (arith, filling-room (c .before .before .before .loop .inv))
+cast-list : tie.Need-cast-list Inv-loop μ-loop
+cast-list c = omega (arith, c .before .before .loop-test .taken, c .before .before .before .loop .inv .can .within)
 
 slice-write-list : tie.Need-slice-write-list Inv-loop μ-loop
 slice-write-list c = filling-room (c .before .before .before .loop .inv) .0
@@ -43,8 +43,8 @@ loop-less-2 c = omega (arith, c .before .before .loop-test .taken)
 loop-again-2 : tie.Need-loop-again-2 Inv-loop μ-loop
 loop-again-2 c = filling-pass (c .before .before .before .loop .inv) (c .before .before .loop-test .taken) (c .before .of-period .ensures .0) (c .if1 .left)
 
-mul-list-2 : tie.Need-mul-list-2 Inv-loop μ-loop
-mul-list-2 c = omega (arith, filling-room (c .before .loop .inv))
+cast-list-2 : tie.Need-cast-list-2 Inv-loop μ-loop
+cast-list-2 c = omega (arith, c .before .loop .inv .can .within)
 
 slice-write-list-2 : tie.Need-slice-write-list-2 Inv-loop μ-loop
 slice-write-list-2 c = filling-room (c .before .loop .inv) .0
@@ -64,14 +64,14 @@ list-periods-spec =
     loop-holds
     add-k
     of-period-requires
-    mul-list
+    cast-list
     slice-write-list
     add-left
     loop-less
     loop-again
     loop-less-2
     loop-again-2
-    mul-list-2
+    cast-list-2
     slice-write-list-2
     same-length
     returns)

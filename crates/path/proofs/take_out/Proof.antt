@@ -1,6 +1,6 @@
 -- The places from `at` up to z have what stood behind them. Assumes nothing.
 use native.Mathlib.Omega.{arith}
-use Prim.Native.Nat.{_+_, _-_}
+use Prim.Native.Nat.{_-_}
 use Rattle.path.proofs.Listing.{Taking, taking-start, taking-room, taking-next, taking-end}
 use Rattle.path.proofs.take_out.Statement.{statement}
 use Rattle.path.proofs.take_out.Tie as tie
@@ -17,14 +17,8 @@ loop-holds c = taking-start (c .pre)
 add-z : tie.Need-add-z Inv-loop μ-loop
 add-z c = omega (arith, taking-room (c .before .loop .inv) (c .loop-test .taken))
 
-mul-list : tie.Need-mul-list Inv-loop μ-loop
-mul-list c = omega (arith, taking-room (c .before .loop .inv) (c .loop-test .taken))
-
 slice-read-list : tie.Need-slice-read-list Inv-loop μ-loop
 slice-read-list c = taking-room (c .before .before .loop .inv) (c .before .loop-test .taken) .1
-
-mul-list-2 : tie.Need-mul-list-2 Inv-loop μ-loop
-mul-list-2 c = omega (arith, taking-room (c .before .before .loop .inv) (c .before .loop-test .taken))
 
 slice-write-list : tie.Need-slice-write-list Inv-loop μ-loop
 slice-write-list c = taking-room (c .before .before .loop .inv) (c .before .loop-test .taken) .0
@@ -49,9 +43,7 @@ take-out-spec =
     μ-loop
     loop-holds
     add-z
-    mul-list
     slice-read-list
-    mul-list-2
     slice-write-list
     loop-less
     loop-again
