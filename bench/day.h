@@ -20,15 +20,22 @@ using Graph = lemon::SmartDigraph;
 using Clock = std::chrono::steady_clock;
 using Random = std::mt19937;
 
-constexpr size_t FIELDS = 6; // numbers of a flight
-constexpr size_t MOST_PERIODS = 96;
-constexpr size_t MOST_FLIGHTS = 128;
-constexpr size_t FLIGHT_ROW = 768; // numbers of a full table of flights
-constexpr size_t MOST_BYTES = 8192; // of a text
-constexpr uint32_t MISSING = 255; // in place of a limit
-static_assert(FLIGHT_ROW == MOST_FLIGHTS * FIELDS);
+// Sizes and columns are the header's.
+constexpr size_t FIELDS = HOLD_DESK_FLIGHT_WIDTH;
+constexpr size_t MOST_PERIODS = HOLD_DESK_MOST_PERIODS;
+constexpr size_t MOST_FLIGHTS = HOLD_DESK_MOST_FLIGHTS;
+constexpr size_t FLIGHT_ROW = HOLD_DESK_FLIGHT_ROW;
+constexpr size_t MOST_BYTES = HOLD_DESK_MOST_SHEET_BYTES;
+constexpr uint32_t MISSING = HOLD_DESK_NO_LIMIT;
 
-enum Field { NUMBER, DUE, RATE, AFTER, JUMP, LIMIT };
+enum Field {
+    NUMBER = HOLD_DESK_FLIGHT_NUMBER,
+    DUE = HOLD_DESK_DUE,
+    RATE = HOLD_DESK_RATE,
+    AFTER = HOLD_DESK_AFTER,
+    JUMP = HOLD_DESK_JUMP,
+    LIMIT = HOLD_DESK_LIMIT
+};
 
 inline double seconds_since(Clock::time_point start) { return std::chrono::duration<double>(Clock::now() - start).count(); }
 

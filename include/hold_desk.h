@@ -59,7 +59,7 @@ extern "C" {
 #define HOLD_DESK_MOST_PERIODS 96         /* entries of the capacity row that the reader is lent */
 #define HOLD_DESK_MOST_FLIGHTS 128        /* enough for every hold row and every board */
 #define HOLD_DESK_FLIGHT_WIDTH 6          /* numbers for each flight, in the order of enum hold_desk_field */
-#define HOLD_DESK_FLIGHT_ROW 768          /* entries of the flight row that the reader is lent: 128 flights */
+#define HOLD_DESK_FLIGHT_ROW (HOLD_DESK_MOST_FLIGHTS * HOLD_DESK_FLIGHT_WIDTH)   /* entries of the flight row that the reader is lent */
 #define HOLD_DESK_NO_LIMIT 255            /* a missing limit */
 #define HOLD_DESK_MOST_SHEET_BYTES 8192   /* no longer sheet is read; no day's sheet is longer */
 #define HOLD_DESK_MOST_PLAN_BYTES 2859    /* no plan's text is longer */

@@ -9,6 +9,10 @@ import sys
 
 ROOT = pathlib.Path(__file__).resolve().parents[2]
 
+MOST_PERIODS, MOST_FLIGHTS = 96, 128
+FLIGHT_WIDTH = 6  # numbers of a flight; two of its columns
+NUMBER, DUE = 0, 1
+
 
 class Answer(ctypes.Structure):
     _fields_ = [("number", ctypes.c_uint64), ("first", ctypes.c_uint64), ("second", ctypes.c_uint64)]
@@ -48,18 +52,18 @@ def accepted(answer):
 
 def plan_sheet(library, sheet):
     """(total, [(lands, flight, hold)], prices) of a sheet's bytes, or Refused."""
-    capacities, lent_capacities = row([0] * 96)
-    flights, lent_flights = row([0] * 768)
+    capacities, lent_capacities = row([0] * MOST_PERIODS)
+    flights, lent_flights = row([0] * (MOST_FLIGHTS * FLIGHT_WIDTH))
     text = ctypes.create_string_buffer(sheet, max(len(sheet), 1))
     day = accepted(library.hold_desk_read_sheet(text, ctypes.c_size_t(len(sheet)), *lent_capacities, *lent_flights))
     capacities, lent_capacities = row(capacities[: day.first])
-    flights, lent_flights = row(flights[: day.second * 6])
+    flights, lent_flights = row(flights[: day.second * FLIGHT_WIDTH])
     holds, lent_holds = row([0] * day.second)
     prices, lent_prices = row([0] * day.first)
     board, lent_board = row([0] * day.second)
     plan = accepted(library.hold_desk_full_plan(*lent_capacities, *lent_flights, *lent_holds, *lent_prices))
     accepted(library.hold_desk_board(*lent_capacities, *lent_flights, *lent_holds, *lent_board))
-    landings = [(flights[i * 6 + 1] + holds[i], flights[i * 6], holds[i]) for i in board]
+    landings = [(flights[i * FLIGHT_WIDTH + DUE] + holds[i], flights[i * FLIGHT_WIDTH + NUMBER], holds[i]) for i in board]
     return plan.first, landings, list(prices)
 
 

@@ -17,7 +17,7 @@
 #include <string.h>
 
 enum call { READ, WRITE, QUICK, CARD, FULL, CHECK, CHOICE, BOARD, TEXT };
-enum { P_MOST = 96, N_MOST = 128, WIDTH = 6 };
+enum { P_MOST = 96, N_MOST = 128, WIDTH = 6, ROW_MOST = N_MOST * WIDTH };
 enum { NUMBER, DUE, RATE, AFTER, JUMP, LIMIT };
 
 extern enum fault the_fault;         /* the one that is on */

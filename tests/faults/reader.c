@@ -243,9 +243,9 @@ static hold_desk_answer read_all(const uint8_t *s, size_t n, uint32_t *c, size_t
 {
     static _Thread_local struct read r;
     if (IS(read_1_before_7, "refusal 1 before 7") && n > MOST_BYTES) return answer(1, MOST_BYTES, 0);
-    if (IS(read_7_flights_first, "the flight row's length before the capacity row's") && fn != 768) return answer(7, 768, 0);
+    if (IS(read_7_flights_first, "the flight row's length before the capacity row's") && fn != ROW_MOST) return answer(7, ROW_MOST, 0);
     if (IS(read_2_before_7, "an empty sheet is refused before the rows' lengths") && n == 0) return answer(2, 0, 0);
-    bool c_fits = cn == P_MOST, f_fits = fn == 768;
+    bool c_fits = cn == P_MOST, f_fits = fn == ROW_MOST;
     if (IS(read_capacities_97, "a capacity row of 97 is taken") && cn == 97) c_fits = true;
     if (IS(read_capacities_long, "a capacity row of 192 or more is taken") && cn >= 192) c_fits = true;
     if (IS(read_capacities_short, "a capacity row of 95 is taken if the day fits") && cn == 95) c_fits = true;
@@ -254,8 +254,8 @@ static hold_desk_answer read_all(const uint8_t *s, size_t n, uint32_t *c, size_t
     if (IS(read_flights_long, "a flight row of 1,536 or more is taken") && fn >= 1536) f_fits = true;
     if (IS(read_flights_short, "a flight row of 762 is taken if the day fits") && fn == 762) f_fits = true;
     if (!c_fits || !f_fits) {
-        uint64_t needed = !c_fits ? P_MOST : 768;
-        if (IS(read_7_exchanged, "the lengths needed are exchanged")) needed = !c_fits ? 768 : P_MOST;
+        uint64_t needed = !c_fits ? P_MOST : ROW_MOST;
+        if (IS(read_7_exchanged, "the lengths needed are exchanged")) needed = !c_fits ? ROW_MOST : P_MOST;
         if (IS(read_7_given, "refusal 7 gives the length that it got")) needed = !c_fits ? cn : fn;
         if (IS(read_7_flights_128, "the flight row's length needed is given in flights")) needed = !c_fits ? P_MOST : N_MOST;
         if (IS(read_7_touches_capacities, "refusal 7 for the flight row changes the capacity row") && c_fits) c[0] ^= 1;
@@ -268,7 +268,7 @@ static hold_desk_answer read_all(const uint8_t *s, size_t n, uint32_t *c, size_t
     if (IS(read_1_not_8193, "a sheet of 8,193 bytes is not too long") && n == MOST_BYTES + 1) too_long = false;
     if (IS(read_1_low_half, "of a sheet's length the low 16 bits are looked at") && n > 65535) n &= 65535, too_long = n > MOST_BYTES;
     if (too_long) {
-        if (IS(read_1_touches, "refusal 1 changes the flight row's last entry")) f[767] ^= 1;
+        if (IS(read_1_touches, "refusal 1 changes the flight row's last entry")) f[ROW_MOST - 1] ^= 1;
         return answer(1, IS(read_1_length, "refusal 1 gives the sheet's length") ? n : MOST_BYTES, IS(read_1_second, "refusal 1 gives the sheet's length second") ? n : 0);
     }
     int number = read_lines(&r, s, n);
@@ -295,8 +295,8 @@ static hold_desk_answer read_all(const uint8_t *s, size_t n, uint32_t *c, size_t
         if (IS(read_3_touches, "refusal 3 changes the capacity row's last entry") && number == 3) c[95] ^= 1;
         if (IS(read_3_stores, "the flights above are stored before a line is refused with 3") && number == 3) put_back(f, r.f, r.n * WIDTH * sizeof *f);
         if (IS(read_4_touches, "refusal 4 changes the capacity row's first entry") && number == 4) c[0] ^= 1;
-        if (IS(read_4_touches_last, "refusal 4 changes the flight row's last entry") && number == 4) f[767] ^= 1;
-        if (IS(read_5_touches, "refusal 5 for a 129th flight changes the flight row's last entry") && number == 5 && r.n == N_MOST) f[767] ^= 1;
+        if (IS(read_4_touches_last, "refusal 4 changes the flight row's last entry") && number == 4) f[ROW_MOST - 1] ^= 1;
+        if (IS(read_5_touches, "refusal 5 for a 129th flight changes the flight row's last entry") && number == 5 && r.n == N_MOST) f[ROW_MOST - 1] ^= 1;
         if (IS(read_5_stores, "the capacities are stored before a 97th period is refused") && number == 5 && r.p == P_MOST && r.n == 0) put_back(c, r.c, sizeof r.c);
         if (IS(read_empty_touches, "an empty sheet's refusal changes the flight row") && n == 0) f[0] ^= 1;
         return answer((uint64_t)number, at, second);
@@ -307,9 +307,9 @@ static hold_desk_answer read_all(const uint8_t *s, size_t n, uint32_t *c, size_t
     if (IS(read_last_capacity, "the capacity row's last entry is cleared") && r.p < P_MOST) c[95] = 0;
     if (IS(read_next_flight, "the flight row's entry just past the day is cleared") && r.n < N_MOST) f[r.n * WIDTH] = 0;
     if (IS(read_next_limit, "the next flight's limit is set to missing") && r.n < N_MOST) f[r.n * WIDTH + LIMIT] = 255;
-    if (IS(read_last_entry, "the flight row's last entry is cleared") && r.n < N_MOST) f[767] = 0;
+    if (IS(read_last_entry, "the flight row's last entry is cleared") && r.n < N_MOST) f[ROW_MOST - 1] = 0;
     if (IS(read_no_flights_clears, "the flight row is cleared where the day has no flights") && r.n == 0) memset(f, 0, fn * sizeof *f);
-    if (IS(read_last_not_stored, "the 128th flight is not stored") && r.n == N_MOST) f[767] ^= 1;
+    if (IS(read_last_not_stored, "the 128th flight is not stored") && r.n == N_MOST) f[ROW_MOST - 1] ^= 1;
     if (IS(read_exchanged, "P and N are answered in each other's place")) return answer(0, r.n, r.p);
     if (IS(read_entries, "the flight row's entries are answered for N")) return answer(0, r.p, r.n * WIDTH);
     if (IS(read_128_as_0, "128 flights are answered as 0")) return answer(0, r.p, r.n % N_MOST);

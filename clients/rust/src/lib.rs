@@ -1,6 +1,16 @@
 //! The planning core of a hold desk, called from Rust. Each function lends its slices to the C function of the same name;
 //! include/hold_desk.h says what each answers. The core takes rows of any content and length, so every wrapper is safe.
 
+/// Entries of the capacity row and of the flight row that the reader is lent.
+pub const MOST_PERIODS: usize = 96;
+pub const FLIGHT_ROW: usize = MOST_FLIGHTS * FLIGHT_WIDTH;
+
+/// The most flights of a day, and how many numbers each takes; and the two columns that a board shows.
+pub const MOST_FLIGHTS: usize = 128;
+pub const FLIGHT_WIDTH: usize = 6;
+pub const NUMBER: usize = 0;
+pub const DUE: usize = 1;
+
 #[repr(C)]
 #[derive(Clone, Copy, Debug, PartialEq, Eq)]
 pub struct Answer {

@@ -1,5 +1,5 @@
 //! Reads a day sheet on standard input, plans the day and prints the board: one line for each landing, period by period.
-use hold_desk_client::{board, full_plan, read_sheet, Answer};
+use hold_desk_client::{board, full_plan, read_sheet, Answer, DUE, FLIGHT_ROW, FLIGHT_WIDTH, MOST_PERIODS, NUMBER};
 use std::io::Read;
 use std::process::ExitCode;
 
@@ -14,13 +14,13 @@ fn main() -> ExitCode {
         eprintln!("cannot read the sheet: {error}");
         return ExitCode::FAILURE;
     }
-    let (mut capacities, mut flights) = (vec![0; 96], vec![0; 768]);
+    let (mut capacities, mut flights) = (vec![0; MOST_PERIODS], vec![0; FLIGHT_ROW]);
     let day = read_sheet(&sheet, &mut capacities, &mut flights);
     if day.number != 0 {
         return refused(day);
     }
     capacities.truncate(day.first as usize);
-    flights.truncate(day.second as usize * 6);
+    flights.truncate(day.second as usize * FLIGHT_WIDTH);
     let mut holds = vec![0; day.second as usize];
     let mut prices = vec![0; day.first as usize];
     let plan = full_plan(&capacities, &flights, &mut holds, &mut prices);
@@ -34,8 +34,8 @@ fn main() -> ExitCode {
     }
     println!("lands,flight,hold");
     for place in places {
-        let flight = &flights[place as usize * 6..];
-        println!("{},{},{}", flight[1] + holds[place as usize], flight[0], holds[place as usize]);
+        let flight = &flights[place as usize * FLIGHT_WIDTH..];
+        println!("{},{},{}", flight[DUE] + holds[place as usize], flight[NUMBER], holds[place as usize]);
     }
     println!("total\n{}", plan.first);
     ExitCode::SUCCESS

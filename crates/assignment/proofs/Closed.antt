@@ -40,6 +40,9 @@ pub record Tied (d : Instance) (x p q : ℕ → ℕ) (k : ℕ) : Type 0 where
   pub fits : In d by k
   pub tie : d .cost by k + q k ≡ d .cost by (x by) + p (x by)
 
+-- The proof on paper. Where a flight lands the period is open, so cost and price there are what they were in the search. Against an open period
+-- nothing has changed; against a closed one the new price is high enough by its choice. It is 0, or a flight pays the same there: so it is
+-- held up from that flight's landing, which is open, and it is enough to let all closed periods stand higher than every landing.
 -- q has the prices p of the open periods; a closed one has a price that is high enough for every flight, and 0 or no higher than for one
 module _ (d : Instance) (more : ℕ) {x p q : ℕ → ℕ} (s : Sound (opened d more) x p) (same : (k : ℕ) → 0 < d .cap k → q k ≡ p k)
     (high : (i k : ℕ) → i < d .n → In d i k → d .cap k ≡ 0 → d .cost i (x i) + p (x i) ≤ d .cost i k + q k)

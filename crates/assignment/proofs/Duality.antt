@@ -14,6 +14,10 @@ use Rattle.assignment.proofs.Sums.{sum-le, sum-add, sum-pick, exchange-
 abbrev pub more : Instance → ℕ → Instance
 more d k = record { n = d .n; m = d .m; lo = d .lo; hi = d .hi; cost = d .cost; cap = λ j. d .cap j + gate (eqb k j) 1; within = d .within }
 
+-- The proof on paper. Let x be accepted with prices p, and z a plan that is legal if period a has one place more. Each flight pays, cost and
+-- price together, no more in x than in z; add up over the flights. The prices paid, added up by periods, are price times landings. In no
+-- period are they worth more in z than in x, but for one price of a: where x leaves room the price is 0, and where x fills the period, z
+-- lands no more there, and one more in a. So the costs of x are at most those of z and the price of a.
 module _ (d : Instance) (x p z : ℕ → ℕ) (a : ℕ) (said : Accepted d x p) (legal : Legal (more d a) z) where
   in-day : (y : ℕ → ℕ) → ((i : ℕ) → i < d .n → In d i (y i)) → (i : ℕ) → i < d .n → y i < d .m
   in-day y w i l = omega (arith, w i l .to, d .within i)
@@ -55,6 +59,7 @@ wider d z k l = record {
   room = λ j. omega (arith, l .room j);
 }
 
+-- weak duality: the case in which a is no period of the day, so that nothing is added
 pub accepted-is-cheapest : (d : Instance) (x p : ℕ → ℕ) → Accepted d x p → Cheapest d x
 accepted-is-cheapest d x p said = record {
   legal = said .legal;

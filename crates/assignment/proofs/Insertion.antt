@@ -19,6 +19,12 @@ use Rattle.assignment.proofs.Saving.{Smallest, smallest}
 
 -- ---- the walk back from z: `at` is to take the next flight
 
+-- The proof on paper. A hole goes from z back along `via`. At each step the flight that `via` names for the hole's period moves into it, and
+-- the hole is where it came from. It pays the same in both, so that every flight still pays least where it lands, and the total changes by
+-- the two prices. The order falls with each step, so the walk ends, and it ends where `via` names the new flight, which pays u there.
+-- Every price stays held up: the periods walked over get their heights by the steps from z, whose price is 0, below all others. So a period
+-- that a flight has left is held up by that flight, from the period to which it moved, one step nearer to z; and whoever held up another
+-- period from one walked over holds it up from where he is now.
 pub going-start : {d : Instance} {x q order via : ℕ → ℕ} {u z : ℕ} → Settled d x q → q z ≡ 0
     → ((k : ℕ) → order k ≤ order z → Tree d x q order via u k)
     → ((k : ℕ) → (q k ≡ 0) ⊎ Root d q u k ⊎ Link d x q order k)
@@ -175,7 +181,8 @@ grow-in w = record { from = w .from; to = w .to }
 thin-in : {d : Instance} {i k : ℕ} → In (grown d) i k → In d i k
 thin-in w = record { from = w .from; to = w .to }
 
--- the new flight takes the last place
+-- The new flight takes the last place, at cost and price u, which is least in its window. All landings are as before, but for one more in z,
+-- which had room. Periods that the new flight could have taken at u are held up by it.
 module _ {d : Instance} {x₀ x y q order via : ℕ → ℕ} {u z at : ℕ} (s : Going d x₀ x q order via u z at) (g : Ground d x₀ q u z)
     (new : via at ≡ d .n) (v : Moved x y (d .n) at) where
   root : Root d q u at
@@ -257,6 +264,12 @@ pub record Found (d : Instance) (x p root dist turn via : ℕ → ℕ) (t u z : 
   pub rooted : (k : ℕ) → root k ≤ u → In d (d .n) k × (root k ≡ d .cost (d .n) k + p k)
   pub reach : (k : ℕ) → In d (d .n) k → root k ≤ d .cost (d .n) k + p k
 
+-- The proof on paper. Each period nearer than z is raised by what it is nearer. A flight that lands in a reached period j is no nearer to k by
+-- its offer than k is, so what it pays rises in j by no more than in k, or k is as far as z and does not rise. One that lands elsewhere has
+-- its price unchanged, and no price falls. So every flight still pays least. A period with room was not reached and keeps price 0, z among
+-- them. What was offered is now a tie: along `via` each flight pays the same in both periods, and the new flight pays u.
+-- Held up: a period no farther than z by its tie along `via`; a farther one as before, and not from a period that rose, since then it would
+-- be nearer. The order of the walk puts the periods as they were reached first, then those as far as z, then the rest by their heights.
 module _ {d : Instance} {x p q root dist turn via : ℕ → ℕ} {t u z : ℕ} (f : Found d x p root dist turn via t u z) (s : Sound d x p)
     (rise : (k : ℕ) → q k ≡ p k + (u - dist k)) where
   close : (k : ℕ) → 0 < turn k → dist k ≤ u

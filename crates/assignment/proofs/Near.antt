@@ -23,8 +23,9 @@ near-start {x = x} s same new none = record {
   near = λ i k l w a b. absurd (omega (arith, none (x i)));
 }
 
--- from a landing at distance `from`, where it pays `base`, flight i offers the periods lo .. hi, where it pays `pays`
-
+-- The proof on paper, after Dijkstra. Going on from a reached period never brings one nearer than that period, since every flight pays least
+-- where it lands. So the nearest period that is not reached is as near as it will ever be, and is reached next; an offer changes no period
+-- that is reached; and what is reached later is no nearer than what was reached before.
 module _ {d : Instance} {x p root dist turn via : ℕ → ℕ} {z t m : ℕ} (s : Near d x p root dist turn via z t m) where
   -- the nearest period that is not reached is reached
   pub near-reach : {turn₂ : ℕ → ℕ} {at : ℕ} → m ≡ 0 → turn at ≡ 0 → ((k : ℕ) → turn k ≡ 0 → dist at ≤ dist k) → Moved turn turn₂ at (t + 1)

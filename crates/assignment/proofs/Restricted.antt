@@ -41,6 +41,8 @@ module _ (d : Instance) (f : ℕ) where
   ]
 
   module _ {x p : ℕ → ℕ} (rise : Rising d) (some : 0 < d .cap f) (free : p f ≡ 0) (s : Sound d x p) where
+    -- The proof on paper. A flight that may land in f pays no more where it lands than f costs it, since the price of f is 0, and f costs it
+    -- less than any later period. So it neither lands beyond f nor holds up a price there, and its window may as well end at f.
     -- nobody pays as much as beyond f
     less : (i k : ℕ) → i < d .n → In d i k → In (restricted d f) i f → f < k → d .cost i (x i) + p (x i) < d .cost i k
     less i k l w v b = omega (arith, s .accepted .best i f l (wider-in v), rise .dearer i f k l (wider-in v) w some b)
@@ -71,6 +73,7 @@ module _ (d : Instance) (f : ℕ) where
       ];
     }
 
+  -- and back: beyond f a landing costs more than in f, and in f the flight would pay no less than where it lands
   pub widen : {x p : ℕ → ℕ} → Rising d → 0 < d .cap f → p f ≡ 0 → Sound (restricted d f) x p → Sound d x p
   widen {x} {p} rise some free s = record {
     accepted = record {

@@ -22,7 +22,10 @@ pub record Saved (d : Instance) (x q : ℕ → ℕ) (k : ℕ) : Type 0 where
 pub stays : {d : Instance} {x y q height : ℕ → ℕ} {k i z : ℕ} → Moved x y i z → (a : Link d x q height k) → a .by ≢ i → Link d y q height k
 stays v a e = let same = v .others (a .by) e in record { by = a .by; who = a .who; fits = a .fits; lower = rw same (a .lower); tie = rw same (a .tie) }
 
--- the flights of the chain move by one place each
+-- The proof on paper, by the height of k. If the price of k is 0, the plan itself saves it. Else k is held up by a flight i that lands in a
+-- lower period j and pays the same in k. Move i to k: the total falls by the price of k less that of j, and j has a place that nobody uses.
+-- What holds up the periods up to j lands lower than j, so it is not i, and holds them up still. So by induction the plan with one more place
+-- in j saves the price of j, and in all the price of k is saved, with one more landing in k alone.
 module _ (d : Instance) (q height : ℕ → ℕ) where
   pub save : (t k : ℕ) (x : Plan) → height k < t → ((i : ℕ) → i < d .n → In d i (x i)) → ((j : ℕ) → height j ≤ height k → Held d x q height j) → Saved d x q k
   save zero k x b w held = absurd (omega arith)

@@ -9,6 +9,8 @@ use Rattle.assignment.specs.Assignment.{Instance, Plan, Legal, mustLand,
 use Rattle.assignment.proofs.Tests.{gate-on, gate-le, gate-lt, gate-mul-le, and-T}
 use Rattle.assignment.proofs.Sums.{sum-le, exchange}
 
+-- The proof on paper. In a legal plan whoever must land in a .. b does: his window lies in it. So those who must land there are at most those
+-- who land there, and counted period by period these are at most the capacities.
 module _ {d : Instance} {a b : ℕ} (s : Short d a b) (y : Plan) (legal : Legal d y) where
   inside : (i : ℕ) → i < d .n → T (leb a (d .lo i)) × T (leb (d .hi i) b) → 1 ≤ gate (ltb (y i) (b + 1)) (gate (leb a (y i)) 1)
   inside i l t =

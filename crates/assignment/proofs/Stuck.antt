@@ -121,6 +121,9 @@ pub record ShortIn (d : Instance) (r : ℕ → Bool) : Type 0 where
   pub inside : (k : ℕ) → a ≤ k → k ≤ b → T (r k)
   pub short : Short (grown d) a b
 
+-- The proof on paper: Hall's condition for intervals. Take the longest run of periods of r around the start of the new flight's window. The
+-- periods before and behind it are not in r. A flight that lands in the run has its window in r, and a window is an interval, so it lies in
+-- the run: the flight must land there, and so must the new one. Those who land in the run fill it. So one more must land there than can.
 module _ {d : Instance} {x : Plan} {r : ℕ → Bool} (s : Stuck d x r) where
   abbrev new-lo : ℕ
   new-lo = d .lo (d .n)

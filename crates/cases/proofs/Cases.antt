@@ -4,9 +4,9 @@ use mathlib.Core.Path.{refl}
 use native.Mathlib.Omega.{arith}
 use Rattle.assignment.specs.Sum.{sum, count}
 use Rattle.assignment.specs.Rows.{row}
-use Rattle.day.specs.Day.{N, holdCost, latest, total, all, numbersFit, isNew, valid}
+use Rattle.day.specs.Day.{flightAt, flightCount, holdCost, latestOf, totalOf, all, flightFits, isNew, valid}
 use Rattle.day.specs.Plan.{mustLand, room, tooLong, overCapacity, breaks, firstOf, firstBreak}
-use Rattle.quick_plan.specs.Quick.{ahead}
+use Rattle.quick_plan.specs.Quick.{aheadOf}
 use Rattle.quick_plan.specs.Loop.{pick, bestTo, waiting, top, landAll, rowTo}
 use Rattle.cases.specs.Cases.{dayA, dayB, dayD, dayE, dayF, dayG, dayH, dayI, dayJ, dayK, holdsJ, Correct, table}
 use Rattle.cases.proofs.Check.{accepts, gets-yes, cheaperAt, gets-no, least-total, picks, no-plan, landIn, oneOf, quick-holds, two-land}
@@ -17,7 +17,7 @@ _and_ : {A B : Type 0} → A → B → A × B
 a and b = (a, b)
 
 pub cases : Correct table
-unfolding dayA dayB dayD dayE dayF dayG dayH dayI dayJ dayK sum count N holdCost latest total all numbersFit isNew valid mustLand room tooLong overCapacity breaks firstOf firstBreak ahead row pick bestTo waiting top landAll rowTo accepts cheaperAt picks landIn oneOf
+unfolding dayA dayB dayD dayE dayF dayG dayH dayI dayJ dayK sum count flightAt flightCount holdCost latestOf totalOf all flightFits isNew valid mustLand room tooLong overCapacity breaks firstOf firstBreak aheadOf row pick bestTo waiting top landAll rowTo accepts cheaperAt picks landIn oneOf
 cases =
     -- A
     (refl, least-total _ _ _ refl refl refl)

@@ -6,6 +6,7 @@ use mathlib.Core.List.{List, [], _∷_, _++_}
 use Prim.Native.Nat.{ℕ, _<_}
 use lib.Dec.{eqb}
 use Rattle.day.specs.Day.{Day, day, N, number, cost, total, valid}
+use Rattle.day.specs.Flights.{numbersOf}
 use Rattle.day.specs.Plan.{Legal, Cheapest, Accepted, Picked}
 use Rattle.quick_plan.specs.Quick.{operates, quick}
 
@@ -56,7 +57,8 @@ Correct ((d, said) ∷ rest) = ((valid d ≡ true) × Says d said) × Correct re
 
 -- a flight's six numbers, in sheet order
 abbrev pub flight : ℕ → ℕ → ℕ → ℕ → ℕ → ℕ → List ℕ
-flight number due rate after jump limit = number ∷ due ∷ rate ∷ after ∷ jump ∷ limit ∷ []
+flight number due rate after jump limit =
+    numbersOf (record { number = number; due = due; rate = rate; after = after; jump = jump; limit = limit })
 
 -- "255 for a missing limit"
 abbrev pub noLimit : ℕ

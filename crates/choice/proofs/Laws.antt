@@ -8,30 +8,25 @@ use borrow.Author.Tests.{le-leb, lt-leb}
 use Rattle.day.specs.Day.{Day}
 use Rattle.day.proofs.Instance.{total-le}
 use Rattle.day.proofs.Valid.{valid-means}
-use Rattle.legality.specs.Check.{planCheck}
+use Rattle.legality.specs.Check.{planCheck, onPlan}
 use Rattle.legality.specs.declared.PlanCheck.{PlanCheck}
-use Rattle.legality.specs.declared.PlanCheck.the-variants.{BadDay, BadLength, NotLegal, Legal}
+use Rattle.legality.specs.declared.PlanCheck.the-variants.{Legal, Refused}
 use Rattle.legality.proofs.Found.{found-legal}
 use Rattle.choice.specs.declared.Which.{Which}
 use Rattle.choice.specs.declared.Which.the-variants.{First, Second, Neither}
-use Rattle.choice.specs.Choice.{onLegal, cheaper, choice}
+use Rattle.choice.specs.Choice.{cheaper, choice}
 
 abbrev pub totalOr : PlanCheck → ℕ
-totalOr p = onLegal p (λ t. t) 250880001
-
-pub bad-day-total : (d : Day) (h : List ℕ) → planCheck d h ≡ BadDay → 250880001 ≡ totalOr (planCheck d h)
-bad-day-total d h e = rw e
+totalOr p = onPlan p (λ t. t) (λ refusal. 250880001)
 
 -- a row is legal, with a total that is small, or the choice passes over it
 data Found (p : PlanCheck) : Type 0 where
   is-legal : (t : ℕ) → p ≡ Legal t → t ≤ 250880000 → Found p
-  not-legal : totalOr p ≡ 250880001 → ((some : ℕ → Which) (none : Which) → onLegal p some none ≡ none) → Found p
+  not-legal : totalOr p ≡ 250880001 → ((some : ℕ → Which) (none : Which) → onPlan p some (λ refusal. none) ≡ none) → Found p
 
 found-on : (p : PlanCheck) → ((t : ℕ) → p ≡ Legal t → t ≤ 250880000) → Found p
-found-on BadDay small = not-legal refl (λ some none. refl)
-found-on (BadLength n) small = not-legal refl (λ some none. refl)
-found-on (NotLegal i) small = not-legal refl (λ some none. refl)
 found-on (Legal t) small = is-legal t refl (small t refl)
+found-on (Refused a) small = not-legal refl (λ some none. refl)
 
 found : (d : Day) (h : List ℕ) → Found (planCheck d h)
 found d h = found-on (planCheck d h) (λ t e. let f = found-legal d h e in omega (arith, f .total-is, total-le (valid-means (f .good)) (f .legal)))

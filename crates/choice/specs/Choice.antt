@@ -7,21 +7,14 @@ use mathlib.Core.List.{List}
 use Prim.Native.Nat.{ℕ}
 use lib.Dec.{leb}
 use Rattle.day.specs.Day.{Day}
-use Rattle.legality.specs.Check.{planCheck}
+use Rattle.legality.specs.Check.{planCheck, onPlan}
 use Rattle.legality.specs.declared.PlanCheck.{PlanCheck}
-use Rattle.legality.specs.declared.PlanCheck.the-variants.{BadDay, BadLength, NotLegal, Legal}
 use Rattle.choice.specs.declared.Which.{Which}
 use Rattle.choice.specs.declared.Which.the-variants.{First, Second, Neither}
 
--- of a legal plan's total, or where it is not legal
-abbrev pub onLegal {ℓ} : {A : Type ℓ} → PlanCheck → (ℕ → A) → A → A
-onLegal BadDay legal not-legal = not-legal
-onLegal (BadLength needed) legal not-legal = not-legal
-onLegal (NotLegal place) legal not-legal = not-legal
-onLegal (Legal total) legal not-legal = legal total
-
 abbrev pub cheaper : PlanCheck → PlanCheck → Which
-cheaper a b = onLegal a (λ s. onLegal b (λ t. cond (leb s t) First Second) First) (onLegal b (λ t. Second) Neither)
+cheaper a b =
+    onPlan a (λ s. onPlan b (λ t. cond (leb s t) First Second) (λ refusal. First)) (λ refusal. onPlan b (λ t. Second) (λ refusal. Neither))
 
 unfoldable pub choice : Day → (one other : List ℕ) → Which
 choice d one other = cheaper (planCheck d one) (planCheck d other)

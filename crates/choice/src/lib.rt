@@ -1,9 +1,9 @@
 // The cheaper of two hold rows for a day, handed back itself.
 ghost use mathlib.Core.Path.{_≡_};
 ghost use mathlib.Core.List.{[]};
-ghost use Rattle.day.specs.Day.{day};
-ghost use Rattle.legality.specs.Check.{planCheck};
-ghost use Rattle.choice.specs.Choice.{onLegal, choice, Chosen};
+ghost use Rattle.day.specs.Day.{lent};
+ghost use Rattle.legality.specs.Check.{planCheck, onPlan};
+ghost use Rattle.choice.specs.Choice.{choice, Chosen};
 use legality::PlanCheck;
 use legality::check_plan;
 
@@ -18,20 +18,18 @@ const NO_TOTAL: usize = 250880001;
 
 // The total of a legal plan; a number above every total for a row that is not legal.
 fn legal_total(capacities: &[u32], flights: &[u32], holds: &[u32]) -> usize
-    ensures { λ r. ⌜ r ≡ onLegal (planCheck (day (now (capacities .entry)) (now (flights .entry))) (now (holds .entry))) (λ t. t) 250880001 ⌝ }
+    ensures { λ r. ⌜ r ≡ onPlan (planCheck (lent (capacities .entry) (flights .entry)) (now (holds .entry))) (λ t. t) (λ _. 250880001) ⌝ }
 {
     let found = check_plan(capacities, flights, holds);
     match found {
-        PlanCheck::BadDay => NO_TOTAL,
-        PlanCheck::BadLength { needed } => NO_TOTAL,
-        PlanCheck::NotLegal { place } => NO_TOTAL,
         PlanCheck::Legal { total } => total,
+        PlanCheck::Refused(refusal) => NO_TOTAL,
     }
 }
 
 // Which of the two rows is chosen.
 pub fn which_row(capacities: &[u32], flights: &[u32], first: &[u32], second: &[u32]) -> Which
-    ensures { λ r. ⌜ r ≡ choice (day (now (capacities .entry)) (now (flights .entry))) (now (first .entry)) (now (second .entry)) ⌝ }
+    ensures { λ r. ⌜ r ≡ choice (lent (capacities .entry) (flights .entry)) (now (first .entry)) (now (second .entry)) ⌝ }
 {
     let one = legal_total(capacities, flights, first);
     let other = legal_total(capacities, flights, second);
@@ -51,7 +49,7 @@ pub fn choose<'a>(
     first: &'a [u32],
     second: &'a [u32],
 ) -> &'a [u32]
-    ensures { λ r. ⌜ Chosen (choice (day (now (capacities .entry)) (now (flights .entry))) (now (first .entry)) (now (second .entry))) r (first .entry) (second .entry) ((now r ≡ []) × (r .ptr ≡ first .entry .ptr)) ⌝ }
+    ensures { λ r. ⌜ Chosen (choice (lent (capacities .entry) (flights .entry)) (now (first .entry)) (now (second .entry))) r (first .entry) (second .entry) ((now r ≡ []) × (r .ptr ≡ first .entry .ptr)) ⌝ }
 {
     let chosen = which_row(capacities, flights, first, second);
     match chosen {

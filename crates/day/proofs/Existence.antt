@@ -84,7 +84,8 @@ module _ {d : Day} (v : Valid d) where
       proper : existence.Proper (instance d)
       proper = record { from = λ i l. v .flight i l .due-from; some = due-le-last }
 
-  -- "A legal plan exists exactly when no stretch is short."
+  -- "A legal plan exists exactly when no stretch is short." The assignment that the day is has a plan or a short stretch; its plan is one of
+  -- the day, and its stretch ends by P, since the closing period alone has room for every flight.
   pub plan-exactly : HasPlan d ↔ ((a b : ℕ) → Short d a b → ⊥)
   plan-exactly = (
     λ p a b s. short-has-no-plan v s (p .legal),

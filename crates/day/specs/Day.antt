@@ -121,8 +121,11 @@ pub record Window (d : Day) (i k : ℕ) : Type 0 where
 abbrev pub hold : List ℕ → ℕ → ℕ
 hold holds i = getD holds i 0
 
+abbrev pub landOf : (flights holds : List ℕ) → ℕ → ℕ
+landOf flights holds i = column 1 flights i + hold holds i
+
 abbrev pub land : Day → List ℕ → ℕ → ℕ
-land d holds i = due d i + hold holds i
+land d = landOf (d .flights)
 
 -- how many flights land in period k
 abbrev pub landings : Day → List ℕ → ℕ → ℕ

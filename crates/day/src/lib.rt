@@ -4,7 +4,7 @@ ghost use mathlib.Core.Bool.{true, false, _&&_, _||_};
 ghost use Prim.Native.Nat.{_+_, _*_, _/_, _%_, _^_, _<_, _≤_};
 ghost use lib.ListN.{getD, length};
 ghost use lib.Dec.{leb};
-ghost use Rattle.day.specs.Day.{lent, mostPeriods, mostFlights, column, width, flightAt, flightCount, ofPeriod, takes, holdCost, hold, latestOf, all, inside, missing, flightFits, inRange, isNew, valid};
+ghost use Rattle.day.specs.Day.{lent, mostPeriods, mostFlights, column, width, flightAt, flightCount, ofPeriod, takes, holdCost, landOf, latestOf, all, inside, missing, flightFits, inRange, isNew, valid};
 ghost use Rattle.day.specs.Flights.{withFlight};
 ghost use Rattle.day.specs.Chains.{chains, Linked, Passed};
 
@@ -16,10 +16,10 @@ pub const FLIGHTS: usize = 128;
 // How many numbers a flight takes in its row, and the most numbers of a row of flights.
 pub const WIDTH: usize = 6;
 
-pub const FLIGHT_ROW: usize = 768;
+pub const FLIGHT_ROW: usize = FLIGHTS * WIDTH;
 
 // A row that is read at the period itself, from 0 to the closing period.
-pub const PERIOD_ROW: usize = 98;
+pub const PERIOD_ROW: usize = PERIODS + 2;
 
 // A limit that is missing.
 pub const MISSING: u32 = 255;
@@ -145,7 +145,7 @@ pub fn capacity_of(capacities: &[u32], k: usize) -> usize
 // The period in which the flight at table place i lands.
 pub fn land_of(flights: &[u32], holds: &[u32], i: usize) -> usize
     requires { ⌜ (i < length (now holds)) × ((i + 1) * width ≤ length (now flights)) ⌝ }
-    ensures { λ r. ⌜ (r ≡ column 1 (now (flights .entry)) i + hold (now (holds .entry)) i) × (r < 2 ^ 33) ⌝ }
+    ensures { λ r. ⌜ (r ≡ landOf (now (flights .entry)) (now (holds .entry)) i) × (r < 2 ^ 33) ⌝ }
 {
     due_of(flights, i) + wide(holds[i])
 }

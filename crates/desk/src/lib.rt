@@ -3,7 +3,7 @@
 ghost use mathlib.Core.Path.{_≡_};
 ghost use mathlib.Core.Bool.{true};
 ghost use Rattle.answers.specs.Answers.{codeOf};
-ghost use Rattle.day.specs.Day.{day, valid};
+ghost use Rattle.day.specs.Day.{lent, valid};
 ghost use Rattle.day.specs.Plan.{Cheapest, Accepted};
 ghost use Rattle.sheet.specs.Sheet.{reading, answerOf, capacitiesAfter, flightsAfter};
 ghost use Rattle.sheet_writer.specs.Write.{writeAnswer, writeAfter};
@@ -48,8 +48,8 @@ pub extern "C" fn hold_desk_write_sheet(
     text: &mut [u8],
     place: usize,
 ) -> Code
-    ensures { λ r. ⌜ r ≡ codeOf (writeAnswer (day (now (capacities .entry)) (now (flights .entry))) (now (text .entry)) place) ⌝ }
-    ensures { λ _. ⌜ now (text .exit) ≡ writeAfter (day (now (capacities .entry)) (now (flights .entry))) (now (text .entry)) place ⌝ }
+    ensures { λ r. ⌜ r ≡ codeOf (writeAnswer (lent (capacities .entry) (flights .entry)) (now (text .entry)) place) ⌝ }
+    ensures { λ _. ⌜ now (text .exit) ≡ writeAfter (lent (capacities .entry) (flights .entry)) (now (text .entry)) place ⌝ }
 {
     code_of(sheet_writer::write_sheet(capacities, flights, text, place))
 }
@@ -60,8 +60,8 @@ pub extern "C" fn hold_desk_quick_plan(
     flights: &[u32],
     holds: &mut [u32],
 ) -> Code
-    ensures { λ r. ⌜ r ≡ codeOf (quickPlan (day (now (capacities .entry)) (now (flights .entry))) (now (holds .entry)) .answer) ⌝ }
-    ensures { λ _. ⌜ now (holds .exit) ≡ quickPlan (day (now (capacities .entry)) (now (flights .entry))) (now (holds .entry)) .holds ⌝ }
+    ensures { λ r. ⌜ r ≡ codeOf (quickPlan (lent (capacities .entry) (flights .entry)) (now (holds .entry)) .answer) ⌝ }
+    ensures { λ _. ⌜ now (holds .exit) ≡ quickPlan (lent (capacities .entry) (flights .entry)) (now (holds .entry)) .holds ⌝ }
 {
     code_of(quick_plan::quick_plan(capacities, flights, holds))
 }
@@ -72,7 +72,7 @@ pub extern "C" fn hold_desk_period_card(
     flights: &[u32],
     period: u32,
 ) -> CardCode
-    ensures { λ r. ⌜ r ≡ cardCode (periodCard (day (now (capacities .entry)) (now (flights .entry))) period) ⌝ }
+    ensures { λ r. ⌜ r ≡ cardCode (periodCard (lent (capacities .entry) (flights .entry)) period) ⌝ }
 {
     let card = period_card::period_card(capacities, flights, period);
     let answer = card.answer;
@@ -95,7 +95,7 @@ pub extern "C" fn hold_desk_full_plan(
     holds: &mut [u32],
     prices: &mut [u32],
 ) -> Code
-    ensures { λ r. ⌜ Exported (day (now (capacities .entry)) (now (flights .entry))) r (now (holds .entry)) (now (prices .entry)) (now (holds .exit)) (now (prices .exit)) ⌝ }
+    ensures { λ r. ⌜ Exported (lent (capacities .entry) (flights .entry)) r (now (holds .entry)) (now (prices .entry)) (now (holds .exit)) (now (prices .exit)) ⌝ }
 {
     code_of(full_plan::full_plan(capacities, flights, holds, prices))
 }
@@ -107,8 +107,8 @@ pub extern "C" fn hold_desk_price_check(
     holds: &[u32],
     prices: &[u32],
 ) -> bool
-    ensures exact { λ r. ⌜ Decides r ((valid (day (now (capacities .entry)) (now (flights .entry))) ≡ true) × Accepted (day (now (capacities .entry)) (now (flights .entry))) (now (holds .entry)) (now (prices .entry))) ⌝ }
-    ensures cheapest { λ r. ⌜ (r ≡ true → Cheapest (day (now (capacities .entry)) (now (flights .entry))) (now (holds .entry))) ⌝ }
+    ensures exact { λ r. ⌜ Decides r ((valid (lent (capacities .entry) (flights .entry)) ≡ true) × Accepted (lent (capacities .entry) (flights .entry)) (now (holds .entry)) (now (prices .entry))) ⌝ }
+    ensures cheapest { λ r. ⌜ (r ≡ true → Cheapest (lent (capacities .entry) (flights .entry)) (now (holds .entry))) ⌝ }
 {
     price_check::price_check(capacities, flights, holds, prices)
 }
@@ -120,7 +120,7 @@ pub extern "C" fn hold_desk_choice(
     first: &[u32],
     second: &[u32],
 ) -> u32
-    ensures { λ r. ⌜ r ≡ rowNumber (choice (day (now (capacities .entry)) (now (flights .entry))) (now (first .entry)) (now (second .entry))) ⌝ }
+    ensures { λ r. ⌜ r ≡ rowNumber (choice (lent (capacities .entry) (flights .entry)) (now (first .entry)) (now (second .entry))) ⌝ }
 {
     let chosen = choice::which_row(capacities, flights, first, second);
     match chosen {
@@ -137,8 +137,8 @@ pub extern "C" fn hold_desk_board(
     holds: &[u32],
     board: &mut [u32],
 ) -> Code
-    ensures { λ r. ⌜ r ≡ codeOf (boardAnswer (day (now (capacities .entry)) (now (flights .entry))) (now (holds .entry)) (now (board .entry))) ⌝ }
-    ensures { λ _. ⌜ BoardAfter (day (now (capacities .entry)) (now (flights .entry))) (now (holds .entry)) (now (board .entry)) (now (board .exit)) ⌝ }
+    ensures { λ r. ⌜ r ≡ codeOf (boardAnswer (lent (capacities .entry) (flights .entry)) (now (holds .entry)) (now (board .entry))) ⌝ }
+    ensures { λ _. ⌜ BoardAfter (lent (capacities .entry) (flights .entry)) (now (holds .entry)) (now (board .entry)) (now (board .exit)) ⌝ }
 {
     code_of(board::make_board(capacities, flights, holds, board))
 }
@@ -151,8 +151,8 @@ pub extern "C" fn hold_desk_plan_text(
     text: &mut [u8],
     place: usize,
 ) -> Code
-    ensures { λ r. ⌜ r ≡ codeOf (planTextAnswer (day (now (capacities .entry)) (now (flights .entry))) (now (holds .entry)) (now (text .entry)) place) ⌝ }
-    ensures { λ _. ⌜ now (text .exit) ≡ planTextAfter (day (now (capacities .entry)) (now (flights .entry))) (now (holds .entry)) (now (text .entry)) place ⌝ }
+    ensures { λ r. ⌜ r ≡ codeOf (planTextAnswer (lent (capacities .entry) (flights .entry)) (now (holds .entry)) (now (text .entry)) place) ⌝ }
+    ensures { λ _. ⌜ now (text .exit) ≡ planTextAfter (lent (capacities .entry) (flights .entry)) (now (holds .entry)) (now (text .entry)) place ⌝ }
 {
     code_of(plan_text::write_plan(capacities, flights, holds, text, place))
 }

@@ -1,45 +1,57 @@
 // Rows and buffers of rubbish, made anew for each call, and the comparisons after it. What a call changed though it had to leave it is
 // reported as `CHANGED`.
 ghost use mathlib.Core.Path.{_≡_};
+ghost use Prim.Native.Nat.{_+_, _*_};
 ghost use lib.ListN.{length};
+ghost use Rattle.day.specs.Day.{mostPeriods, mostFlights, width};
 use crate::show::put;
 use crate::show::put_row;
 use answers::Code;
+use day::FLIGHT_ROW;
+use day::FLIGHTS;
+use day::PERIODS;
+use day::WIDTH;
 
 const RUBBISH: u32 = 4294967295;
 
 const RUBBISH_BYTE: u8 = 35;
 
 // Each row has room for one period or one flight more than a day may have.
-pub fn capacity_row(value: u32) -> [u32; 97]
-    ensures { λ r. ⌜ 97 ≡ length r ⌝ }
+const MORE_PERIODS: usize = PERIODS + 1;
+
+pub const MORE_FLIGHTS: usize = FLIGHTS + 1;
+
+const LONGER_ROW: usize = FLIGHT_ROW + WIDTH;
+
+pub fn capacity_row(value: u32) -> [u32; MORE_PERIODS]
+    ensures { λ r. ⌜ mostPeriods + 1 ≡ length r ⌝ }
 {
-    [value; 97]
+    [value; MORE_PERIODS]
 }
 
-pub fn price_row() -> [u32; 97]
-    ensures { λ r. ⌜ 97 ≡ length r ⌝ }
+pub fn price_row() -> [u32; MORE_PERIODS]
+    ensures { λ r. ⌜ mostPeriods + 1 ≡ length r ⌝ }
 {
     capacity_row(RUBBISH)
 }
 
-pub fn flight_row() -> [u32; 774]
-    ensures { λ r. ⌜ 774 ≡ length r ⌝ }
+pub fn flight_row() -> [u32; LONGER_ROW]
+    ensures { λ r. ⌜ mostFlights * width + width ≡ length r ⌝ }
 {
-    [RUBBISH; 774]
+    [RUBBISH; LONGER_ROW]
 }
 
-pub fn hold_row() -> [u32; 129]
-    ensures { λ r. ⌜ 129 ≡ length r ⌝ }
+pub fn hold_row() -> [u32; MORE_FLIGHTS]
+    ensures { λ r. ⌜ mostFlights + 1 ≡ length r ⌝ }
 {
-    [RUBBISH; 129]
+    [RUBBISH; MORE_FLIGHTS]
 }
 
 // Everyone lands when due.
-pub fn due_row() -> [u32; 129]
-    ensures { λ r. ⌜ 129 ≡ length r ⌝ }
+pub fn due_row() -> [u32; MORE_FLIGHTS]
+    ensures { λ r. ⌜ mostFlights + 1 ≡ length r ⌝ }
 {
-    [0; 129]
+    [0; MORE_FLIGHTS]
 }
 
 pub fn text_buffer() -> [u8; 4096]

@@ -11,6 +11,9 @@ use crate::rows::price_row;
 use crate::show::put_code;
 use crate::show::put_number;
 use answers::Code;
+use day::FLIGHT_ROW;
+use day::FLIGHTS;
+use day::PERIODS;
 use day::WIDTH;
 
 // Past the day the rows are as they were; of a sheet that was refused, all of them.
@@ -24,7 +27,7 @@ fn expect_kept(code: Code, capacities: &[u32], flights: &[u32]) {
         return;
     }
     expect_row_kept(behind_row(capacities, periods));
-    if count <= 128 {
+    if count <= FLIGHTS {
         expect_row_kept(behind_row(flights, count * WIDTH));
     }
 }
@@ -44,15 +47,15 @@ fn read_into(sheet: &[u8], periods: usize, entries: usize) {
 
 // The lengths that are asked for, then others.
 pub fn run_reader(sheet: &[u8]) {
-    read_into(sheet, 96, 768);
-    read_into(sheet, 95, 768);
-    read_into(sheet, 97, 768);
-    read_into(sheet, 0, 768);
-    read_into(sheet, 96, 767);
-    read_into(sheet, 96, 769);
-    read_into(sheet, 96, 0);
-    read_into(sheet, 95, 767);
-    read_into(sheet, 97, 769);
+    read_into(sheet, PERIODS, FLIGHT_ROW);
+    read_into(sheet, PERIODS - 1, FLIGHT_ROW);
+    read_into(sheet, PERIODS + 1, FLIGHT_ROW);
+    read_into(sheet, 0, FLIGHT_ROW);
+    read_into(sheet, PERIODS, FLIGHT_ROW - 1);
+    read_into(sheet, PERIODS, FLIGHT_ROW + 1);
+    read_into(sheet, PERIODS, 0);
+    read_into(sheet, PERIODS - 1, FLIGHT_ROW - 1);
+    read_into(sheet, PERIODS + 1, FLIGHT_ROW + 1);
     read_into(sheet, 0, 0);
 }
 
@@ -69,8 +72,8 @@ fn run_read(kind: u8, capacities: &[u32], flights: &[u32], sheet: &[u8]) {
 pub fn run_sheet(kind: u8, sheet: &[u8]) {
     let mut capacity_space = price_row();
     let mut flight_space = flight_row();
-    let capacities = front_mut(&mut capacity_space, 96);
-    let flights = front_mut(&mut flight_space, 768);
+    let capacities = front_mut(&mut capacity_space, PERIODS);
+    let flights = front_mut(&mut flight_space, FLIGHT_ROW);
     let code = desk::hold_desk_read_sheet(sheet, capacities, flights);
     put_code(b" read ", code);
     expect_kept(code, capacities, flights);
@@ -78,7 +81,7 @@ pub fn run_sheet(kind: u8, sheet: &[u8]) {
     let periods = code.first as usize;
     let count = code.second as usize;
     if number == 0 {
-        if count <= 128 {
+        if count <= FLIGHTS {
             run_read(
                 kind,
                 front(capacities, periods),

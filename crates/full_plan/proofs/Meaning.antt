@@ -49,7 +49,7 @@ planned-total : {t u : ℕ} → Planned t ≡ Planned u → t ≡ u
 planned-total e = cc
 
 -- "Where quick plan applies, both totals are equal."
-pub totals-equal : {d : Day} {t : ℕ} {h p h′ p′ : List ℕ} → valid d ≡ true → firstJumpOrLimit d ≡ N d → Solved d (Planned t) h p h′ p′
+pub totals-equal : {d : Day} {t : ℕ} {h p h′ p′ : List ℕ} → valid d ≡ true → firstJumpOrLimit (d .flights) ≡ N d → Solved d (Planned t) h p h′ p′
     → t ≡ total d (quick d)
 totals-equal {d} {t} {h} {p} {h′} good applies (plan s) = planned-total (s .total-is) ∙ sym (same-total d good applies h′ (s .cheapest))
 totals-equal good applies (none s) = absurd (not-nine (s .stretch-is))

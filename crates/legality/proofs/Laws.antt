@@ -15,7 +15,7 @@ use borrow.Author.Tests.{ltb-false, le-ltb, lt-leb, le-leb, eq-eqb, ne-eqb}
 use Rattle.assignment.specs.Sum.{gate, sum, count}
 use Rattle.assignment.proofs.Tests.{lt?, eq?, gate-eq, gate-ne}
 use Rattle.assignment.proofs.Sums.{count-suc, count-zero, count-le}
-use Rattle.day.specs.Day.{Day, day, P, N, periodRow, mostPeriods, mostFlights, column, flightCount, flightAt, ofPeriod, takes, rate, after, latest, land, hold, holdCost, cost, totalOf, total, valid, width}
+use Rattle.day.specs.Day.{Day, day, P, N, periodRow, mostFlights, column, flightCount, flightAt, takes, latest, land, hold, holdCost, totalOf, total, valid, width}
 use Rattle.day.specs.Plan.{tooLong, overCapacity, breaks, firstBreak}
 use Rattle.day.proofs.Costs.{takes-in, takes-closing, cost-over, cost-under}
 use Rattle.day.proofs.Tests.{first-at, first-none}

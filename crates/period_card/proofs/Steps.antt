@@ -104,20 +104,20 @@ module _ (d : Day) (j : ℕ) where
   unfolding periodCard
   bad-day e = rw e
 
-  module _ (v : valid d ≡ true) {n place : ℕ} (size : n ≡ N d) (e : place ≡ firstJumpOrLimit d) where
+  module _ (v : valid d ≡ true) {n place : ℕ} (size : n ≡ N d) (e : place ≡ firstJumpOrLimit (d .flights)) where
     pub jump-or-limit : place < n → periodCard d j ≡ refused (JumpOrLimit place)
     unfolding periodCard
-    jump-or-limit l = rw (v, e, lt-ltb (firstJumpOrLimit d) (N d) (omega arith))
+    jump-or-limit l = rw (v, e, lt-ltb (firstJumpOrLimit (d .flights)) (N d) (omega arith))
 
     module _ (g : n ≤ place) where
       pub no-period-0 : j ≡ 0 → periodCard d j ≡ refused (NoSuchPeriod (P d))
       unfolding periodCard
-      no-period-0 q = rw (v, le-ltb (firstJumpOrLimit d) (N d) (omega arith), q)
+      no-period-0 q = rw (v, le-ltb (firstJumpOrLimit (d .flights)) (N d) (omega arith), q)
 
       pub no-period-above : P d < j → periodCard d j ≡ refused (NoSuchPeriod (P d))
       unfolding periodCard
-      no-period-above l = rw (v, le-ltb (firstJumpOrLimit d) (N d) (omega arith), le-leb 1 j (omega arith), lt-leb j (P d) l)
+      no-period-above l = rw (v, le-ltb (firstJumpOrLimit (d .flights)) (N d) (omega arith), le-leb 1 j (omega arith), lt-leb j (P d) l)
 
       pub is-card : 1 ≤ j → j ≤ P d → periodCard d j ≡ card d j
       unfolding periodCard
-      is-card a b = rw (v, le-ltb (firstJumpOrLimit d) (N d) (omega arith), le-leb 1 j a, le-leb j (P d) b)
+      is-card a b = rw (v, le-ltb (firstJumpOrLimit (d .flights)) (N d) (omega arith), le-leb 1 j a, le-leb j (P d) b)

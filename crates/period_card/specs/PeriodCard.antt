@@ -37,6 +37,6 @@ refused answer = record { answer = answer; low = 0; high = 0; size = 0 }
 unfoldable pub periodCard : Day → ℕ → Card
 periodCard d j =
     cond (not (valid d)) (refused BadDay)
-    (cond (ltb (firstJumpOrLimit d) (N d)) (refused (JumpOrLimit (firstJumpOrLimit d)))
+    (cond (ltb (firstJumpOrLimit (d .flights)) (N d)) (refused (JumpOrLimit (firstJumpOrLimit (d .flights))))
     (cond (not (inside 1 (P d) j)) (refused (NoSuchPeriod (P d)))
     (card d j)))

@@ -1,5 +1,6 @@
 // The period card: who is eligible in one period of the quick plan, as marks in two words, and how many are.
 use answers::Answer;
+use day::FLIGHTS;
 use day::flight_count;
 use day::is_valid;
 use day::wide;
@@ -11,7 +12,7 @@ ghost use mathlib.Core.Bool.{true};
 ghost use Prim.Native.Nat.{_^_, _<_, _≤_};
 ghost use lib.Bits.{bitOr};
 ghost use lib.ListN.{length};
-ghost use Rattle.day.specs.Day.{day, N, valid};
+ghost use Rattle.day.specs.Day.{lent, N, valid};
 ghost use Rattle.quick_plan.specs.Loop.{waiting};
 ghost use Rattle.period_card.specs.PeriodCard.{marks, refused, card, periodCard};
 
@@ -38,8 +39,8 @@ fn mark(word: u64, i: usize) -> u64
 
 // Who waits in period j.
 fn marks_of(capacities: &[u32], flights: &[u32], holds: &[u32], j: usize) -> Marks
-    requires { ⌜ (valid (day (now capacities) (now flights)) ≡ true) × (length (now holds) ≡ N (day (now capacities) (now flights))) ⌝ }
-    ensures { λ r. ⌜ r ≡ marks (waiting (day (now (capacities .entry)) (now (flights .entry))) (now (holds .entry)) j) (length (now (holds .entry))) ⌝ }
+    requires { ⌜ (valid (lent capacities flights) ≡ true) × (length (now holds) ≡ N (lent capacities flights)) ⌝ }
+    ensures { λ r. ⌜ r ≡ marks (waiting (lent (capacities .entry) (flights .entry)) (now (holds .entry)) j) (length (now (holds .entry))) ⌝ }
 {
     let mut low: u64 = 0;
     let mut high: u64 = 0;
@@ -60,9 +61,9 @@ fn marks_of(capacities: &[u32], flights: &[u32], holds: &[u32], j: usize) -> Mar
 
 // The card of period j, with a row to plan the periods before it in.
 fn card_in(capacities: &[u32], flights: &[u32], row: &mut [u32], n: usize, j: usize) -> Card
-    requires { ⌜ (valid (day (now capacities) (now flights)) ≡ true) × (n ≡ N (day (now capacities) (now flights))) × (1 ≤ j) × (j ≤ length (now capacities)) ⌝ }
+    requires { ⌜ (valid (lent capacities flights) ≡ true) × (n ≡ N (lent capacities flights)) × (1 ≤ j) × (j ≤ length (now capacities)) ⌝ }
     requires { ⌜ n ≤ length (now row) ⌝ }
-    ensures { λ r. ⌜ r ≡ card (day (now (capacities .entry)) (now (flights .entry))) j ⌝ }
+    ensures { λ r. ⌜ r ≡ card (lent (capacities .entry) (flights .entry)) j ⌝ }
 {
     let part = &mut row[0..n];
     plan_to(capacities, flights, part, j - 1);
@@ -89,13 +90,13 @@ fn refusal(answer: Answer) -> Card
 
 // The card of a period. Refusals, in this order: 6, a bad day; 8, the first flight with a jump or a limit; 11, no such period.
 pub fn period_card(capacities: &[u32], flights: &[u32], period: u32) -> Card
-    ensures { λ r. ⌜ r ≡ periodCard (day (now (capacities .entry)) (now (flights .entry))) period ⌝ }
+    ensures { λ r. ⌜ r ≡ periodCard (lent (capacities .entry) (flights .entry)) period ⌝ }
 {
     if !is_valid(capacities, flights) {
         return refusal(Answer::BadDay);
     }
     let n = flight_count(flights);
-    let place = first_jump_or_limit(capacities, flights);
+    let place = first_jump_or_limit(flights);
     if place < n {
         return refusal(Answer::JumpOrLimit { place });
     }
@@ -110,6 +111,6 @@ pub fn period_card(capacities: &[u32], flights: &[u32], period: u32) -> Card
             periods: capacities.len(),
         });
     }
-    let mut row: [u32; 128] = [0; 128];
+    let mut row = [0; FLIGHTS];
     card_in(capacities, flights, &mut row, n, j)
 }

@@ -24,14 +24,14 @@ ended-most : (e n k : ℕ) → 0 < k → n < 10 ^ k → length (ended e n) ≤ k
 ended-most e n k p h = omega (arith, length-ended e n, count-le n k p h)
 
 line-length : (d : Day) (h : List ℕ) (i : ℕ)
-    → length (planLine d h i)
+    → length (planLine (d .flights) h i)
     ≡ length (ended 44 (number d i)) + length (ended 44 (due d i)) + length (ended 44 (land d h i)) + length (ended 44 (hold h i))
     + length (ended 10 (cost d i (hold h i)))
 unfolding planLine line separated
 line-length d h i = simp length-append (omega arith)
 
 module _ (d : Day) (good : valid d ≡ true) (h : List ℕ) (legal : Legal d h) where
-  line-short : (i : ℕ) → i < N d → length (planLine d h i) ≤ 22
+  line-short : (i : ℕ) → i < N d → length (planLine (d .flights) h i) ≤ 22
   line-short i l =
       let v = valid-means good in
       let w = legal .window i l in
@@ -42,20 +42,20 @@ module _ (d : Day) (good : valid d ≡ true) (h : List ℕ) (legal : Legal d h) 
       let f = ended-most 10 (cost d i (hold h i)) 7 (lit< tt) (omega (arith, cost-le v i (hold h i) l (hold-le v legal l))) in
       omega (arith, line-length d h i)
 
-  lines-short : (n i : ℕ) → i + n ≤ N d → length (planLines d h n i) ≤ 22 * n
+  lines-short : (n i : ℕ) → i + n ≤ N d → length (planLines (d .flights) h n i) ≤ 22 * n
   unfolding planLines
   lines-short zero i l = omega arith
   lines-short (suc n) i l = simp length-append (omega (arith, line-short i (omega arith), lines-short n (suc i) (omega arith)))
 
   -- 128 lines, the two names lines and the total
-  pub plan-short : length (planText d h) ≤ 2859
+  pub plan-short : length (planText (d .flights) h) ≤ 2859
   plan-short =
       let v = valid-means good in
       let t = ended-most 10 (total d h) 9 (lit< tt) (omega (arith, total-le v legal)) in
-      omega (arith, length-plan d h {n = N d} {t = total d h} refl refl, lines-short (N d) 0 (omega arith), v .flights-to)
+      omega (arith, length-plan (d .flights) h {n = N d} {t = total d h} refl refl, lines-short (N d) 0 (omega arith), v .flights-to)
 
   -- the call writes the text of a legal plan
   pub plan-written : (buffer : List ℕ) (place : ℕ)
-      → (textAnswer buffer place (planText d h) ≡ planTextAnswer d h buffer place)
-      × (textAfter buffer place (planText d h) ≡ planTextAfter d h buffer place)
+      → (textAnswer buffer place (planText (d .flights) h) ≡ planTextAnswer d h buffer place)
+      × (textAfter buffer place (planText (d .flights) h) ≡ planTextAfter d h buffer place)
   plan-written buffer place = on-legal d h buffer place (legal-found d h good legal)

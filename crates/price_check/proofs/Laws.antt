@@ -11,13 +11,17 @@ use lib.ListN.{length}
 use Rattle.assignment.specs.Sum.{count}
 use Rattle.assignment.proofs.Tests.{eq?, gate-eq, gate-ne}
 use Rattle.assignment.proofs.Sums.{count-suc, count-zero}
-use Rattle.day.specs.Day.{Day, P, N, due, ofPeriod, capacity, cost, latest, hold, land, landings, valid, width}
+use Rattle.day.specs.declared.Flight.{Flight}
+use Rattle.day.specs.Day.{Day, P, N, column, flightAt, holdCost, latestOf, due, ofPeriod, capacity, cost, latest, hold, landOf, land, landings, valid, width}
 use Rattle.day.specs.Plan.{Legal, Cheapest, Accepted}
+use Rattle.day.proofs.Flights.{due-read}
 use Rattle.day.proofs.Instance.{hold-le, cost-le, accepted-is-cheapest}
-use Rattle.day.proofs.Valid.{Valid, valid-means}
+use Rattle.day.specs.Valid.{Valid}
+use Rattle.day.proofs.Valid.{valid-means}
+use Rattle.answers.specs.declared.Answer.{Answer}
 use Rattle.legality.specs.Check.{planCheck}
 use Rattle.legality.specs.declared.PlanCheck.the-variants as found
-use Rattle.legality.proofs.Found.{found-legal, found-not-legal, legal-found}
+use Rattle.legality.proofs.Found.{found-legal, found-refused}
 use Rattle.price_check.specs.Decides.{Decides, Unsold, Least, Best}
 
 true-false : true ≡ false → ⊥
@@ -32,46 +36,47 @@ say-no n = record { yes = λ e. absurd (true-false (sym e)); no = λ _. n }
 -- ---- counts of landings
 
 -- of the flights before place i, n land in period k
-pub record Counted (d : Day) (h : List ℕ) (k n i : ℕ) : Type 0 where
-  pub good : valid d ≡ true
-  pub each : length h ≡ N d
-  pub upto : i ≤ N d
+pub record Counted (f h : List ℕ) (k n i : ℕ) : Type 0 where
+  pub rows : length h * width ≤ length f
+  pub upto : i ≤ length h
   pub few : n ≤ i
-  pub counts : n ≡ count i (land d h) k
+  pub counts : n ≡ count i (landOf f h) k
 
-pub counted-start : {d : Day} {h : List ℕ} {k : ℕ} → valid d ≡ true → length h ≡ N d → Counted d h k 0 0
-counted-start {d} {h} {k} good each = record { good = good; each = each; upto = omega arith; few = omega arith; counts = sym (count-zero (land d h) k) }
+pub counted-start : {f h : List ℕ} {k : ℕ} → length h * width ≤ length f → Counted f h k 0 0
+counted-start {f} {h} {k} rows = record { rows = rows; upto = omega arith; few = omega arith; counts = sym (count-zero (landOf f h) k) }
 
-module _ {d : Day} {h : List ℕ} {k n i : ℕ} (s : Counted d h k n i) where
-  pub counted-place : i < length h → (i + 1) * width ≤ length (d .flights)
-  counted-place l = omega (arith, valid-means (s .good) .whole, s .each)
+module _ {f h : List ℕ} {k n i : ℕ} (s : Counted f h k n i) where
+  pub counted-place : i < length h → (i + 1) * width ≤ length f
+  counted-place l = omega (arith, s .rows)
 
-  module _ (l : i < length h) {x : ℕ} (at : x ≡ land d h i) where
-    pub counted-on : x ≡ k → Counted d h k (n + 1) (i + 1)
+  module _ (l : i < length h) {x : ℕ} (at : x ≡ landOf f h i) where
+    pub counted-on : x ≡ k → Counted f h k (n + 1) (i + 1)
     counted-on e = record {
-      good = s .good;
-      each = s .each;
-      upto = omega (arith, s .each);
+      rows = s .rows;
+      upto = omega arith;
       few = omega (arith, s .few);
-      counts = rw (add-one i) (omega (arith, s .counts, count-suc i (land d h) k, gate-eq (land d h i) k 1 (sym at ∙ e)));
+      counts = rw (add-one i) (omega (arith, s .counts, count-suc i (landOf f h) k, gate-eq (landOf f h i) k 1 (sym at ∙ e)));
     }
 
-    pub counted-off : (x ≡ k → ⊥) → Counted d h k n (i + 1)
+    pub counted-off : (x ≡ k → ⊥) → Counted f h k n (i + 1)
     counted-off e = record {
-      good = s .good;
-      each = s .each;
-      upto = omega (arith, s .each);
+      rows = s .rows;
+      upto = omega arith;
       few = omega (arith, s .few);
-      counts = rw (add-one i) (omega (arith, s .counts, count-suc i (land d h) k, gate-ne (land d h i) k 1 (λ f. e (at ∙ f))));
+      counts = rw (add-one i) (omega (arith, s .counts, count-suc i (landOf f h) k, gate-ne (landOf f h i) k 1 (λ f. e (at ∙ f))));
     }
 
-  pub counted-end : length h ≤ i → n ≡ landings d h k
-  counted-end done = let e : i ≡ N d = omega (arith, s .each, s .upto) in s .counts ∙ ap (λ m. count m (land d h) k) e
+  pub counted-end : length h ≤ i → n ≡ count (length h) (landOf f h) k
+  counted-end done = let e : i ≡ length h = omega (arith, s .upto) in s .counts ∙ ap (λ m. count m (landOf f h) k) e
 
 -- ---- periods that are not full
 
 abbrev pub UnsoldTo : Day → (h p : List ℕ) → ℕ → Type 0
 UnsoldTo d h p k = (j : ℕ) → 1 ≤ j → j < k → Unsold d h p j
+
+-- the landings that the hold row counts
+all-counted : (d : Day) (h : List ℕ) (k : ℕ) {n : ℕ} → length h ≡ N d → n ≡ count (length h) (land d h) k → n ≡ landings d h k
+all-counted d h k each e = e ∙ ap (λ m. count m (land d h) k) each
 
 module _ {d : Day} {h p : List ℕ} {k : ℕ} where
   unsold-more : UnsoldTo d h p k → Unsold d h p k → UnsoldTo d h p (k + 1)
@@ -80,12 +85,13 @@ module _ {d : Day} {h p : List ℕ} {k : ℕ} where
   pub unsold-free : UnsoldTo d h p k → {x : ℕ} → x ≡ ofPeriod p k → x ≡ 0 → UnsoldTo d h p (k + 1)
   unsold-free upto e none = unsold-more upto (record { free = λ _. sym e ∙ none })
 
-  pub unsold-full : UnsoldTo d h p k → {n c : ℕ} → n ≡ landings d h k → c ≡ capacity d k → c ≤ n → UnsoldTo d h p (k + 1)
-  unsold-full upto e f full = unsold-more upto (record { free = λ less. absurd (omega arith) })
+  pub unsold-full : UnsoldTo d h p k → {n c : ℕ} → length h ≡ N d → n ≡ count (length h) (land d h) k → c ≡ capacity d k → c ≤ n → UnsoldTo d h p (k + 1)
+  unsold-full upto each e f full = unsold-more upto (record { free = λ less. absurd (omega (arith, all-counted d h k each e)) })
 
-  pub unsold-not : 1 ≤ k → k ≤ P d → {x n c : ℕ} → x ≡ ofPeriod p k → (x ≡ 0 → ⊥) → n ≡ landings d h k → c ≡ capacity d k → n < c
+  pub unsold-not : 1 ≤ k → k ≤ P d → {x n c : ℕ} → x ≡ ofPeriod p k → (x ≡ 0 → ⊥) → length h ≡ N d → n ≡ count (length h) (land d h) k
+      → c ≡ capacity d k → n < c
       → ((j : ℕ) → 1 ≤ j → j ≤ P d → Unsold d h p j) → ⊥
-  unsold-not a b e some f g less said = some (e ∙ said k a b .free (omega arith))
+  unsold-not a b e some each f g less said = some (e ∙ said k a b .free (omega (arith, all-counted d h k each f)))
 
 -- ---- least cost and price
 
@@ -99,6 +105,22 @@ pub record Bests (d : Day) (h p : List ℕ) (i k : ℕ) : Type 0 where
   pub place : i < length h
   pub from : due d i ≤ k
   pub passed : (j : ℕ) → due d i ≤ j → j < k → Least d h p i j
+
+-- a flight's numbers that the program has read by value
+module _ (f : Flight) (row : List ℕ) (i : ℕ) (read : f ≡ flightAt row i) where
+  pub due-made : {u : ℕ} → u ≡ f .due → u ≡ column 1 row i
+  due-made e = e ∙ due-read f row i read
+
+  pub cost-made : {x : ℕ} (z : ℕ) → x ≡ holdCost f z → x ≡ holdCost (flightAt row i) z
+  cost-made z e = e ∙ ap (λ g. holdCost g z) read
+
+  -- what it pays where it lands
+  pub here-made : {u x y z : ℕ} (h p : List ℕ) → u ≡ f .due → z ≡ hold h i → x ≡ holdCost f z → y ≡ ofPeriod p (u + z)
+      → x + y ≡ holdCost (flightAt row i) (hold h i) + ofPeriod p (landOf row h i)
+  here-made h p e hold-is cost-is price-is = rw (cost-made _ cost-is, price-is, due-made e, hold-is)
+
+  pub latest-made : {x : ℕ} (p : ℕ) → x ≡ latestOf p f → x ≡ latestOf p (flightAt row i)
+  latest-made p e = e ∙ ap (latestOf p) read
 
 -- the landing itself: within the day, at a cost that is small
 module _ {d : Day} {h : List ℕ} {i : ℕ} (good : valid d ≡ true) (legal : Legal d h) (place : i < length h) where
@@ -122,15 +144,11 @@ module _ {d : Day} {h p : List ℕ} {i k : ℕ} (s : Bests d h p i k) where
   m = omega (arith, s .legal .each, s .place)
 
   -- what the program adds up, in the definitions' words
-  module _ {u x y : ℕ} (at : u ≡ due d i) where
-    pub here-made : {z : ℕ} → z ≡ hold h i → x ≡ cost d i z → y ≡ ofPeriod p (u + z) → x + y ≡ cost d i (hold h i) + ofPeriod p (land d h i)
-    here-made e f g = rw (f, g, at, e)
+  pub there-made : {u x y : ℕ} → u ≡ due d i → x ≡ cost d i (k - u) → y ≡ ofPeriod p k → x + y ≡ cost d i (k - due d i) + ofPeriod p k
+  there-made at f g = rw (f, g, at)
 
-    pub there-made : x ≡ cost d i (k - u) → y ≡ ofPeriod p k → x + y ≡ cost d i (k - due d i) + ofPeriod p k
-    there-made f g = rw (f, g, at)
-
-  pub best-fits : k ≤ P d + 1 → cost d i (k - due d i) ≤ 1960000
-  best-fits b = cost-le w i (k - due d i) m (omega (arith, w .flight i m .due-from, w .periods-to))
+  pub best-fits : {u x : ℕ} → u ≡ due d i → x ≡ cost d i (k - u) → k ≤ P d + 1 → x ≤ 1960000
+  best-fits at f b = rw (f, at) (cost-le w i (k - due d i) m (omega (arith, w .flight i m .due-from, w .periods-to)))
 
   pub best-next : {here there : ℕ} → here ≡ cost d i (hold h i) + ofPeriod p (land d h i) → there ≡ cost d i (k - due d i) + ofPeriod p k
       → here ≤ there → Bests d h p i (k + 1)
@@ -194,11 +212,5 @@ module _ (d : Day) (h : List ℕ) where
   pub found-yes : {t : ℕ} → planCheck d h ≡ found.Legal t → LegalDay true
   found-yes e = let f = found-legal d h e in say-yes (f .good, f .legal)
 
-  pub found-bad-day : planCheck d h ≡ found.BadDay → LegalDay false
-  found-bad-day e = say-no (λ s. let p = legal-found d h (s .0) (s .1) in let z : _≡_ {A = ℕ} 0 1 = cc in omega (arith, z))
-
-  pub found-bad-length : {n : ℕ} → planCheck d h ≡ found.BadLength n → LegalDay false
-  found-bad-length e = say-no (λ s. let p = legal-found d h (s .0) (s .1) in let z : _≡_ {A = ℕ} 0 1 = cc in omega (arith, z))
-
-  pub found-illegal : {n : ℕ} → planCheck d h ≡ found.NotLegal n → LegalDay false
-  found-illegal e = say-no (λ s. found-not-legal d h e .illegal (s .1))
+  pub found-no : {a : Answer} → planCheck d h ≡ found.Refused a → LegalDay false
+  found-no e = say-no (λ s. found-refused d h e (s .0) (s .1))

@@ -22,7 +22,7 @@ pub planned : {d : Day} {answer : Answer} {code : Code} {h p h′ p′ : List �
 planned (full.plan s) coded zero = s .cheapest
 planned (full.none s) coded zero = absurd (omega (arith, number-of coded (s .stretch-is)))
 
-pub prints-plan : {d : Day} {holds buffer : List ℕ} {r : ℕ} → Cheapest d holds → Front buffer r (planText d holds)
+pub prints-plan : {d : Day} {holds buffer : List ℕ} {r : ℕ} → Cheapest d holds → Front buffer r (planText (d .flights) holds)
     → (r ≤ length buffer) × PrintsDay d (take r buffer)
 prints-plan {holds = holds} cheapest front = (front .within, plan holds cheapest (front .bytes))
 

@@ -12,10 +12,10 @@ use borrow.Author.Tests.{eq-eqb}
 use Rattle.answers.specs.declared.Answer.{Answer}
 use Rattle.answers.specs.declared.Code.{Code}
 use Rattle.answers.specs.Answers.{codeOf}
-use Rattle.day.specs.Day.{day, P, N, valid, width}
+use Rattle.day.specs.Day.{day, P, N, mostPeriods, mostFlights, valid, width}
 use Rattle.day.proofs.Valid.{valid-means}
-use Rattle.sheet.specs.declared.Flight.{Flight}
-use Rattle.sheet.specs.Flights.{rowOf}
+use Rattle.day.specs.declared.Flight.{Flight}
+use Rattle.day.specs.Flights.{rowOf}
 use Rattle.sheet.specs.Sheet.{Reading, read, refused, readSheet, reading, answerOf, capacitiesAfter, flightsAfter}
 use Rattle.sheet.proofs.Good.{row-whole, count-row}
 use Rattle.sheet.proofs.RoundTrip.{read-is-valid}
@@ -32,19 +32,19 @@ pub record Held (sheet : List ℕ) (p n : ℕ) (capacity-row flight-row : List �
   pub periods : length capacities ≡ p
   pub count : length flights ≡ n
   pub row : length (rowOf flights) ≡ n * width
-  pub few-periods : p ≤ 96
-  pub few-flights : n ≤ 128
+  pub few-periods : p ≤ mostPeriods
+  pub few-flights : n ≤ mostFlights
   pub capacities-there : take p capacity-row ≡ capacities
   pub flights-there : take (n * width) flight-row ≡ rowOf flights
   pub capacities-within : p ≤ length capacity-row
   pub flights-within : n * width ≤ length flight-row
 
 -- rows of 96 and 768 numbers are never refused
-opened : (sheet c f : List ℕ) → 96 ≡ length c → 768 ≡ length f → reading sheet c f ≡ readSheet sheet
+opened : (sheet c f : List ℕ) → mostPeriods ≡ length c → mostFlights * width ≡ length f → reading sheet c f ≡ readSheet sheet
 unfolding reading
-opened sheet c f p q = rw (eq-eqb (length c) 96 (sym p), eq-eqb (length f) 768 (sym q))
+opened sheet c f p q = rw (eq-eqb (length c) mostPeriods (sym p), eq-eqb (length f) (mostFlights * width) (sym q))
 
-module _ (sheet c f : List ℕ) {answer : Answer} {code : Code} (p : 96 ≡ length c) (q : 768 ≡ length f)
+module _ (sheet c f : List ℕ) {answer : Answer} {code : Code} (p : mostPeriods ≡ length c) (q : mostFlights * width ≡ length f)
     (is : answer ≡ answerOf (reading sheet c f)) (coded : code ≡ codeOf answer) where
   pub held : {c′ f′ : List ℕ} → c′ ≡ capacitiesAfter (reading sheet c f) c → f′ ≡ flightsAfter (reading sheet c f) f → code .number ≡ 0
       → Held sheet (code .first) (code .second) c′ f′

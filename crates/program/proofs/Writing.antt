@@ -52,7 +52,7 @@ refusal-front buffer answer {after} {written} {code} {count} room is p q r made 
 
 pub plan-front : (buffer : List ℕ) (d : Day) (holds : List ℕ) {after : List ℕ} {written : Answer} {code : Code} → valid d ≡ true → Legal d holds
     → 4096 ≤ length buffer → written ≡ planTextAnswer d holds buffer 0 → after ≡ planTextAfter d holds buffer 0 → code ≡ codeOf written
-    → Front after (code .first) (planText d holds)
+    → Front after (code .first) (planText (d .flights) holds)
 plan-front buffer d holds good legal room made left coded =
     let w = plan-written d good holds legal buffer 0 in
-    text-front buffer (planText d holds) (omega (arith, plan-short d good holds legal)) (made ∙ sym (w .0)) (left ∙ sym (w .1)) coded
+    text-front buffer (planText (d .flights) holds) (omega (arith, plan-short d good holds legal)) (made ∙ sym (w .0)) (left ∙ sym (w .1)) coded

@@ -9,7 +9,7 @@ use Rattle.answers.specs.Answers.{codeOf}
 use Rattle.text.specs.Fixed.{refusalText}
 use Rattle.day.specs.Day.{Day, day}
 use Rattle.day.specs.Plan.{Cheapest, Picked}
-use Rattle.sheet.specs.Flights.{rowOf}
+use Rattle.day.specs.Flights.{rowOf}
 use Rattle.sheet.specs.Sheet.{Reading, read, refused, readSheet}
 use Rattle.plan_text.specs.PlanText.{planText}
 
@@ -24,7 +24,7 @@ refusalOf a = refusalText (codeOf a .number) (codeOf a .first) (codeOf a .second
 
 -- what is printed for a day: the text of a cheapest plan or, where there is no legal plan, refusal 9 with the stretch that leaves none
 pub data PrintsDay (d : Day) (out : List ℕ) : Type 0 where
-  plan : (holds : List ℕ) → Cheapest d holds → out ≡ planText d holds → PrintsDay d out
+  plan : (holds : List ℕ) → Cheapest d holds → out ≡ planText (d .flights) holds → PrintsDay d out
   none : (first last : ℕ) → Picked d first last → out ≡ refusalText 9 first last → PrintsDay d out
 
 -- what is printed for a sheet that was read, or refused

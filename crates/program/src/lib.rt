@@ -1,35 +1,38 @@
 // What the program does between reading and writing: of the bytes of a day sheet, the text of its full plan or of its refusal.
 ghost use mathlib.Core.Path.{_≡_};
 ghost use mathlib.Core.Bool.{true};
-ghost use Prim.Native.Nat.{_≤_};
+ghost use Prim.Native.Nat.{_*_, _≤_};
 ghost use lib.ListN.{length, take};
-ghost use Rattle.day.specs.Day.{day, P, N, valid};
+ghost use Rattle.day.specs.Day.{lent, mostPeriods, mostFlights, width, P, N, valid};
 ghost use Rattle.day.specs.Plan.{Legal};
 ghost use Rattle.plan_text.specs.PlanText.{planText};
 ghost use Rattle.program.specs.Program.{Front, refusalOf, PrintsDay, Prints, Answered};
 use answers::Answer;
 use answers::code_of;
+use day::FLIGHT_ROW;
+use day::FLIGHTS;
+use day::PERIODS;
 
 // Every answer fits this many bytes.
 const ROOM: usize = 4096;
 
 // Rows of zeros for a day and its plan. Their lengths are all that a caller needs to know.
-fn capacity_row() -> [u32; 96]
-    ensures { λ r. ⌜ 96 ≡ length r ⌝ }
+fn capacity_row() -> [u32; PERIODS]
+    ensures { λ r. ⌜ mostPeriods ≡ length r ⌝ }
 {
-    [0; 96]
+    [0; PERIODS]
 }
 
-fn flight_row() -> [u32; 768]
-    ensures { λ r. ⌜ 768 ≡ length r ⌝ }
+fn flight_row() -> [u32; FLIGHT_ROW]
+    ensures { λ r. ⌜ mostFlights * width ≡ length r ⌝ }
 {
-    [0; 768]
+    [0; FLIGHT_ROW]
 }
 
-fn hold_row() -> [u32; 128]
-    ensures { λ r. ⌜ 128 ≡ length r ⌝ }
+fn hold_row() -> [u32; FLIGHTS]
+    ensures { λ r. ⌜ mostFlights ≡ length r ⌝ }
 {
-    [0; 128]
+    [0; FLIGHTS]
 }
 
 // The two lines of a refusal, at the front of the text; how many bytes.
@@ -47,8 +50,8 @@ fn put_refusal(answer: Answer, text: &mut [u8]) -> usize
 
 // The text of a legal plan, at the front of the text; how many bytes.
 fn put_plan(capacities: &[u32], flights: &[u32], holds: &[u32], text: &mut [u8]) -> usize
-    requires { ⌜ (valid (day (now capacities) (now flights)) ≡ true) × Legal (day (now capacities) (now flights)) (now holds) × (4096 ≤ length (now text)) ⌝ }
-    ensures { λ r. ⌜ Front (now (text .exit)) r (planText (day (now (capacities .entry)) (now (flights .entry))) (now (holds .entry))) ⌝ }
+    requires { ⌜ (valid (lent capacities flights) ≡ true) × Legal (lent capacities flights) (now holds) × (4096 ≤ length (now text)) ⌝ }
+    ensures { λ r. ⌜ Front (now (text .exit)) r (planText (now (flights .entry)) (now (holds .entry))) ⌝ }
 {
     let written = code_of(plan_text::write_plan(capacities, flights, holds, text, 0));
     written.first as usize
@@ -62,8 +65,8 @@ fn plan_day(
     prices: &mut [u32],
     text: &mut [u8],
 ) -> usize
-    requires { ⌜ (valid (day (now capacities) (now flights)) ≡ true) × (length (now holds) ≡ N (day (now capacities) (now flights))) × (length (now prices) ≡ P (day (now capacities) (now flights))) × (4096 ≤ length (now text)) ⌝ }
-    ensures { λ r. ⌜ (r ≤ length (now (text .exit))) × PrintsDay (day (now (capacities .entry)) (now (flights .entry))) (take r (now (text .exit))) ⌝ }
+    requires { ⌜ (valid (lent capacities flights) ≡ true) × (length (now holds) ≡ N (lent capacities flights)) × (length (now prices) ≡ P (lent capacities flights)) × (4096 ≤ length (now text)) ⌝ }
+    ensures { λ r. ⌜ (r ≤ length (now (text .exit))) × PrintsDay (lent (capacities .entry) (flights .entry)) (take r (now (text .exit))) ⌝ }
 {
     let planned = full_plan::full_plan(capacities, flights, holds, prices);
     let code = code_of(planned);

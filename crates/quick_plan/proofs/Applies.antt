@@ -2,22 +2,18 @@
 -- Assumes nothing.
 use mathlib.Core.Path.{_≡_, refl}
 use mathlib.Core.Bool.{Bool, true, false, not, _||_}
-use Prim.Native.Nat.{ℕ, _+_, _*_, _/_, _≤_, _<_}
+use Prim.Native.Nat.{ℕ, _+_, _*_, _≤_, _<_}
 use native.Mathlib.Omega.{arith}
 use lib.ListN.{length}
 use lib.Dec.{ltb, eqb}
 use borrow.Author.Tests.{eqb-true, ltb-false, not-false}
-use Rattle.day.specs.Day.{Day, N, width, jump, limit}
+use Rattle.day.specs.Day.{Day, N, flightAt, flightCount, width, jump, limit}
 use Rattle.day.specs.Plan.{jumpOrLimit, firstJumpOrLimit}
 use Rattle.day.proofs.Tests.{none-passes}
 
-pub flight-total : (d : Day) {n : ℕ} → n ≡ length (d .flights) / width → n ≡ N d
-unfolding N
-flight-total d e = e
-
 -- the row has the numbers of every flight
 pub there : (d : Day) (i : ℕ) → i < N d → (i + 1) * width ≤ length (d .flights)
-unfolding N
+unfolding flightCount
 there d i l = omega arith
 
 -- neither of two tests passes
@@ -29,10 +25,10 @@ neither true b e = (e, after b e)
     after true e = e
     after false e = refl
 
-module _ (d : Day) (applies : firstJumpOrLimit d ≡ N d) (i : ℕ) (l : i < N d) where
+module _ (d : Day) (applies : firstJumpOrLimit (d .flights) ≡ N d) (i : ℕ) (l : i < N d) where
   plain : (ltb 0 (jump d i) ≡ false) × (not (eqb (limit d i) 255) ≡ false)
-  unfolding firstJumpOrLimit jumpOrLimit
-  plain = neither (ltb 0 (jump d i)) (not (eqb (limit d i) 255)) (none-passes (N d) (jumpOrLimit d) applies i l)
+  unfolding firstJumpOrLimit jumpOrLimit flightAt
+  plain = neither (ltb 0 (jump d i)) (not (eqb (limit d i) 255)) (none-passes (N d) (λ k. jumpOrLimit (flightAt (d .flights) k)) applies i l)
 
   pub no-jump : jump d i ≡ 0
   no-jump = omega (arith, ltb-false 0 (jump d i) (plain .0))

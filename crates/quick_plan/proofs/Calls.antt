@@ -30,11 +30,11 @@ module _ (d : Day) (h : List ℕ) where
     unfolding quickPlan
     bad-length o = rw (v, size, ne-eqb (length h) (N d) (λ e. o (e ∙ sym size)))
 
-    module _ (each : length h ≡ n) {place : ℕ} (e : place ≡ firstJumpOrLimit d) where
+    module _ (each : length h ≡ n) {place : ℕ} (e : place ≡ firstJumpOrLimit (d .flights)) where
       pub jump-or-limit : place < n → quickPlan d h ≡ outcome (JumpOrLimit place) h
       unfolding quickPlan
-      jump-or-limit l = rw (v, e, eq-eqb (length h) (N d) (each ∙ size), lt-ltb (firstJumpOrLimit d) (N d) (omega arith))
+      jump-or-limit l = rw (v, e, eq-eqb (length h) (N d) (each ∙ size), lt-ltb (firstJumpOrLimit (d .flights)) (N d) (omega arith))
 
       pub planned : n ≤ place → {x : List ℕ} {t : ℕ} → x ≡ rowTo d (P d) → t ≡ total d x → quickPlan d h ≡ outcome (Planned t) x
       unfolding quickPlan
-      planned g made q = rw (v, eq-eqb (length h) (N d) (each ∙ size), le-ltb (firstJumpOrLimit d) (N d) (omega arith), q, made ∙ rowTo-quick d v)
+      planned g made q = rw (v, eq-eqb (length h) (N d) (each ∙ size), le-ltb (firstJumpOrLimit (d .flights)) (N d) (omega arith), q, made ∙ rowTo-quick d v)

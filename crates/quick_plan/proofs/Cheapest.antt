@@ -14,7 +14,7 @@ use borrow.Author.Tests.{lt-ltb, le-ltb, le-leb, lt-leb, eq-eqb, ne-eqb}
 use Rattle.assignment.specs.Sum.{gate, sum, count}
 use Rattle.assignment.proofs.Tests.{and-T, lt?, eq?}
 use Rattle.assignment.proofs.Sums.{sum-ext, sum-le, sum-add, sum-zero, sum-member}
-use Rattle.day.specs.Day.{Day, P, N, due, rate, after, jump, capacity, holdCost, land, total, valid}
+use Rattle.day.specs.Day.{Day, P, N, due, rate, after, jump, capacity, flightAt, holdCost, land, totalOf, total, valid}
 use Rattle.day.specs.Plan.{Legal, Cheapest, firstJumpOrLimit}
 use Rattle.day.proofs.Valid.{valid-means}
 use Rattle.quick_plan.specs.Quick.{eligible, operates, quick}
@@ -162,7 +162,11 @@ module _ (d : Day) (l : ℕ → ℕ) where
 
 -- ---- the quick plan against another
 
-module _ (d : Day) (v : valid d ≡ true) (applies : firstJumpOrLimit d ≡ N d) (y : List ℕ) (legal : Legal d y) where
+-- The proof on paper. Fix a rate t and look at the flights of that rate or more. In the quick plan they never wait for others: as many of them
+-- land in a period as it takes, or all. In any legal plan no more than that land. So, period by period, the quick plan has the fewest of them
+-- waiting. A flight's rate is the number of those t that it reaches, so the rates of all who wait add up to the least too; and with no jumps
+-- the total is that sum over the periods.
+module _ (d : Day) (v : valid d ≡ true) (applies : firstJumpOrLimit (d .flights) ≡ N d) (y : List ℕ) (legal : Legal d y) where
   left-next : (t j : ℕ) → j < P d
       → crowd d t (waits d (end d v) (suc j)) ≤ crowd d t (waits-in d (end d v) j) - capacity d (suc j)
   unfolding crowd operates
@@ -204,7 +208,7 @@ module _ (d : Day) (v : valid d ≡ true) (applies : firstJumpOrLimit d ≡ N d)
       )
 
   plain-total : (h : List ℕ) → total d h ≡ sum (N d) (λ i. rate d i * (land d h i - due d i))
-  unfolding total holdCost
+  unfolding totalOf holdCost flightAt
   plain-total h = sum-ext (N d) (λ i. rate d i * getD h i 0 + gate (ltb (after d i) (getD h i 0)) (jump d i)) (λ i. rate d i * (land d h i - due d i)) (λ i l.
       rw (no-jump d applies i l) (go (rate d i) (ltb (after d i) (getD h i 0)) (getD h i 0) (land d h i - due d i) (omega arith)))
     where
@@ -226,9 +230,9 @@ module _ (d : Day) (v : valid d ≡ true) (applies : firstJumpOrLimit d ≡ N d)
       )
 
 -- the quick plan is legal, and no legal plan costs less
-pub quick-cheapest : (d : Day) → valid d ≡ true → firstJumpOrLimit d ≡ N d → Cheapest d (quick d)
+pub quick-cheapest : (d : Day) → valid d ≡ true → firstJumpOrLimit (d .flights) ≡ N d → Cheapest d (quick d)
 quick-cheapest d v applies = record { legal = quick-legal d v applies; least = λ y legal. quick-least d v applies y legal }
 
 -- so it costs as much as any other cheapest plan
-pub same-total : (d : Day) → valid d ≡ true → firstJumpOrLimit d ≡ N d → (holds : List ℕ) → Cheapest d holds → total d (quick d) ≡ total d holds
+pub same-total : (d : Day) → valid d ≡ true → firstJumpOrLimit (d .flights) ≡ N d → (holds : List ℕ) → Cheapest d holds → total d (quick d) ≡ total d holds
 same-total d v applies holds w = omega (arith, quick-least d v applies holds (w .legal), w .least (quick d) (quick-legal d v applies))

@@ -169,7 +169,7 @@ module _ (d : Day) (v : valid d ≡ true) where
   quick-length = row-length (N d) (λ i. lands d (P d) i - due d i)
 
   -- no flight is limited
-  module _ (applies : firstJumpOrLimit d ≡ N d) where
+  module _ (applies : firstJumpOrLimit (d .flights) ≡ N d) where
     pub unlimited : (i : ℕ) → i < N d → latest d i ≡ P d + 1
     unlimited i l = latest-missing d i (no-limit d applies i l)
 

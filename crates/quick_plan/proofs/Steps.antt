@@ -10,14 +10,15 @@ use native.Mathlib.Numerals.{add-one}
 use lib.ListN.{length, getD, set, take, length-set}
 use lib.Seq.{take-suc-set, take-all}
 use lib.Dec.{ltb, eqb}
-use borrow.Author.Tests.{eq-eqb, ne-eqb, le-leb, lt-leb, lt-ltb, le-ltb}
-use Rattle.day.specs.Day.{Day, P, N, width, due, rate, capacity, jump, limit, valid}
+use borrow.Author.Tests.{eq-eqb, ne-eqb, le-leb, lt-leb, le-ltb}
+use Rattle.day.specs.declared.Flight.{Flight}
+use Rattle.day.specs.Day.{Day, day, P, N, width, column, flightAt, flightCount, due, capacity, valid}
 use Rattle.day.specs.Plan.{jumpOrLimit, firstJumpOrLimit}
 use Rattle.day.proofs.Tests.{first-at, first-none}
 use Rattle.day.proofs.Valid.{valid-means}
 use Rattle.assignment.specs.Rows.{row}
 use Rattle.assignment.proofs.Tests.{eq?}
-use Rattle.quick_plan.specs.Quick.{ahead}
+use Rattle.quick_plan.specs.Quick.{aheadOf, ahead}
 use Rattle.quick_plan.specs.Loop.{pick, bestTo, waiting, top, put, landAll, rowTo}
 use Rattle.quick_plan.proofs.Applies.{there}
 use Rattle.quick_plan.proofs.First.{Found, found}
@@ -29,18 +30,18 @@ or-false false = refl
 
 -- ---- which flight goes before
 
-module _ (d : Day) (k i : ℕ) {ri rk : ℕ} (er : ri ≡ rate d i) (ek : rk ≡ rate d k) where
-  pub ahead-rates : ri ≢ rk → ltb ri rk ≡ ahead d k i
-  unfolding ahead
+module _ (f : List ℕ) (k i : ℕ) {ri rk : ℕ} (er : ri ≡ column 2 f i) (ek : rk ≡ column 2 f k) where
+  pub ahead-rates : ri ≢ rk → ltb ri rk ≡ aheadOf f k i
+  unfolding aheadOf
   ahead-rates ne = rw (← er, ← ek, ne-eqb ri rk ne) (or-false (ltb ri rk))
 
-  module _ {di dk : ℕ} (ed : di ≡ due d i) (el : dk ≡ due d k) (e : ri ≡ rk) where
-    pub ahead-dues : dk ≢ di → ltb dk di ≡ ahead d k i
-    unfolding ahead
+  module _ {di dk : ℕ} (ed : di ≡ column 1 f i) (el : dk ≡ column 1 f k) (e : ri ≡ rk) where
+    pub ahead-dues : dk ≢ di → ltb dk di ≡ aheadOf f k i
+    unfolding aheadOf
     ahead-dues ne = rw (← er, ← ek, ← ed, ← el, le-ltb ri rk (omega arith), eq-eqb ri rk e, ne-eqb dk di ne) (or-false (ltb dk di))
 
-    pub ahead-places : dk ≡ di → ltb k i ≡ ahead d k i
-    unfolding ahead
+    pub ahead-places : dk ≡ di → ltb k i ≡ aheadOf f k i
+    unfolding aheadOf
     ahead-places q = rw (← er, ← ek, ← ed, ← el, le-ltb ri rk (omega arith), eq-eqb ri rk e, le-ltb dk di (omega arith), eq-eqb dk di q)
 
 -- ---- who waits
@@ -222,39 +223,35 @@ module _ {d : Day} {h : List ℕ} {j : ℕ} (s : Planned d h j) where
 -- ---- the first jump or limit
 
 -- none of the flights below i has a jump or a limit
-pub record Plain (d : Day) (n i : ℕ) : Type 0 where
-  pub size : n ≡ N d
+pub record Plain (f : List ℕ) (n i : ℕ) : Type 0 where
+  pub size : n ≡ flightCount f
   pub within : i ≤ n
-  pub none : (k : ℕ) → k < i → jumpOrLimit d k ≡ false
+  pub none : (k : ℕ) → k < i → jumpOrLimit (flightAt f k) ≡ false
 
-pub plain-start : {d : Day} {n : ℕ} → n ≡ N d → Plain d n 0
+pub plain-start : {f : List ℕ} {n : ℕ} → n ≡ flightCount f → Plain f n 0
 plain-start e = record { size = e; within = omega arith; none = λ k l. absurd (omega arith) }
 
-module _ {d : Day} {n i : ℕ} (s : Plain d n i) where
-  stops : i < n → jumpOrLimit d i ≡ true → i ≡ firstJumpOrLimit d
-  unfolding firstJumpOrLimit
-  stops l e = sym (first-at (N d) (jumpOrLimit d) i (omega (arith, s .size)) (s .none) e)
+module _ {f : List ℕ} {n i : ℕ} (s : Plain f n i) where
+  pub plain-there : i < n → (i + 1) * width ≤ length f
+  plain-there l = there (day [] f) i (omega (arith, s .size))
 
-  pub plain-jump : {x : ℕ} → i < n → x ≡ jump d i → 0 < x → i ≡ firstJumpOrLimit d
-  unfolding jumpOrLimit
-  plain-jump {x = x} l e h = stops l (rw (← e, lt-ltb 0 x h))
+  module _ (l : i < n) {x : Flight} (read : x ≡ flightAt f i) {t : Bool} (found : t ≡ jumpOrLimit x) where
+    pub plain-stop : t ≡ true → i ≡ firstJumpOrLimit f
+    unfolding firstJumpOrLimit
+    plain-stop e =
+        sym (first-at (flightCount f) (λ k. jumpOrLimit (flightAt f k)) i (omega (arith, s .size)) (s .none) (sym (found ∙ ap jumpOrLimit read) ∙ e))
 
-  module _ {x y : ℕ} (l : i < n) (ex : x ≡ jump d i) (h : x ≤ 0) (ey : y ≡ limit d i) where
-    pub plain-limit : y ≢ 255 → i ≡ firstJumpOrLimit d
-    unfolding jumpOrLimit
-    plain-limit o = stops l (rw (← ex, ← ey, le-ltb 0 x h, ne-eqb y 255 o))
-
-    pub plain-next : y ≡ 255 → Plain d n (i + 1)
-    unfolding jumpOrLimit
-    plain-next o = record {
+    pub plain-next : t ≡ false → Plain f n (i + 1)
+    plain-next e = record {
       size = s .size;
       within = omega arith;
       none = λ k b. elim (eq? k i) [
-        | inl q ↦ rw (q, ← ex, ← ey, le-ltb 0 x h, eq-eqb y 255 o)
+        | inl q ↦ rw q (sym (found ∙ ap jumpOrLimit read) ∙ e)
         | inr q ↦ s .none k (omega arith)
       ];
     }
 
-  pub plain-end : n ≤ i → n ≡ firstJumpOrLimit d
+  pub plain-end : n ≤ i → n ≡ firstJumpOrLimit f
   unfolding firstJumpOrLimit
-  plain-end g = s .size ∙ sym (first-none (N d) (jumpOrLimit d) (λ k l. s .none k (omega (arith, s .size, s .within))))
+  plain-end g =
+      s .size ∙ sym (first-none (flightCount f) (λ k. jumpOrLimit (flightAt f k)) (λ k l. s .none k (omega (arith, s .size, s .within))))

@@ -24,5 +24,5 @@ unfoldable pub quickPlan : Day → List ℕ → Outcome
 quickPlan d holds =
     cond (not (valid d)) (outcome BadDay holds)
     (cond (not (eqb (length holds) (N d))) (outcome (BadLength (N d)) holds)
-    (cond (ltb (firstJumpOrLimit d) (N d)) (outcome (JumpOrLimit (firstJumpOrLimit d)) holds)
+    (cond (ltb (firstJumpOrLimit (d .flights)) (N d)) (outcome (JumpOrLimit (firstJumpOrLimit (d .flights))) holds)
     (outcome (Planned (total d (quick d))) (quick d))))

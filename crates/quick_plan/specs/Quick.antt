@@ -6,15 +6,18 @@ use Prim.Native.Nat.{ℕ, zero, suc, _+_, _-_}
 use lib.Dec.{ltb, eqb}
 use Rattle.assignment.specs.Sum.{gate, sum}
 use Rattle.assignment.specs.Rows.{row}
-use Rattle.day.specs.Day.{Day, P, N, due, rate, capacity}
+use Rattle.day.specs.Day.{Day, P, N, column, due, capacity}
 
 -- a is less than b, or they are equal and the next test decides
 abbrev pub less : ℕ → ℕ → Bool → Bool
 less a b next = ltb a b || eqb a b && next
 
 -- flight k goes before flight i: its rate is higher; "Ties: earlier due, then lower table place."
-unfoldable pub ahead : Day → ℕ → ℕ → Bool
-ahead d k i = less (rate d i) (rate d k) (less (due d k) (due d i) (ltb k i))
+unfoldable pub aheadOf : List ℕ → ℕ → ℕ → Bool
+aheadOf flights k i = less (column 2 flights i) (column 2 flights k) (less (column 1 flights k) (column 1 flights i) (ltb k i))
+
+abbrev pub ahead : Day → ℕ → ℕ → Bool
+ahead d = aheadOf (d .flights)
 
 -- how many flights of a set go before flight i
 unfoldable pub goingBefore : Day → (ℕ → Bool) → ℕ → ℕ

@@ -1,11 +1,12 @@
 // The quick plan: period by period, those of the flights that wait land that go first. A hold row starts with every flight at the closing
 // period, so that a flight that stands there has yet to land.
 use answers::Answer;
+use day::Flight;
+use day::MISSING;
 use day::due_of;
+use day::flight_at;
 use day::flight_count;
 use day::is_valid;
-use day::jump_of;
-use day::limit_of;
 use day::of_period;
 use day::rate_of;
 use day::wide;
@@ -14,16 +15,16 @@ ghost use mathlib.Core.Path.{_≡_};
 ghost use mathlib.Core.Bool.{true};
 ghost use Prim.Native.Nat.{_+_, _*_, _<_, _≤_};
 ghost use lib.ListN.{length};
-ghost use Rattle.day.specs.Day.{day, N, width, valid};
-ghost use Rattle.day.specs.Plan.{firstJumpOrLimit};
-ghost use Rattle.quick_plan.specs.Quick.{ahead};
+ghost use Rattle.day.specs.Day.{lent, N, mostPeriods, width, valid};
+ghost use Rattle.day.specs.Plan.{jumpOrLimit, firstJumpOrLimit};
+ghost use Rattle.quick_plan.specs.Quick.{aheadOf};
 ghost use Rattle.quick_plan.specs.Loop.{waiting, top, landAll, rowTo};
 ghost use Rattle.quick_plan.specs.Calls.{quickPlan};
 
 // Flight k goes before flight i.
-fn goes_before(capacities: &[u32], flights: &[u32], k: usize, i: usize) -> bool
+fn goes_before(flights: &[u32], k: usize, i: usize) -> bool
     requires { ⌜ ((k + 1) * width ≤ length (now flights)) × ((i + 1) * width ≤ length (now flights)) ⌝ }
-    ensures { λ r. ⌜ r ≡ ahead (day (now (capacities .entry)) (now (flights .entry))) k i ⌝ }
+    ensures { λ r. ⌜ r ≡ aheadOf (now (flights .entry)) k i ⌝ }
 {
     let rate_k = rate_of(flights, k);
     let rate_i = rate_of(flights, i);
@@ -40,8 +41,8 @@ fn goes_before(capacities: &[u32], flights: &[u32], k: usize, i: usize) -> bool
 
 // Flight i is due by period j, and stands at the closing period yet.
 pub fn is_waiting(capacities: &[u32], flights: &[u32], holds: &[u32], j: usize, i: usize) -> bool
-    requires { ⌜ ((i + 1) * width ≤ length (now flights)) × (i < length (now holds)) × (length (now capacities) ≤ 96) ⌝ }
-    ensures { λ r. ⌜ r ≡ waiting (day (now (capacities .entry)) (now (flights .entry))) (now (holds .entry)) j i ⌝ }
+    requires { ⌜ ((i + 1) * width ≤ length (now flights)) × (i < length (now holds)) × (length (now capacities) ≤ mostPeriods) ⌝ }
+    ensures { λ r. ⌜ r ≡ waiting (lent (capacities .entry) (flights .entry)) (now (holds .entry)) j i ⌝ }
 {
     let due = due_of(flights, i);
     if j < due {
@@ -52,8 +53,8 @@ pub fn is_waiting(capacities: &[u32], flights: &[u32], holds: &[u32], j: usize, 
 
 // The flight that goes first of those that wait in period j, or the number of flights where none waits.
 fn first_waiting(capacities: &[u32], flights: &[u32], holds: &[u32], j: usize) -> usize
-    requires { ⌜ (length (now holds) ≡ N (day (now capacities) (now flights))) × (length (now capacities) ≤ 96) ⌝ }
-    ensures { λ r. ⌜ r ≡ top (day (now (capacities .entry)) (now (flights .entry))) j (now (holds .entry)) ⌝ }
+    requires { ⌜ (length (now holds) ≡ N (lent capacities flights)) × (length (now capacities) ≤ mostPeriods) ⌝ }
+    ensures { λ r. ⌜ r ≡ top (lent (capacities .entry) (flights .entry)) j (now (holds .entry)) ⌝ }
 {
     let n = holds.len();
     let mut best = n;
@@ -65,7 +66,7 @@ fn first_waiting(capacities: &[u32], flights: &[u32], holds: &[u32], j: usize) -
             if best == n {
                 best = k;
             } else {
-                if goes_before(capacities, flights, k, best) {
+                if goes_before(flights, k, best) {
                     best = k;
                 }
             }
@@ -76,8 +77,8 @@ fn first_waiting(capacities: &[u32], flights: &[u32], holds: &[u32], j: usize) -
 
 // Lands as many flights as period j takes, or all that wait.
 fn land_period(capacities: &[u32], flights: &[u32], holds: &mut [u32], j: usize, capacity: usize)
-    requires { ⌜ (length (now holds) ≡ N (day (now capacities) (now flights))) × (length (now capacities) ≤ 96) × (j ≤ length (now capacities)) ⌝ }
-    ensures { λ _. ⌜ now (holds .exit) ≡ landAll (day (now (capacities .entry)) (now (flights .entry))) j capacity (now (holds .entry)) ⌝ }
+    requires { ⌜ (length (now holds) ≡ N (lent capacities flights)) × (length (now capacities) ≤ mostPeriods) × (j ≤ length (now capacities)) ⌝ }
+    ensures { λ _. ⌜ now (holds .exit) ≡ landAll (lent (capacities .entry) (flights .entry)) j capacity (now (holds .entry)) ⌝ }
 {
     let n = holds.len();
     let mut left = capacity;
@@ -94,8 +95,8 @@ fn land_period(capacities: &[u32], flights: &[u32], holds: &mut [u32], j: usize,
 
 // Every flight at the closing period.
 fn start_row(capacities: &[u32], flights: &[u32], holds: &mut [u32])
-    requires { ⌜ (valid (day (now capacities) (now flights)) ≡ true) × (length (now holds) ≡ N (day (now capacities) (now flights))) ⌝ }
-    ensures { λ _. ⌜ now (holds .exit) ≡ rowTo (day (now (capacities .entry)) (now (flights .entry))) 0 ⌝ }
+    requires { ⌜ (valid (lent capacities flights) ≡ true) × (length (now holds) ≡ N (lent capacities flights)) ⌝ }
+    ensures { λ _. ⌜ now (holds .exit) ≡ rowTo (lent (capacities .entry) (flights .entry)) 0 ⌝ }
 {
     let mut i = 0;
     while i < holds.len() {
@@ -107,9 +108,9 @@ fn start_row(capacities: &[u32], flights: &[u32], holds: &mut [u32])
 
 // The row after the periods 1 to stop.
 pub fn plan_to(capacities: &[u32], flights: &[u32], holds: &mut [u32], stop: usize)
-    requires { ⌜ (valid (day (now capacities) (now flights)) ≡ true) × (length (now holds) ≡ N (day (now capacities) (now flights))) ⌝ }
+    requires { ⌜ (valid (lent capacities flights) ≡ true) × (length (now holds) ≡ N (lent capacities flights)) ⌝ }
     requires { ⌜ stop ≤ length (now capacities) ⌝ }
-    ensures { λ _. ⌜ now (holds .exit) ≡ rowTo (day (now (capacities .entry)) (now (flights .entry))) stop ⌝ }
+    ensures { λ _. ⌜ now (holds .exit) ≡ rowTo (lent (capacities .entry) (flights .entry)) stop ⌝ }
 {
     start_row(capacities, flights, holds);
     let mut j = 0;
@@ -119,17 +120,21 @@ pub fn plan_to(capacities: &[u32], flights: &[u32], holds: &mut [u32], stop: usi
     }
 }
 
+// What the quick plan refuses.
+fn has_jump_or_limit(f: Flight) -> bool
+    ensures { λ r. ⌜ r ≡ jumpOrLimit f ⌝ }
+{
+    0 < f.jump || f.limit != MISSING
+}
+
 // The table place of the first flight with a jump or a limit, or the number of flights.
-pub fn first_jump_or_limit(capacities: &[u32], flights: &[u32]) -> usize
-    ensures { λ r. ⌜ r ≡ firstJumpOrLimit (day (now (capacities .entry)) (now (flights .entry))) ⌝ }
+pub fn first_jump_or_limit(flights: &[u32]) -> usize
+    ensures { λ r. ⌜ r ≡ firstJumpOrLimit (now (flights .entry)) ⌝ }
 {
     let n = flight_count(flights);
     let mut i = 0;
     while i < n {
-        if 0 < jump_of(flights, i) {
-            return i;
-        }
-        if limit_of(flights, i) != 255 {
+        if has_jump_or_limit(flight_at(flights, i)) {
             return i;
         }
         i += 1;
@@ -140,8 +145,8 @@ pub fn first_jump_or_limit(capacities: &[u32], flights: &[u32]) -> usize
 // Fills the hold row with the quick plan and answers its total. Refusals, in this order: 6, a bad day; 7, a row that has not one entry
 // for each flight; 8, the first flight with a jump or a limit. They leave the row as it was.
 pub fn quick_plan(capacities: &[u32], flights: &[u32], holds: &mut [u32]) -> Answer
-    ensures { λ r. ⌜ r ≡ quickPlan (day (now (capacities .entry)) (now (flights .entry))) (now (holds .entry)) .answer ⌝ }
-    ensures { λ _. ⌜ now (holds .exit) ≡ quickPlan (day (now (capacities .entry)) (now (flights .entry))) (now (holds .entry)) .holds ⌝ }
+    ensures { λ r. ⌜ r ≡ quickPlan (lent (capacities .entry) (flights .entry)) (now (holds .entry)) .answer ⌝ }
+    ensures { λ _. ⌜ now (holds .exit) ≡ quickPlan (lent (capacities .entry) (flights .entry)) (now (holds .entry)) .holds ⌝ }
 {
     if !is_valid(capacities, flights) {
         return Answer::BadDay;
@@ -150,12 +155,12 @@ pub fn quick_plan(capacities: &[u32], flights: &[u32], holds: &mut [u32]) -> Ans
     if holds.len() != n {
         return Answer::BadLength { needed: n };
     }
-    let place = first_jump_or_limit(capacities, flights);
+    let place = first_jump_or_limit(flights);
     if place < n {
         return Answer::JumpOrLimit { place };
     }
     plan_to(capacities, flights, holds, capacities.len());
     Answer::Planned {
-        total: total_of(capacities, flights, holds),
+        total: total_of(flights, holds),
     }
 }

@@ -1,6 +1,6 @@
 pub mod Lines
 pub mod Grammar
-pub mod Rows
+pub mod Used
 pub mod Good
 pub mod RoundTrip
 pub mod Refusals

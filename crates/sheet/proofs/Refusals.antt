@@ -7,13 +7,14 @@ use lib.ListN.{length, drop}
 use lib.Dec.{ltb, leb, eqb, lit<}
 use Rattle.answers.specs.Answers.{codeOf}
 use Rattle.text.specs.Fixed.{startsWith}
-use Rattle.sheet.specs.declared.Flight.{Flight}
+use Rattle.day.specs.declared.Flight.{Flight}
+use Rattle.day.specs.Day.{mostPeriods, mostFlights, flightFits}
 use Rattle.sheet.specs.declared.PeriodLine.{PeriodLine}
 use Rattle.sheet.specs.declared.PeriodLine.the-variants.{Period, NoPeriod}
 use Rattle.sheet.specs.declared.FlightLine.{FlightLine}
 use Rattle.sheet.specs.declared.FlightLine.the-variants.{Row, NoRow}
 use Rattle.sheet.specs.Text.{periodNames, flightNames}
-use Rattle.sheet.specs.Lines.{periodLine, flightLine, flightFits, used}
+use Rattle.sheet.specs.Lines.{periodLine, flightLine, used}
 use Rattle.sheet.specs.Sheet.{Reading, read, refused, onFlight, readFlights, named, onPeriod, readPeriods, readSheet}
 
 -- a reading's refusal, if it is one, has a number above 0
@@ -29,7 +30,7 @@ on-flight : (at : ℕ) (capacities : List ℕ) (above : List Flight) (l : Flight
     → ((f : Flight) (next : ℕ) → Numbered (go f next)) → Numbered (onFlight at capacities above l go)
 on-flight at capacities above NoRow go p = lit< tt
 on-flight at capacities above (Row f next) go p =
-    either (flightFits capacities f) _ _ (either (used (f .number) above) _ _ (lit< tt) (p f next)) (lit< tt)
+    either (flightFits (length capacities) f) _ _ (either (used (f .number) above) _ _ (lit< tt) (p f next)) (lit< tt)
 
 flights-numbered : (k : ℕ) (s : List ℕ) (at : ℕ) (capacities : List ℕ) (above : List Flight) → Numbered (readFlights k s at capacities above)
 unfolding readFlights
@@ -40,7 +41,7 @@ flights-numbered (suc k) s at capacities above =
 
 named-numbered : (s : List ℕ) (at : ℕ) (capacities : List ℕ) → Numbered (named s at capacities)
 unfolding named
-named-numbered s at capacities = either (eqb (length capacities) 0) _ _ (lit< tt) (flights-numbered 128 s (at + length flightNames) capacities [])
+named-numbered s at capacities = either (eqb (length capacities) 0) _ _ (lit< tt) (flights-numbered mostFlights s (at + length flightNames) capacities [])
 
 on-period : (at : ℕ) (above : List ℕ) (l : PeriodLine) (go : ℕ → ℕ → Reading)
     → ((c next : ℕ) → Numbered (go c next)) → Numbered (onPeriod at above l go)
@@ -59,4 +60,4 @@ pub sheet-numbered : (s : List ℕ) → Numbered (readSheet s)
 unfolding readSheet
 sheet-numbered s =
     either (ltb 8192 (length s)) _ _ (lit< tt)
-    (either (startsWith s periodNames) _ _ (periods-numbered 96 s (length periodNames) []) (lit< tt))
+    (either (startsWith s periodNames) _ _ (periods-numbered mostPeriods s (length periodNames) []) (lit< tt))

@@ -8,12 +8,12 @@ use mathlib.Core.Bool.{true}
 use lib.ListN.{length}
 use lib.Seq.{take-all}
 use Rattle.day.specs.Day.{Day, day, N, valid, width}
-use Rattle.sheet.specs.declared.Flight.{Flight}
-use Rattle.sheet.specs.Flights.{flightsOf, rowOf}
+use Rattle.day.specs.declared.Flight.{Flight}
+use Rattle.day.specs.Flights.{flightsOf, rowOf}
+use Rattle.day.proofs.Flights.{row-front}
 use Rattle.sheet.specs.Text.{sheetOf}
 use Rattle.sheet.specs.Sheet.{read, readSheet}
-use Rattle.sheet.proofs.Grammar.{read-text, text-read, read-good, short}
-use Rattle.sheet.proofs.Rows.{row-front}
+use Rattle.sheet.proofs.Grammar.{read-text, text-read, read-good, sheet-short}
 use Rattle.sheet.proofs.Good.{valid-good, good-valid, row-whole, count-row, flights-row}
 
 -- a sheet that is read and written again has the same bytes
@@ -42,4 +42,4 @@ same-row d e =
 -- every written sheet of a valid day is short enough to be read
 pub sheet-is-short : (d : Day) → valid d ≡ true → length (sheetOf d) ≤ 8192
 unfolding sheetOf
-sheet-is-short d e = short (d .capacities) (flightsOf d) (valid-good d e)
+sheet-is-short d e = sheet-short (d .capacities) (flightsOf d) (valid-good d e)

@@ -1,4 +1,4 @@
-pub mod Flights
 pub mod Text
 pub mod Lines
 pub mod Sheet
+pub mod Good

@@ -1,6 +1,6 @@
 -- A whole sheet read, in document 01's order of tests: "then 1, then lines from the top, in each line 5, 2, 3, 4".
 -- Assumes nothing.
-use Prim.Native.Nat.{ℕ, zero, suc, _+_}
+use Prim.Native.Nat.{ℕ, zero, suc, _+_, _*_}
 use mathlib.Core.List.{List, [], _∷_, _++_}
 use mathlib.Core.Bool.{cond, _&&_}
 use lib.Dec.{ltb, leb, eqb}
@@ -8,14 +8,15 @@ use lib.ListN.{length, drop}
 use Rattle.answers.specs.declared.Answer.{Answer}
 use Rattle.answers.specs.declared.Answer.the-variants.{Read, TooLong, BadForm, OutOfRange, NumberUsed, BadCount, BadLength}
 use Rattle.text.specs.Fixed.{startsWith}
-use Rattle.sheet.specs.declared.Flight.{Flight}
+use Rattle.day.specs.declared.Flight.{Flight}
+use Rattle.day.specs.Day.{mostPeriods, mostFlights, width, flightFits}
+use Rattle.day.specs.Flights.{rowOf}
 use Rattle.sheet.specs.declared.PeriodLine.{PeriodLine}
 use Rattle.sheet.specs.declared.PeriodLine.the-variants.{Period, NoPeriod}
 use Rattle.sheet.specs.declared.FlightLine.{FlightLine}
 use Rattle.sheet.specs.declared.FlightLine.the-variants.{Row, NoRow}
-use Rattle.sheet.specs.Flights.{rowOf}
 use Rattle.sheet.specs.Text.{periodNames, flightNames}
-use Rattle.sheet.specs.Lines.{periodLine, flightLine, flightFits, used}
+use Rattle.sheet.specs.Lines.{periodLine, flightLine, used}
 
 -- the day's capacities and flights, or why there is no day
 pub data Reading : Type 0 where
@@ -26,7 +27,7 @@ pub data Reading : Type 0 where
 abbrev pub onFlight : ℕ → List ℕ → List Flight → FlightLine → (Flight → ℕ → Reading) → Reading
 onFlight at capacities above NoRow go = refused (BadForm at)
 onFlight at capacities above (Row f next) go =
-    cond (flightFits capacities f) (cond (used (f .number) above) (refused (NumberUsed at)) (go f next)) (refused (OutOfRange at))
+    cond (flightFits (length capacities) f) (cond (used (f .number) above) (refused (NumberUsed at)) (go f next)) (refused (OutOfRange at))
 
 -- at most k more flight lines, after the flights above; 5 "where anything follows 128 flight lines"
 unfoldable pub readFlights : ℕ → List ℕ → ℕ → List ℕ → List Flight → Reading
@@ -37,7 +38,7 @@ readFlights (suc k) s at capacities above =
 
 -- the second names line stands at `at`; 5 "where the second names line follows the first directly"
 unfoldable pub named : List ℕ → ℕ → List ℕ → Reading
-named s at capacities = cond (eqb (length capacities) 0) (refused (BadCount at)) (readFlights 128 s (at + length flightNames) capacities [])
+named s at capacities = cond (eqb (length capacities) 0) (refused (BadCount at)) (readFlights mostFlights s (at + length flightNames) capacities [])
 
 -- a period line that begins at `at`: 2 and 3, else what follows it
 abbrev pub onPeriod : ℕ → List ℕ → PeriodLine → (ℕ → ℕ → Reading) → Reading
@@ -57,12 +58,13 @@ readPeriods (suc k) s at above =
 unfoldable pub readSheet : List ℕ → Reading
 readSheet s =
     cond (ltb 8192 (length s)) (refused TooLong)
-    (cond (startsWith s periodNames) (readPeriods 96 s (length periodNames) []) (refused (BadForm 0)))
+    (cond (startsWith s periodNames) (readPeriods mostPeriods s (length periodNames) []) (refused (BadForm 0)))
 
 -- the reader's call: "the reader tests its rows (7; capacity row first)"
 unfoldable pub reading : List ℕ → List ℕ → List ℕ → Reading
 reading s capacities flights =
-    cond (eqb (length capacities) 96) (cond (eqb (length flights) 768) (readSheet s) (refused (BadLength 768))) (refused (BadLength 96))
+    cond (eqb (length capacities) mostPeriods) (cond (eqb (length flights) (mostFlights * width)) (readSheet s) (refused (BadLength (mostFlights * width))))
+    (refused (BadLength mostPeriods))
 
 -- its answer: P and N, or the refusal
 abbrev pub answerOf : Reading → Answer

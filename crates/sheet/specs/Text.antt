@@ -5,8 +5,8 @@ use mathlib.Core.Bool.{cond}
 use mathlib.Core.List.{List, [], _∷_, _++_}
 use Rattle.text.specs.Digits.{ended, separated, line, lineEnd}
 use Rattle.day.specs.Day.{Day, missing}
-use Rattle.sheet.specs.declared.Flight.{Flight}
-use Rattle.sheet.specs.Flights.{flightsOf}
+use Rattle.day.specs.declared.Flight.{Flight}
+use Rattle.day.specs.Flights.{flightsOf}
 
 -- "period,capacity" and the end byte
 unfoldable pub periodNames : List ℕ
@@ -21,8 +21,12 @@ flightNames =
 unfoldable pub limitText : ℕ → List ℕ
 limitText l = cond (missing l) (45 ∷ lineEnd ∷ []) (ended lineEnd l)
 
+-- the numbers of a flight line before its limit
+abbrev pub beforeLimit : Flight → List ℕ
+beforeLimit f = f .number ∷ f .due ∷ f .rate ∷ f .after ∷ f .jump ∷ []
+
 unfoldable pub flightText : Flight → List ℕ
-flightText f = separated (f .number ∷ f .due ∷ f .rate ∷ f .after ∷ f .jump ∷ []) ++ limitText (f .limit)
+flightText f = separated (beforeLimit f) ++ limitText (f .limit)
 
 unfoldable pub periodText : ℕ → ℕ → List ℕ
 periodText j c = line (j ∷ []) c

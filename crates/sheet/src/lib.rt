@@ -1,14 +1,5 @@
 // Day sheets: the values of a flight line and of a period line. The grammar, the text of a day and the round trips stand in specs/ and proofs/.
-
-// The six numbers of a flight, in sheet order. A missing limit is 255.
-pub struct Flight {
-    pub number: u32,
-    pub due: u32,
-    pub rate: u32,
-    pub after: u32,
-    pub jump: u32,
-    pub limit: u32,
-}
+use day::Flight;
 
 pub enum PeriodLine {
     Period {
@@ -24,8 +15,18 @@ pub enum FlightLine {
     NoRow,
 }
 
+// The most digits of a number in a sheet.
+pub const DIGITS: usize = 7;
+
+// A missing limit.
+pub const DASH: u8 = b'-';
+
 // The first names line.
-pub const PERIOD_NAMES: [u8; 16] = *b"period,capacity\n";
+pub const PERIOD_NAMES_LEN: usize = 16;
+
+pub const PERIOD_NAMES: [u8; PERIOD_NAMES_LEN] = *b"period,capacity\n";
 
 // The second names line.
-pub const FLIGHT_NAMES: [u8; 33] = *b"flight,due,rate,after,jump,limit\n";
+pub const FLIGHT_NAMES_LEN: usize = 33;
+
+pub const FLIGHT_NAMES: [u8; FLIGHT_NAMES_LEN] = *b"flight,due,rate,after,jump,limit\n";

@@ -1,48 +1,62 @@
 // The reader of day sheets: it fills two lent rows from a sheet, or says why not.
 ghost use mathlib.Core.Path.{_≡_};
-ghost use mathlib.Core.List.{List, [], _∷_, _++_};
+ghost use mathlib.Core.List.{List, [], _++_};
 ghost use Prim.Native.Nat.{ℕ, _+_, _-_, _*_, _≤_, _<_};
 ghost use lib.ListN.{length, take, drop};
 ghost use Rattle.text.specs.Fixed.{startsWith};
-ghost use Rattle.sheet.specs.Flights.{firstFlights};
+ghost use Rattle.day.specs.Day.{mostPeriods, mostFlights, width};
+ghost use Rattle.day.specs.Flights.{firstFlights};
 ghost use Rattle.sheet.specs.Text.{periodNames, flightNames};
-ghost use Rattle.sheet.specs.Lines.{limitField, periodLine, flightLine, flightFits, used};
+ghost use Rattle.sheet.specs.Lines.{limitField, periodLine, flightLine, used};
 ghost use Rattle.sheet.specs.Sheet.{readPeriods, readFlights, reading, answerOf, capacitiesAfter, flightsAfter};
 ghost use Rattle.sheet_reader.specs.Loop.{goOn, Ready, filled, Few};
 use answers::Answer;
+use day::FLIGHT_ROW;
+use day::FLIGHTS;
+use day::Flight;
+use day::MISSING;
+use day::PERIODS;
 use day::WIDTH;
+use day::flight_fits;
 use day::number_of;
-use day::numbers_fit;
+use day::put_flight;
 use day::wide;
+use sheet::DASH;
+use sheet::DIGITS;
 use sheet::FLIGHT_NAMES;
-use sheet::Flight;
+use sheet::FLIGHT_NAMES_LEN;
 use sheet::FlightLine;
 use sheet::PERIOD_NAMES;
+use sheet::PERIOD_NAMES_LEN;
 use sheet::PeriodLine;
+use text::LINE_END;
 use text::Number;
+use text::Place;
 use text::field_at;
 use text::fixed_at;
+use text::line_at;
+use text::separated_at;
 
-// The last field of a flight line: a byte 45 for a missing limit, or a number.
+// The last field of a flight line: a dash for a missing limit, or a number.
 fn limit_at(s: &[u8], at: usize) -> Number
     requires { ⌜ at ≤ length (now s) ⌝ }
     ensures { λ r. ⌜ r ≡ limitField (now (s .entry)) at ⌝ }
 {
     if at < s.len() {
-        if s[at] == 45 {
+        if s[at] == DASH {
             if s.len() - at <= 1 {
                 return Number::Bad;
             }
-            if s[at + 1] == 10 {
+            if s[at + 1] == LINE_END {
                 return Number::Value {
-                    n: 255,
+                    n: MISSING,
                     next: at + 2,
                 };
             }
             return Number::Bad;
         }
     }
-    let p = field_at(s, at, 10);
+    let p = field_at(s, at, DIGITS, LINE_END);
     let Number::Value { n, next } = p else {
         return Number::Bad;
     };
@@ -56,20 +70,13 @@ fn period_line(s: &[u8], at: usize) -> PeriodLine
     requires { ⌜ at ≤ length (now s) ⌝ }
     ensures { λ r. ⌜ r ≡ periodLine (now (s .entry)) at ⌝ }
 {
-    let a = field_at(s, at, 44);
-    let Number::Value {
-        n: number,
-        next: second,
-    } = a
-    else {
-        return PeriodLine::NoPeriod;
-    };
-    let b = field_at(s, second, 10);
-    let Number::Value { n: capacity, next } = b else {
+    let mut numbers = [0u32; 1];
+    let p = line_at(s, at, DIGITS, &mut numbers);
+    let Number::Value { n: capacity, next } = p else {
         return PeriodLine::NoPeriod;
     };
     PeriodLine::Period {
-        number,
+        number: numbers[0],
         capacity,
         next,
     }
@@ -79,64 +86,26 @@ fn flight_line(s: &[u8], at: usize) -> FlightLine
     requires { ⌜ at ≤ length (now s) ⌝ }
     ensures { λ r. ⌜ r ≡ flightLine (now (s .entry)) at ⌝ }
 {
-    let a = field_at(s, at, 44);
-    let Number::Value {
-        n: number,
-        next: at2,
-    } = a
-    else {
+    let mut numbers = [0u32; 5];
+    let p = separated_at(s, at, DIGITS, &mut numbers);
+    let Place::Behind { next: last } = p else {
         return FlightLine::NoRow;
     };
-    let b = field_at(s, at2, 44);
-    let Number::Value { n: due, next: at3 } = b else {
-        return FlightLine::NoRow;
-    };
-    let c = field_at(s, at3, 44);
-    let Number::Value { n: rate, next: at4 } = c else {
-        return FlightLine::NoRow;
-    };
-    let d = field_at(s, at4, 44);
-    let Number::Value {
-        n: after,
-        next: at5,
-    } = d
-    else {
-        return FlightLine::NoRow;
-    };
-    let e = field_at(s, at5, 44);
-    let Number::Value { n: jump, next: at6 } = e else {
-        return FlightLine::NoRow;
-    };
-    let l = limit_at(s, at6);
+    let l = limit_at(s, last);
     let Number::Value { n: limit, next } = l else {
         return FlightLine::NoRow;
     };
     FlightLine::Row {
         flight: Flight {
-            number,
-            due,
-            rate,
-            after,
-            jump,
+            number: numbers[0],
+            due: numbers[1],
+            rate: numbers[2],
+            after: numbers[3],
+            jump: numbers[4],
             limit,
         },
         next,
     }
-}
-
-// Whether the flight's numbers are within the table's ranges, on a day of p periods.
-fn flight_fits(p: usize, f: Flight) -> bool
-    ensures { λ r. ⌜ ((capacities : List ℕ) → length capacities ≡ p → r ≡ flightFits capacities f) ⌝ }
-{
-    numbers_fit(
-        p,
-        wide(f.number),
-        wide(f.due),
-        wide(f.rate),
-        wide(f.after),
-        wide(f.jump),
-        wide(f.limit),
-    )
 }
 
 // The period lines read: how many, and where the flight lines begin; or why not.
@@ -167,8 +136,8 @@ fn top_here(s: &[u8]) -> bool
 }
 
 // Whether one of the first n flights of the row has this number.
-fn number_used(row: &[u32; 768], n: usize, number: u32) -> bool
-    requires { ⌜ n ≤ 128 ⌝ }
+fn number_used(row: &[u32; FLIGHT_ROW], n: usize, number: u32) -> bool
+    requires { ⌜ n ≤ mostFlights ⌝ }
     ensures { λ r. ⌜ r ≡ used number (firstFlights n (now (row .entry))) ⌝ }
 {
     let mut j = n;
@@ -181,33 +150,19 @@ fn number_used(row: &[u32; 768], n: usize, number: u32) -> bool
     false
 }
 
-// Stores a flight at place n.
-fn put_flight(row: &mut [u32; 768], n: usize, f: Flight)
-    requires { ⌜ (n < 128) × (length (now row) ≡ 768) ⌝ }
-    ensures { λ _. ⌜ length (now (row .exit)) ≡ 768 ⌝ }
-    ensures { λ _. ⌜ firstFlights (n + 1) (now (row .exit)) ≡ firstFlights n (now (row .entry)) ++ (f ∷ []) ⌝ }
-{
-    row[n * WIDTH] = f.number;
-    row[n * WIDTH + 1] = f.due;
-    row[n * WIDTH + 2] = f.rate;
-    row[n * WIDTH + 3] = f.after;
-    row[n * WIDTH + 4] = f.jump;
-    row[n * WIDTH + 5] = f.limit;
-}
-
-fn read_periods(s: &[u8], caps: &mut [u32; 96]) -> Periods
-    requires { ⌜ (16 ≤ length (now s)) × (length (now caps) ≡ 96) ⌝ }
-    ensures { λ _. ⌜ length (now (caps .exit)) ≡ 96 ⌝ }
-    ensures { λ r. ⌜ readPeriods 96 (now (s .entry)) 16 [] ≡ goOn r (now (s .entry)) (now (caps .exit)) ⌝ }
+fn read_periods(s: &[u8], caps: &mut [u32; PERIODS]) -> Periods
+    requires { ⌜ (length periodNames ≤ length (now s)) × (length (now caps) ≡ mostPeriods) ⌝ }
+    ensures { λ _. ⌜ length (now (caps .exit)) ≡ mostPeriods ⌝ }
+    ensures { λ r. ⌜ readPeriods mostPeriods (now (s .entry)) (length periodNames) [] ≡ goOn r (now (s .entry)) (now (caps .exit)) ⌝ }
     ensures { λ r. ⌜ Ready r (now (s .entry)) ⌝ }
 {
     let mut n: usize = 0;
-    let mut at: usize = 16;
+    let mut at = PERIOD_NAMES_LEN;
     loop {
         if names_here(s, at) {
             break;
         }
-        if n == 96 {
+        if n == PERIODS {
             if at == s.len() {
                 return Periods::Stopped(Answer::BadForm { line: at });
             }
@@ -237,20 +192,20 @@ fn read_periods(s: &[u8], caps: &mut [u32; 96]) -> Periods
     }
     Periods::Upto {
         count: n,
-        at: at + 33,
+        at: at + FLIGHT_NAMES_LEN,
     }
 }
 
-fn read_flights(s: &[u8], start: usize, p: usize, row: &mut [u32; 768]) -> Listing
-    requires { ⌜ (start ≤ length (now s)) × (p ≤ 96) × (length (now row) ≡ 768) ⌝ }
-    ensures { λ _. ⌜ length (now (row .exit)) ≡ 768 ⌝ }
+fn read_flights(s: &[u8], start: usize, p: usize, row: &mut [u32; FLIGHT_ROW]) -> Listing
+    requires { ⌜ (start ≤ length (now s)) × (p ≤ mostPeriods) × (length (now row) ≡ mostFlights * width) ⌝ }
+    ensures { λ _. ⌜ length (now (row .exit)) ≡ mostFlights * width ⌝ }
     ensures { λ r. ⌜ Few r ⌝ }
-    ensures { λ r. ⌜ ((caps : List ℕ) → length caps ≡ p → readFlights 128 (now (s .entry)) start caps [] ≡ filled r caps (now (row .exit))) ⌝ }
+    ensures { λ r. ⌜ ((caps : List ℕ) → length caps ≡ p → readFlights mostFlights (now (s .entry)) start caps [] ≡ filled r caps (now (row .exit))) ⌝ }
 {
     let mut n: usize = 0;
     let mut at = start;
     while at < s.len() {
-        if n == 128 {
+        if n == FLIGHTS {
             return Listing::Halted(Answer::BadCount { line: at });
         }
         let line = flight_line(s, at);
@@ -287,16 +242,16 @@ fn read_rest(
     sheet: &[u8],
     at: usize,
     count: usize,
-    caps: &[u32; 96],
+    caps: &[u32; PERIODS],
     capacities: &mut [u32],
     flights: &mut [u32],
 ) -> Answer
-    requires { ⌜ (at ≤ length (now sheet)) × (count ≤ 96) × (length (now caps) ≡ 96) × (length (now capacities) ≡ 96) × (length (now flights) ≡ 768) ⌝ }
-    ensures { λ r. ⌜ r ≡ answerOf (readFlights 128 (now (sheet .entry)) at (take count (now (caps .entry))) []) ⌝ }
-    ensures { λ _. ⌜ now (capacities .exit) ≡ capacitiesAfter (readFlights 128 (now (sheet .entry)) at (take count (now (caps .entry))) []) (now (capacities .entry)) ⌝ }
-    ensures { λ _. ⌜ now (flights .exit) ≡ flightsAfter (readFlights 128 (now (sheet .entry)) at (take count (now (caps .entry))) []) (now (flights .entry)) ⌝ }
+    requires { ⌜ (at ≤ length (now sheet)) × (count ≤ mostPeriods) × (length (now caps) ≡ mostPeriods) × (length (now capacities) ≡ mostPeriods) × (length (now flights) ≡ mostFlights * width) ⌝ }
+    ensures { λ r. ⌜ r ≡ answerOf (readFlights mostFlights (now (sheet .entry)) at (take count (now (caps .entry))) []) ⌝ }
+    ensures { λ _. ⌜ now (capacities .exit) ≡ capacitiesAfter (readFlights mostFlights (now (sheet .entry)) at (take count (now (caps .entry))) []) (now (capacities .entry)) ⌝ }
+    ensures { λ _. ⌜ now (flights .exit) ≡ flightsAfter (readFlights mostFlights (now (sheet .entry)) at (take count (now (caps .entry))) []) (now (flights .entry)) ⌝ }
 {
-    let mut rows = [0u32; 768];
+    let mut rows = [0u32; FLIGHT_ROW];
     let r = read_flights(sheet, at, count, &mut rows);
     match r {
         Listing::Halted(a) => a,
@@ -311,17 +266,17 @@ fn read_rest(
     }
 }
 
-// Reads a sheet into lent rows of 96 and 768 numbers.
+// Reads a sheet into lent rows of the most periods and of the most flights.
 pub fn read_sheet(sheet: &[u8], capacities: &mut [u32], flights: &mut [u32]) -> Answer
     ensures { λ r. ⌜ r ≡ answerOf (reading (now (sheet .entry)) (now (capacities .entry)) (now (flights .entry))) ⌝ }
     ensures { λ _. ⌜ now (capacities .exit) ≡ capacitiesAfter (reading (now (sheet .entry)) (now (capacities .entry)) (now (flights .entry))) (now (capacities .entry)) ⌝ }
     ensures { λ _. ⌜ now (flights .exit) ≡ flightsAfter (reading (now (sheet .entry)) (now (capacities .entry)) (now (flights .entry))) (now (flights .entry)) ⌝ }
 {
-    if capacities.len() != 96 {
-        return Answer::BadLength { needed: 96 };
+    if capacities.len() != PERIODS {
+        return Answer::BadLength { needed: PERIODS };
     }
-    if flights.len() != 768 {
-        return Answer::BadLength { needed: 768 };
+    if flights.len() != FLIGHT_ROW {
+        return Answer::BadLength { needed: FLIGHT_ROW };
     }
     if 8192 < sheet.len() {
         return Answer::TooLong;
@@ -329,7 +284,7 @@ pub fn read_sheet(sheet: &[u8], capacities: &mut [u32], flights: &mut [u32]) -> 
     if !top_here(sheet) {
         return Answer::BadForm { line: 0 };
     }
-    let mut caps = [0u32; 96];
+    let mut caps = [0u32; PERIODS];
     let p = read_periods(sheet, &mut caps);
     match p {
         Periods::Stopped(a) => a,

@@ -1,6 +1,6 @@
 -- How a sheet's lines follow one another in the buffer: one line more, and the whole.
 -- Assumes nothing.
-use Prim.Native.Nat.{ℕ, zero, suc, _≤_, _<_, _+_, _-_, _/_}
+use Prim.Native.Nat.{ℕ, zero, suc, _≤_, _<_, _+_, _-_}
 use native.Mathlib.Omega.{arith}
 use native.Mathlib.Numerals.{add-one}
 use mathlib.Core.Path.{_≡_, refl, ap, sym, _∙_}
@@ -8,27 +8,19 @@ use mathlib.Core.List.{List, [], _∷_, _++_, append-assoc}
 use mathlib.Core.Bool.{true, false}
 use lib.ListN.{length, getD, take, drop, set, length-append, take-append-drop}
 use lib.Seq.{take-suc, length-take-le}
-use borrow.Author.Tests.{ne-eqb}
 use Rattle.answers.specs.declared.Answer.the-variants.{Written, BadDay, BadLength}
-use Rattle.text.specs.Digits.{ended, separated, line}
+use Rattle.text.specs.Digits.{separated}
 use Rattle.text.specs.Writing.{Put}
 use Rattle.text.proofs.Writing.{placed-zero, then, not-fits, it-fits}
-use Rattle.day.specs.Day.{Day, column, N, valid}
-use Rattle.sheet.specs.declared.Flight.{Flight}
-use Rattle.sheet.specs.Flights.{flightAt, firstFlights, flightsOf}
-use Rattle.sheet.specs.Text.{periodNames, flightNames, limitText, periodText, flightText, periodsText, flightsText, sheetText, sheetOf}
+use Rattle.day.specs.declared.Flight.{Flight}
+use Rattle.day.specs.Day.{Day, N, flightAt, valid}
+use Rattle.day.specs.Flights.{firstFlights, flightsOf}
+use Rattle.sheet.specs.Text.{periodNames, flightNames, limitText, periodText, beforeLimit, flightText, periodsText, flightsText, sheetText, sheetOf}
+use Rattle.sheet.proofs.Lines.{text-missing}
 use Rattle.sheet.proofs.Grammar.{periods-snoc, flights-snoc, length-top, length-names}
 use Rattle.sheet_writer.specs.Write.{writeAnswer, writeAfter}
 
 -- the limit's field
-
-pub text-missing : (l : ℕ) → l ≡ 255 → limitText l ≡ 45 ∷ 10 ∷ []
-unfolding limitText
-text-missing l e = rw e
-
-pub text-number : (l : ℕ) → (l ≡ 255 → ⊥) → limitText l ≡ ended 10 l
-unfolding limitText
-text-number l e = rw (ne-eqb l 255 e)
 
 pub put-dash : (o : List ℕ) (l : ℕ) → l ≡ 255 → length (limitText l) ≤ length o → Put o 0 (limitText l) 2 (set (set o 0 45) 1 10)
 put-dash o l e h = rw (text-missing l e) (go o (rw (text-missing l e) at h))
@@ -40,34 +32,10 @@ put-dash o l e h = rw (text-missing l e) (go o (rw (text-missing l e) at h))
 
 -- one line
 
-pub length-period : (j c : ℕ) → length (periodText j c) ≡ length (line (j ∷ []) c)
-unfolding periodText
-length-period j c = refl
-
-pub period-line : (j c : ℕ) → periodText j c ≡ line (j ∷ []) c
-unfolding periodText
-period-line j c = refl
-
-module _ (row : List ℕ) (i : ℕ) where
-  abbrev pub values : List ℕ
-  values = flightAt row i .number ∷ flightAt row i .due ∷ flightAt row i .rate ∷ flightAt row i .after ∷ flightAt row i .jump ∷ []
-
-  pub values-are : column 0 row i ∷ column 1 row i ∷ column 2 row i ∷ column 3 row i ∷ column 4 row i ∷ [] ≡ values
-  unfolding flightAt
-  values-are = refl
-
-  pub limit-is : column 5 row i ≡ flightAt row i .limit
-  unfolding flightAt
-  limit-is = refl
-
-  pub length-flight : length (flightText (flightAt row i)) ≡ length (separated values) + length (limitText (flightAt row i .limit))
-  unfolding flightText
-  length-flight = length-append (separated values) (limitText (flightAt row i .limit))
-
-  pub flight-put : {o o1 o2 : List ℕ} {a r : ℕ} → length (flightText (flightAt row i)) ≤ length o → Put o 0 (separated values) a o1
-      → Put o1 a (limitText (flightAt row i .limit)) r o2 → Put o 0 (flightText (flightAt row i)) r o2
-  unfolding flightText
-  flight-put h d e = then (omega (arith, length-append (separated values) (limitText (flightAt row i .limit)))) d e
+pub flight-put : {o o1 o2 : List ℕ} {a r : ℕ} (f : Flight) → length (flightText f) ≤ length o → Put o 0 (separated (beforeLimit f)) a o1
+    → Put o1 a (limitText (f .limit)) r o2 → Put o 0 (flightText f) r o2
+unfolding flightText
+flight-put f h d e = then (omega (arith, length-append (separated (beforeLimit f)) (limitText (f .limit)))) d e
 
 -- one line more
 
@@ -117,18 +85,20 @@ no-flights row = refl
 
 -- the whole
 
-pub length-sheet : (caps : List ℕ) (fs : List Flight) → length (sheetText caps fs) ≡ length (periodsText 1 caps) + length (flightsText fs) + 49
+length-sheet : (caps : List ℕ) (fs : List Flight) → length (sheetText caps fs) ≡ length (periodsText 1 caps) + length (flightsText fs) + 49
 unfolding sheetText
 length-sheet caps fs = simp length-append (omega (arith, length-top, length-names))
+
+pub sheet-room : (caps : List ℕ) (fs : List Flight) {m : ℕ} → length (sheetText caps fs) ≤ m
+    → length periodNames + length (periodsText 1 caps) + length flightNames + length (flightsText fs) ≤ m
+sheet-room caps fs h = omega (arith, length-sheet caps fs, length-top, length-names)
 
 pub sheet-put : {o o1 o2 o3 o4 : List ℕ} {a1 a2 a3 a4 : ℕ} (caps : List ℕ) (fs : List Flight) → length (sheetText caps fs) ≤ length o
     → Put o 0 periodNames a1 o1 → Put o1 a1 (periodsText 1 caps) a2 o2 → Put o2 a2 flightNames a3 o3 → Put o3 a3 (flightsText fs) a4 o4
     → Put o 0 (sheetText caps fs) a4 o4
 unfolding sheetText
 sheet-put {o} caps fs h d1 e2 e3 e4 =
-    let g : length periodNames + length (periodsText 1 caps) + length flightNames + length (flightsText fs) ≤ length o =
-    omega (arith, length-sheet caps fs, length-top, length-names)
-    in
+    let g = sheet-room caps fs h in
     let d2 = then (omega arith) d1 e2 in
     let d3 = then (simp length-append (omega arith)) d2 e3 in
     let d4 = then (simp length-append (omega arith)) d3 e4 in
@@ -161,7 +131,3 @@ needed-is d e g = omega (arith, length-sheet (d .capacities) (firstFlights (N d)
 pub text-of : (d : Day) (n : ℕ) → n ≡ N d → sheetText (d .capacities) (firstFlights n (d .flights)) ≡ sheetOf d
 unfolding sheetOf flightsOf
 text-of d n e = rw e
-
-pub count-is : (d : Day) → length (d .flights) / 6 ≡ N d
-unfolding N
-count-is d = refl

@@ -1,76 +1,74 @@
 // The writer of day sheets: it puts a day's sheet into a lent byte buffer, from a given place on.
 ghost use mathlib.Core.Path.{_≡_};
-ghost use mathlib.Core.List.{[], _∷_};
 ghost use Prim.Native.Nat.{_+_, _*_, _≤_, _<_};
 ghost use lib.ListN.{length};
 ghost use Rattle.text.specs.Writing.{Put};
-ghost use Rattle.day.specs.Day.{day, width, column};
-ghost use Rattle.sheet.specs.Flights.{flightAt, firstFlights};
-ghost use Rattle.sheet.specs.Text.{periodNames, flightNames, limitText, periodText, flightText, periodsText, flightsText, sheetText};
+ghost use Rattle.day.specs.Day.{lent, width, mostPeriods, mostFlights};
+ghost use Rattle.day.specs.Flights.{firstFlights};
+ghost use Rattle.sheet.specs.Text.{periodNames, flightNames, limitText, periodText, beforeLimit, flightText, periodsText, flightsText, sheetText};
 ghost use Rattle.sheet_writer.specs.Write.{writeAnswer, writeAfter};
 use answers::Answer;
-use day::after_of;
-use day::due_of;
+use day::Flight;
+use day::MISSING;
+use day::flight_at;
 use day::flight_count;
 use day::is_valid;
-use day::jump_of;
-use day::limit_of;
-use day::number_of;
-use day::rate_of;
 use day::wide;
+use sheet::DASH;
 use sheet::FLIGHT_NAMES;
+use sheet::FLIGHT_NAMES_LEN;
 use sheet::PERIOD_NAMES;
+use sheet::PERIOD_NAMES_LEN;
+use text::LINE_END;
 use text::line_len;
 use text::number_len;
 use text::put_fixed;
-use text::put_line;
+use text::put_fixed_at;
+use text::put_line_at;
 use text::put_number;
 use text::put_separated;
 use text::separated_len;
 
-const LINE_END: u8 = 10;
-
 // Both names lines together.
-const NAMES_LEN: usize = 49;
+const NAMES_LEN: usize = PERIOD_NAMES_LEN + FLIGHT_NAMES_LEN;
 
 // The last field of a flight line, at the front of out.
-fn put_limit(out: &mut [u8], limit: usize) -> usize
+fn put_limit(out: &mut [u8], limit: u32) -> usize
     requires { ⌜ length (limitText limit) ≤ length (now out) ⌝ }
     ensures { λ r. ⌜ Put (now (out .entry)) 0 (limitText limit) r (now (out .exit)) ⌝ }
 {
-    if limit == 255 {
-        out[0] = b'-';
+    if limit == MISSING {
+        out[0] = DASH;
         out[1] = LINE_END;
         return 2;
     }
-    put_number(out, limit, LINE_END)
+    put_number(out, wide(limit), LINE_END)
 }
 
-fn limit_len(limit: usize) -> usize
+fn limit_len(limit: u32) -> usize
     ensures { λ r. ⌜ (r ≡ length (limitText limit)) × (r ≤ 21) ⌝ }
 {
-    if limit == 255 {
+    if limit == MISSING {
         return 2;
     }
-    number_len(limit)
+    number_len(wide(limit))
 }
 
-// The numbers of a flight line but for its limit.
-fn values_of(flights: &[u32], i: usize) -> [usize; 5]
-    requires { ⌜ (i + 1) * width ≤ length (now flights) ⌝ }
-    ensures { λ r. ⌜ r ≡ column 0 (now (flights .entry)) i ∷ column 1 (now (flights .entry)) i ∷ column 2 (now (flights .entry)) i ∷ column 3 (now (flights .entry)) i ∷ column 4 (now (flights .entry)) i ∷ [] ⌝ }
+// The numbers of a flight line before its limit.
+fn values_of(f: Flight) -> [usize; 5]
+    ensures { λ r. ⌜ r ≡ beforeLimit f ⌝ }
 {
     [
-        number_of(flights, i),
-        due_of(flights, i),
-        rate_of(flights, i),
-        after_of(flights, i),
-        jump_of(flights, i),
+        wide(f.number),
+        wide(f.due),
+        wide(f.rate),
+        wide(f.after),
+        wide(f.jump),
     ]
 }
 
 // The limit's field from `at` on: the part that starts there is lent on.
-fn put_last(out: &mut [u8], at: usize, limit: usize) -> usize
+fn put_last(out: &mut [u8], at: usize, limit: u32) -> usize
     requires { ⌜ at + length (limitText limit) ≤ length (now out) ⌝ }
     ensures { λ r. ⌜ Put (now (out .entry)) at (limitText limit) r (now (out .exit)) ⌝ }
 {
@@ -79,29 +77,28 @@ fn put_last(out: &mut [u8], at: usize, limit: usize) -> usize
 }
 
 // A flight line, at the front of out.
-fn put_flight(out: &mut [u8], flights: &[u32], i: usize) -> usize
-    requires { ⌜ ((i + 1) * width ≤ length (now flights)) × (length (flightText (flightAt (now flights) i)) ≤ length (now out)) ⌝ }
-    ensures { λ r. ⌜ Put (now (out .entry)) 0 (flightText (flightAt (now (flights .entry)) i)) r (now (out .exit)) ⌝ }
+fn put_flight(out: &mut [u8], f: Flight) -> usize
+    requires { ⌜ length (flightText f) ≤ length (now out) ⌝ }
+    ensures { λ r. ⌜ Put (now (out .entry)) 0 (flightText f) r (now (out .exit)) ⌝ }
 {
-    let values = values_of(flights, i);
+    let values = values_of(f);
     let at = put_separated(out, &values);
-    put_last(out, at, limit_of(flights, i))
+    put_last(out, at, f.limit)
 }
 
-fn flight_len(flights: &[u32], i: usize) -> usize
-    requires { ⌜ (i + 1) * width ≤ length (now flights) ⌝ }
-    ensures { λ r. ⌜ (r ≡ length (flightText (flightAt (now (flights .entry)) i))) × (r ≤ 126) ⌝ }
+fn flight_len(f: Flight) -> usize
+    ensures { λ r. ⌜ (r ≡ length (flightText f)) × (r ≤ 126) ⌝ }
 {
-    let values = values_of(flights, i);
-    separated_len(&values) + limit_len(limit_of(flights, i))
+    let values = values_of(f);
+    separated_len(&values) + limit_len(f.limit)
 }
 
-// The flight line of table place i from `at` on.
-fn put_flight_at(out: &mut [u8], at: usize, flights: &[u32], i: usize) -> usize
-    requires { ⌜ ((i + 1) * width ≤ length (now flights)) × (at + length (flightText (flightAt (now flights) i)) ≤ length (now out)) ⌝ }
-    ensures { λ r. ⌜ Put (now (out .entry)) at (flightText (flightAt (now (flights .entry)) i)) r (now (out .exit)) ⌝ }
+// A flight line from `at` on.
+fn put_flight_at(out: &mut [u8], at: usize, f: Flight) -> usize
+    requires { ⌜ at + length (flightText f) ≤ length (now out) ⌝ }
+    ensures { λ r. ⌜ Put (now (out .entry)) at (flightText f) r (now (out .exit)) ⌝ }
 {
-    let k = put_flight(&mut out[at..], flights, i);
+    let k = put_flight(&mut out[at..], f);
     at + k
 }
 
@@ -111,8 +108,7 @@ fn put_period_at(out: &mut [u8], at: usize, j: usize, capacity: usize) -> usize
     ensures { λ r. ⌜ Put (now (out .entry)) at (periodText j capacity) r (now (out .exit)) ⌝ }
 {
     let values = [j];
-    let k = put_line(&mut out[at..], &values, capacity);
-    at + k
+    put_line_at(out, at, &values, capacity)
 }
 
 fn period_len(j: usize, capacity: usize) -> usize
@@ -123,7 +119,7 @@ fn period_len(j: usize, capacity: usize) -> usize
 }
 
 fn put_periods(out: &mut [u8], start: usize, capacities: &[u32]) -> usize
-    requires { ⌜ (start + length (periodsText 1 (now capacities)) ≤ length (now out)) × (length (now capacities) ≤ 96) ⌝ }
+    requires { ⌜ (start + length (periodsText 1 (now capacities)) ≤ length (now out)) × (length (now capacities) ≤ mostPeriods) ⌝ }
     ensures { λ r. ⌜ Put (now (out .entry)) start (periodsText 1 (now (capacities .entry))) r (now (out .exit)) ⌝ }
 {
     let mut at = start;
@@ -136,7 +132,7 @@ fn put_periods(out: &mut [u8], start: usize, capacities: &[u32]) -> usize
 }
 
 fn periods_len(capacities: &[u32]) -> usize
-    requires { ⌜ length (now capacities) ≤ 96 ⌝ }
+    requires { ⌜ length (now capacities) ≤ mostPeriods ⌝ }
     ensures { λ r. ⌜ (r ≡ length (periodsText 1 (now (capacities .entry)))) × (r ≤ 4032) ⌝ }
 {
     let mut sum: usize = 0;
@@ -149,26 +145,26 @@ fn periods_len(capacities: &[u32]) -> usize
 }
 
 fn put_flights(out: &mut [u8], start: usize, flights: &[u32], n: usize) -> usize
-    requires { ⌜ (start + length (flightsText (firstFlights n (now flights))) ≤ length (now out)) × (n ≤ 128) × (n * width ≤ length (now flights)) ⌝ }
+    requires { ⌜ (start + length (flightsText (firstFlights n (now flights))) ≤ length (now out)) × (n ≤ mostFlights) × (n * width ≤ length (now flights)) ⌝ }
     ensures { λ r. ⌜ Put (now (out .entry)) start (flightsText (firstFlights n (now (flights .entry)))) r (now (out .exit)) ⌝ }
 {
     let mut at = start;
     let mut i: usize = 0;
     while i < n {
-        at = put_flight_at(out, at, flights, i);
+        at = put_flight_at(out, at, flight_at(flights, i));
         i += 1;
     }
     at
 }
 
 fn flights_len(flights: &[u32], n: usize) -> usize
-    requires { ⌜ (n ≤ 128) × (n * width ≤ length (now flights)) ⌝ }
+    requires { ⌜ (n ≤ mostFlights) × (n * width ≤ length (now flights)) ⌝ }
     ensures { λ r. ⌜ (r ≡ length (flightsText (firstFlights n (now (flights .entry))))) × (r ≤ 16128) ⌝ }
 {
     let mut sum: usize = 0;
     let mut i: usize = 0;
     while i < n {
-        sum += flight_len(flights, i);
+        sum += flight_len(flight_at(flights, i));
         i += 1;
     }
     sum
@@ -185,13 +181,12 @@ fn put_flight_names(out: &mut [u8], at: usize) -> usize
     requires { ⌜ at + length flightNames ≤ length (now out) ⌝ }
     ensures { λ r. ⌜ Put (now (out .entry)) at flightNames r (now (out .exit)) ⌝ }
 {
-    let k = put_fixed(&mut out[at..], &FLIGHT_NAMES);
-    at + k
+    put_fixed_at(out, at, &FLIGHT_NAMES)
 }
 
 // The whole sheet, at the front of out.
 fn fill_sheet(out: &mut [u8], capacities: &[u32], flights: &[u32], n: usize) -> usize
-    requires { ⌜ (length (sheetText (now capacities) (firstFlights n (now flights))) ≤ length (now out)) × (length (now capacities) ≤ 96) × (n ≤ 128) × (n * width ≤ length (now flights)) ⌝ }
+    requires { ⌜ (length (sheetText (now capacities) (firstFlights n (now flights))) ≤ length (now out)) × (length (now capacities) ≤ mostPeriods) × (n ≤ mostFlights) × (n * width ≤ length (now flights)) ⌝ }
     ensures { λ r. ⌜ Put (now (out .entry)) 0 (sheetText (now (capacities .entry)) (firstFlights n (now (flights .entry)))) r (now (out .exit)) ⌝ }
 {
     let a = put_period_names(out);
@@ -202,8 +197,8 @@ fn fill_sheet(out: &mut [u8], capacities: &[u32], flights: &[u32], n: usize) -> 
 
 // Writes the sheet of a day into the buffer from the place on. The line writers get the part of it that starts there.
 pub fn write_sheet(capacities: &[u32], flights: &[u32], text: &mut [u8], place: usize) -> Answer
-    ensures { λ r. ⌜ r ≡ writeAnswer (day (now (capacities .entry)) (now (flights .entry))) (now (text .entry)) place ⌝ }
-    ensures { λ _. ⌜ now (text .exit) ≡ writeAfter (day (now (capacities .entry)) (now (flights .entry))) (now (text .entry)) place ⌝ }
+    ensures { λ r. ⌜ r ≡ writeAnswer (lent (capacities .entry) (flights .entry)) (now (text .entry)) place ⌝ }
+    ensures { λ _. ⌜ now (text .exit) ≡ writeAfter (lent (capacities .entry) (flights .entry)) (now (text .entry)) place ⌝ }
 {
     if !is_valid(capacities, flights) {
         return Answer::BadDay;

@@ -1,6 +1,6 @@
 -- Laws of decimal digits: how they grow, how many there are, and that they write their number.
 -- Assumes nothing.
-use Prim.Native.Nat.{ℕ, zero, suc, _≤_, _<_, _+_, _-_, _*_, _/_, _%_, _^_}
+use Prim.Native.Nat.{ℕ, zero, suc, _≤_, _<_, _+_, _*_, _/_, _%_, _^_}
 use native.Mathlib.Omega.{arith}
 use native.Mathlib.Numerals.{add-one}
 use native.Mathlib.Nat.{pow-suc, pow-le-pow-right}
@@ -12,6 +12,7 @@ use lib.ListN.{length, getD, length-append}
 use lib.Dec.{ltb, lit<}
 use borrow.Author.Tests.{lt-ltb, le-ltb, ltb-true, ltb-false}
 use Rattle.text.specs.Digits.{digitsIn, digits, ended, separated}
+use Rattle.text.specs.Loops.{dec}
 
 pub split : (a b : ℕ) → (a < b) ⊎ (b ≤ a)
 split a b = go (ltb a b) refl
@@ -65,7 +66,7 @@ pub count-pos : (n : ℕ) → 0 < length (digits n)
 count-pos n = by-digits (λ n. 0 < length (digits n)) (λ n h. omega (arith, count-short n h)) (λ n h ih. omega (arith, count-long n h)) n
 
 -- n is below 10 to the number of its digits ..
-pub below-power : (n : ℕ) → n < 10 ^ length (digits n)
+below-power : (n : ℕ) → n < 10 ^ length (digits n)
 below-power n = by-digits (λ n. n < 10 ^ length (digits n)) one more n
   where
     one : (n : ℕ) → n < 10 → n < 10 ^ length (digits n)
@@ -75,7 +76,7 @@ below-power n = by-digits (λ n. n < 10 ^ length (digits n)) one more n
     more n h ih = rw (count-long n h, add-one, pow-suc) (omega arith)
 
 -- .. and not below a tenth of that
-pub above-power : (n : ℕ) → 0 < n → 10 ^ length (digits n) ≤ n * 10
+above-power : (n : ℕ) → 0 < n → 10 ^ length (digits n) ≤ n * 10
 above-power n = by-digits (λ n. 0 < n → 10 ^ length (digits n) ≤ n * 10) one more n
   where
     one : (n : ℕ) → n < 10 → 0 < n → 10 ^ length (digits n) ≤ n * 10
@@ -122,11 +123,6 @@ first-pos n = by-digits (λ n. 0 < n → (ys : List ℕ) → 48 < getD (digits n
 
     more : (n : ℕ) → 10 ≤ n → (0 < n / 10 → (ys : List ℕ) → 48 < getD (digits (n / 10) ++ ys) 0 0) → 0 < n → (ys : List ℕ) → 48 < getD (digits n ++ ys) 0 0
     more n h ih p ys = rw (digits-long n h, append-assoc) (ih (omega arith) ((48 + n % 10) ∷ ys))
-
--- the last k digits of n, with zeros in front: what the writer's loop has written
-unfoldable pub dec : ℕ → ℕ → List ℕ
-dec zero n = []
-dec (suc k) n = dec k (n / 10) ++ ((48 + n % 10) ∷ [])
 
 pub length-dec : (k n : ℕ) → length (dec k n) ≡ k
 unfolding dec

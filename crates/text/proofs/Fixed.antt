@@ -1,6 +1,6 @@
 -- Fixed bytes compared: the loop's steps, and that they stand there exactly when the front of the list is them.
 -- Assumes nothing.
-use Prim.Native.Nat.{ℕ, _≤_, _<_, _+_, _-_}
+use Prim.Native.Nat.{ℕ, _≤_, _<_, _+_}
 use native.Mathlib.Numerals.{add-one}
 use native.Mathlib.Nat.{add-suc}
 use mathlib.Core.Path.{_≡_, refl, ap₂, _∙_}
@@ -42,7 +42,7 @@ starts-is (x ∷ xs) (y ∷ ys) e =
     let p = and-true (eqb x y) (startsWith xs ys) e in
     ap₂ _∷_ (eqb-true x y (p .0)) (starts-is xs ys (p .1))
 
-pub is-starts : (l w : List ℕ) → take (length w) l ≡ w → startsWith l w ≡ true
+is-starts : (l w : List ℕ) → take (length w) l ≡ w → startsWith l w ≡ true
 unfolding startsWith
 is-starts l [] e = refl
 is-starts [] (y ∷ ys) e = cc

@@ -1,4 +1,5 @@
 pub mod Digits
 pub mod Reading
+pub mod Lines
 pub mod Fixed
 pub mod Writing

@@ -8,15 +8,17 @@ use mathlib.Core.Path.{_≡_, refl, ap, sym, _∙_}
 use mathlib.Core.List.{List, [], _∷_, _++_, append-assoc, append-nil}
 use mathlib.Core.Logic.{inl, inr}
 use mathlib.Core.Bool.{Bool, true, false, cond, _&&_, _||_}
-use lib.ListN.{length, getD, drop, length-append, drop-of-length-le, List·getD-eq-default}
+use lib.ListN.{length, getD, drop, length-append, length-drop, drop-of-length-le, List·getD-eq-default}
 use lib.Seq.{drop-cons, drop-drop, drop-append-seam, getD-drop, getD-at}
 use lib.Dec.{ltb, leb, eqb, lit<}
 use borrow.Author.Tests.{le-leb, leb-true, leb-false, ltb-false, eq-eqb, ne-eqb, eqb-true, eqb-false, lt-ltb, le-ltb}
 use Rattle.text.specs.Digits.{digits, ended}
 use Rattle.text.specs.Reading.{isDigit, run, value, zeroFirst, numberOf, number, endedBy, field}
+use Rattle.text.specs.Standing.{Stands, FieldHere}
+use Rattle.text.specs.Loops.{dec}
 use Rattle.text.specs.declared.Number.{Number}
 use Rattle.text.specs.declared.Number.the-variants.{Value, Bad}
-use Rattle.text.proofs.Digits.{split, digits-short, digits-long, by-digits, count-short, count-pos, count-is, count-le, first-pos, dec, digits-dec, length-ended}
+use Rattle.text.proofs.Digits.{split, digits-short, digits-long, by-digits, count-short, count-pos, count-is, first-pos, digits-dec, length-ended}
 
 -- runs of digits
 
@@ -47,7 +49,11 @@ pub and-true : (a b : Bool) → a && b ≡ true → (a ≡ true) × (b ≡ true)
 and-true true b e = (refl, e)
 and-true false b e = (e, cc)
 
-pub digit-bounds : (d : ℕ) → isDigit d ≡ true → (48 ≤ d) × (d ≤ 57)
+and-false : (b : Bool) → b && false ≡ false
+and-false true = refl
+and-false false = refl
+
+digit-bounds : (d : ℕ) → isDigit d ≡ true → (48 ≤ d) × (d ≤ 57)
 unfolding isDigit
 digit-bounds d e = let p = and-true (leb 48 d) (leb d 57) e in (leb-true 48 d (p .0), leb-true d 57 (p .1))
 
@@ -80,7 +86,7 @@ value-snoc acc [] d = refl
 value-snoc acc (x ∷ xs) d = value-snoc (acc * 10 + (x - 48)) xs d
 
 -- digits write their number
-pub value-digits : (n : ℕ) → value 0 (digits n) ≡ n
+value-digits : (n : ℕ) → value 0 (digits n) ≡ n
 unfolding value
 value-digits n = by-digits (λ n. value 0 (digits n) ≡ n) (λ n h. rw (digits-short n h) (omega arith)) more n
   where
@@ -91,31 +97,28 @@ no-zero : (n : ℕ) → zeroFirst (digits n) ≡ false
 unfolding zeroFirst
 no-zero n = elim (split n 10) [ inl h ↦ short h | inr h ↦ rw (ne-eqb (getD (digits n) 0 0) 48 (λ e. omega (arith, rw append-nil at (first-pos n (omega arith) [])))) ]
   where
-    ended-false : (b : Bool) → b && false ≡ false
-    ended-false true = refl
-    ended-false false = refl
-
     short : n < 10 → eqb (getD (digits n) 0 0) 48 && ltb 1 (length (digits n)) ≡ false
-    short h = rw (count-short n h) (ended-false (eqb (getD (digits n) 0 0) 48))
+    short h = rw (count-short n h) (and-false (eqb (getD (digits n) 0 0) 48))
 
 -- digits at a place, and no digit behind them, are read as their number
-pub number-digits : (s : List ℕ) (at n x : ℕ) (ys : List ℕ) → n < 10000000 → isDigit x ≡ false → drop at s ≡ digits n ++ (x ∷ ys)
-    → number s at ≡ Value n (at + length (digits n))
+number-digits : (most : ℕ) (s : List ℕ) (at n x : ℕ) (ys : List ℕ) → length (digits n) ≤ most → isDigit x ≡ false → drop at s ≡ digits n ++ (x ∷ ys)
+    → number most s at ≡ Value n (at + length (digits n))
 unfolding number numberOf
-number-digits s at n x ys h d e =
+number-digits most s at n x ys h d e =
     rw (
       e,
       run-digits n (x ∷ ys),
       run-stop x ys d,
       append-nil,
       ne-eqb (length (digits n)) 0 (λ z. omega (arith, count-pos n)),
-      le-ltb 7 (length (digits n)) (count-le n 7 (lit< tt) (omega arith)),
+      le-ltb most (length (digits n)) h,
       no-zero n,
       value-digits n,
     )
 
 -- the other way round
 
+-- bytes that are digits
 allDigits : List ℕ → Type 0
 allDigits [] = Unit {0}
 allDigits (d ∷ ds) = (48 ≤ d) × (d ≤ 57) × allDigits ds
@@ -199,11 +202,6 @@ count-value (d ∷ x ∷ ds) a p z = count-is v (length (d ∷ x ∷ ds)) (omega
     pos : 10 ^ 0 ≤ 10 ^ length (x ∷ ds)
     pos = pow-le-pow-right {n = 10} (lit< tt) {i = 0} {j = length (x ∷ ds)} (omega arith)
 
-value-small : (r : List ℕ) → allDigits r → length r ≤ 7 → value 0 r < 10000000
-value-small r a h =
-    let p : 10 ^ length r ≤ 10 ^ 7 = pow-le-pow-right {n = 10} (lit< tt) {i = length r} {j = 7} h in
-    omega (arith, value-lt 0 r a)
-
 digits-value : (r : List ℕ) → allDigits r → 0 < length r → zeroFirst r ≡ false → digits (value 0 r) ≡ r
 unfolding dec
 digits-value r a p z =
@@ -217,28 +215,24 @@ parts false false true v n x y e = let z : _≡_ {A = ℕ} 0 1 = cc in absurd (o
 parts false false false v n x y e = (refl, refl, refl, cc, cc)
 
 -- what was read as a number are its digits
-pub record Parsed (s : List ℕ) (at n next : ℕ) : Type 0 where
-  pub small : n < 10000000
-  pub text : drop at s ≡ digits n ++ drop next s
-  pub place : next ≡ at + length (digits n)
+record Parsed (most : ℕ) (s : List ℕ) (at n next : ℕ) : Type 0 where
+  short : length (digits n) ≤ most
+  text : drop at s ≡ digits n ++ drop next s
+  place : next ≡ at + length (digits n)
 
-pub parsed : (s : List ℕ) (at n next : ℕ) → number s at ≡ Value n next → Parsed s at n next
+parsed : (most : ℕ) (s : List ℕ) (at n next : ℕ) → number most s at ≡ Value n next → Parsed most s at n next
 unfolding number numberOf
-parsed s at n next e =
+parsed most s at n next e =
     let r = run (drop at s) in
-    let p = parts (eqb (length r) 0) (ltb 7 (length r)) (zeroFirst r) (value 0 r) n (at + length r) next e in
-    go (run-all (drop at s)) (eqb-false (length r) 0 (p .0)) (ltb-false 7 (length r) (p .1)) (p .2) (p .3) (p .4)
+    let p = parts (eqb (length r) 0) (ltb most (length r)) (zeroFirst r) (value 0 r) n (at + length r) next e in
+    go (run-all (drop at s)) (eqb-false (length r) 0 (p .0)) (ltb-false most (length r) (p .1)) (p .2) (p .3) (p .4)
   where
-    go : allDigits (run (drop at s)) → (length (run (drop at s)) ≡ 0 → ⊥) → length (run (drop at s)) ≤ 7 → zeroFirst (run (drop at s)) ≡ false
-        → value 0 (run (drop at s)) ≡ n → at + length (run (drop at s)) ≡ next → Parsed s at n next
+    go : allDigits (run (drop at s)) → (length (run (drop at s)) ≡ 0 → ⊥) → length (run (drop at s)) ≤ most → zeroFirst (run (drop at s)) ≡ false
+        → value 0 (run (drop at s)) ≡ n → at + length (run (drop at s)) ≡ next → Parsed most s at n next
     go a ne le z v x =
         let pos : 0 < length (run (drop at s)) = omega arith in
         let d : digits n ≡ run (drop at s) = rw v at (digits-value (run (drop at s)) a pos z) in
-        record {
-          small = omega (arith, value-small (run (drop at s)) a le);
-          text = rw (d, ← x, ← drop-drop) (run-front (drop at s));
-          place = rw d (sym x);
-        }
+        record { short = rw d le; text = rw (d, ← x, ← drop-drop) (run-front (drop at s)); place = rw d (sym x) }
 
 -- fields
 
@@ -256,48 +250,26 @@ there s x h = go (leb (length s) x) refl
     go true e = absurd (omega (arith, List·getD-eq-default s 0 {n = x} (leb-true _ _ e)))
     go false e = leb-false _ _ e
 
--- a text stands from `at` to `next`
-pub record Stands (t s : List ℕ) (at next : ℕ) : Type 0 where
-  pub text : drop at s ≡ t ++ drop next s
-  pub place : next ≡ at + length t
-  pub later : at < next
-  pub within : next ≤ length s
+pub within : {t s : List ℕ} {at next : ℕ} → Stands t s at next → at ≤ length s → next ≤ length s
+within {t} {s} {at} {next} a h = omega (arith, a .place, length-drop at s, simp length-append at (ap length (a .text)))
 
-pub join : (s t u : List ℕ) (at m next : ℕ) → Stands t s at m → Stands u s m next → Stands (t ++ u) s at next
-join s t u at m next a b =
-    record {
-      text = a .text ∙ rw (b .text, append-assoc);
-      place = simp length-append (omega (arith, a .place, b .place));
-      later = omega (arith, a .later, b .later);
-      within = b .within;
-    }
+-- bytes in front of others stand at their place
+pub stand : (s t u : List ℕ) (at : ℕ) → drop at s ≡ t ++ u → Stands t s at (at + length t)
+stand s t u at e = record { text = e ∙ rw (past s at t u e); place = refl }
+
+pub join : {s t u : List ℕ} {at m next : ℕ} → Stands t s at m → Stands u s m next → Stands (t ++ u) s at next
+join a b = record { text = a .text ∙ rw (b .text, append-assoc); place = simp length-append (omega (arith, a .place, b .place)) }
+
+-- a text of two parts, each at its place
+pub parted : {s t u : List ℕ} {at next : ℕ} → Stands (t ++ u) s at next → Stands t s at (at + length t) × Stands u s (at + length t) next
+parted {s} {t} {u} {at} {next} a =
+    let e : drop at s ≡ t ++ (u ++ drop next s) = a .text ∙ append-assoc t u (drop next s) in
+    let d : drop (at + length t) s ≡ u ++ drop next s = past s at t (u ++ drop next s) e in
+    (stand s t (u ++ drop next s) at e, record { text = d; place = omega (arith, a .place, length-append t u) })
 
 pub picked : (b : Bool) (m x n next : ℕ) → cond b (Value m x) Bad ≡ Value n next → (b ≡ true) × (m ≡ n) × (x ≡ next)
 picked true m x n next e = (refl, cc, cc)
 picked false m x n next e = let z : _≡_ {A = ℕ} 0 1 = cc in absurd (omega arith)
-
-pub field-read : (e : ℕ) (s : List ℕ) (at n next : ℕ) → 0 < e → field e s at ≡ Value n next → (n < 10000000) × Stands (ended e n) s at next
-unfolding field ended
-field-read e s at n next pos = go (number s at) refl
-  where
-    go : (p : Number) → number s at ≡ p → endedBy e s p ≡ Value n next → (n < 10000000) × Stands (ended e n) s at next
-    go Bad q r = let z : _≡_ {A = ℕ} 0 1 = cc in absurd (omega arith)
-    go (Value m x) q r =
-        let p = picked (eqb (getD s x 0) e) m (x + 1) n next r in
-        let g : getD s x 0 ≡ e = eqb-true _ _ (p .0) in
-        let d = parsed s at m x q in
-        let t : x < length s = there s x (omega arith) in
-        let w = count-pos m in
-        let l = rw (p .1) at (length-ended e m) in
-        let c : drop x s ≡ e ∷ drop next s = rw (← (p .2), add-one) (drop-cons s x 0 t ∙ rw g) in (
-          rw (p .1) at (d .small),
-          record {
-            text = d .text ∙ rw (p .1, c, append-assoc);
-            place = omega (arith, d .place, rw (p .1) at (d .place));
-            later = omega (arith, d .place);
-            within = omega arith;
-          },
-        )
 
 pub open-up : (e n : ℕ) (ys : List ℕ) → ended e n ++ ys ≡ digits n ++ (e ∷ ys)
 unfolding ended
@@ -311,15 +283,34 @@ pub comma-no-digit : isDigit 44 ≡ false
 unfolding isDigit
 comma-no-digit = refl
 
-pub field-write : (e : ℕ) (s : List ℕ) (at n : ℕ) (ys : List ℕ) → n < 10000000 → isDigit e ≡ false → drop at s ≡ ended e n ++ ys
-    → field e s at ≡ Value n (at + length (ended e n))
+-- a field read at a place is a number of at most `most` digits, written there with its end byte, and back
+
+pub field-read : {most e : ℕ} {s : List ℕ} {at n next : ℕ} → 0 < e → field most e s at ≡ Value n next → FieldHere most e s at n next
+unfolding field ended
+field-read {most} {e} {s} {at} {n} {next} pos = go (number most s at) refl
+  where
+    go : (p : Number) → number most s at ≡ p → endedBy e s p ≡ Value n next → FieldHere most e s at n next
+    go Bad q r = let z : _≡_ {A = ℕ} 0 1 = cc in absurd (omega arith)
+    go (Value m x) q r =
+        let p = picked (eqb (getD s x 0) e) m (x + 1) n next r in
+        let g : getD s x 0 ≡ e = eqb-true _ _ (p .0) in
+        let d = parsed most s at m x q in
+        let t : x < length s = there s x (omega arith) in
+        let l = rw (p .1) at (length-ended e m) in
+        let c : drop x s ≡ e ∷ drop next s = rw (← (p .2), add-one) (drop-cons s x 0 t ∙ rw g) in
+        record {
+          short = rw (p .1) at (d .short);
+          stands = record { text = d .text ∙ rw (p .1, c, append-assoc); place = omega (arith, rw (p .1) at (d .place)) };
+        }
+
+pub field-write : {most e : ℕ} {s : List ℕ} {at n next : ℕ} → isDigit e ≡ false → FieldHere most e s at n next → field most e s at ≡ Value n next
 unfolding field
-field-write e s at n ys h d q =
-    let q2 : drop at s ≡ digits n ++ (e ∷ ys) = q ∙ open-up e n ys in
+field-write {most} {e} {s} {at} {n} {next} d f =
+    let q : drop at s ≡ digits n ++ (e ∷ drop next s) = f .stands .text ∙ open-up e n (drop next s) in
     let w = length (digits n) in
-    let g : getD s (at + w) 0 ≡ e = at-place s at w _ q2 ∙ getD-at (digits n) e ys 0 w refl in
-    let l : at + w + 1 ≡ at + length (ended e n) = omega (arith, length-ended e n) in
-    rw (number-digits s at n e ys h d q2, eq-eqb _ _ g, l)
+    let g : getD s (at + w) 0 ≡ e = at-place s at w _ q ∙ getD-at (digits n) e (drop next s) 0 w refl in
+    let l : at + w + 1 ≡ next = omega (arith, f .stands .place, length-ended e n) in
+    rw (number-digits most s at n e (drop next s) (f .short) d q, eq-eqb _ _ g, l)
 
 -- numbers that a byte other than a digit ends: the same bytes, the same numbers and the same rest
 pub same-number : (e m n : ℕ) (xs ys : List ℕ) → isDigit e ≡ false → ended e m ++ xs ≡ ended e n ++ ys → (m ≡ n) × (xs ≡ ys)
@@ -333,15 +324,15 @@ same-number e m n xs ys d q =
     front m xs = run-digits m (e ∷ xs) ∙ rw (run-stop e xs d, append-nil)
 
 -- a turn of the reader's loop
-module _ (s : List ℕ) (at i n k : ℕ) (h : i < k) (small : k ≤ 7) (b : n < 10 ^ i) (l : i + length (run (drop (at + i) s)) ≡ k) where
+module _ (s : List ℕ) (at i n k : ℕ) (h : i < k) (small : k ≤ 9) (b : n < 10 ^ i) (l : i + length (run (drop (at + i) s)) ≡ k) where
   pub here : (at + i < length s) × (isDigit (getD s (at + i) 0) ≡ true)
   here = run-pos s (at + i) (omega arith)
 
   pub here-digit : (48 ≤ getD s (at + i) 0) × (getD s (at + i) 0 ≤ 57)
   here-digit = digit-bounds (getD s (at + i) 0) (here .1)
 
-  pub below : n < 1000000
-  below = let p : 10 ^ i ≤ 10 ^ 6 = pow-le-pow-right {n = 10} (lit< tt) {i = i} {j = 6} (omega arith) in omega arith
+  pub below : n < 100000000
+  below = let p : 10 ^ i ≤ 10 ^ 8 = pow-le-pow-right {n = 10} (lit< tt) {i = i} {j = 8} (omega arith) in omega arith
 
   on : run (drop (at + i) s) ≡ getD s (at + i) 0 ∷ run (drop (at + (i + 1)) s)
   on = rw add-assoc at (run-on s (at + i) (here .0) (here .1))
@@ -355,35 +346,31 @@ module _ (s : List ℕ) (at i n k : ℕ) (h : i < k) (small : k ≤ 7) (b : n < 
       let g = rw on at l in
       (omega arith, omega arith, rw e (rw on at q))
 
-module _ (s : List ℕ) (at k : ℕ) (e : k ≡ length (run (drop at s))) where
+module _ (most : ℕ) (s : List ℕ) (at k : ℕ) (e : k ≡ length (run (drop at s))) where
   run-first : 0 < k → getD (run (drop at s)) 0 0 ≡ getD s at 0
   run-first h = let p = run-pos s at (omega arith) in rw (run-on s at (p .0) (p .1))
 
-  pub number-none : k ≡ 0 → Bad ≡ number s at
+  pub number-none : k ≡ 0 → Bad ≡ number most s at
   unfolding number numberOf
   number-none h = rw (← e, h)
 
-  pub number-long : 7 < k → Bad ≡ number s at
+  pub number-long : most < k → Bad ≡ number most s at
   unfolding number numberOf
-  number-long h = rw (← e, ne-eqb k 0 (λ z. omega arith), lt-ltb 7 k h)
+  number-long h = rw (← e, ne-eqb k 0 (λ z. omega arith), lt-ltb most k h)
 
-  pub number-zero : 1 < k → k ≤ 7 → getD s at 0 ≡ 48 → Bad ≡ number s at
+  pub number-zero : 1 < k → k ≤ most → getD s at 0 ≡ 48 → Bad ≡ number most s at
   unfolding number numberOf zeroFirst
-  number-zero h g z = let p : 0 < k = omega arith in rw (← e, ne-eqb k 0 (λ z. omega arith), le-ltb 7 k g, run-first p, eq-eqb _ _ z, lt-ltb 1 k h)
+  number-zero h g z = let p : 0 < k = omega arith in rw (← e, ne-eqb k 0 (λ z. omega arith), le-ltb most k g, run-first p, eq-eqb _ _ z, lt-ltb 1 k h)
 
-  value-when : zeroFirst (run (drop at s)) ≡ false → 0 < k → k ≤ 7 → Value (value 0 (run (drop at s))) (at + k) ≡ number s at
+  value-when : zeroFirst (run (drop at s)) ≡ false → 0 < k → k ≤ most → Value (value 0 (run (drop at s))) (at + k) ≡ number most s at
   unfolding number numberOf
-  value-when q h g = rw (q, ← e, ne-eqb k 0 (λ z. omega arith), le-ltb 7 k g)
+  value-when q h g = rw (q, ← e, ne-eqb k 0 (λ z. omega arith), le-ltb most k g)
 
-  pub number-one : k ≤ 1 → 0 < k → Value (value 0 (run (drop at s))) (at + k) ≡ number s at
+  pub number-one : k ≤ 1 → 0 < k → k ≤ most → Value (value 0 (run (drop at s))) (at + k) ≡ number most s at
   unfolding zeroFirst
-  number-one o h = value-when (rw (← e, le-ltb 1 k o) (go (eqb (getD (run (drop at s)) 0 0) 48))) h (omega arith)
-    where
-      go : (b : Bool) → b && false ≡ false
-      go true = refl
-      go false = refl
+  number-one o h g = value-when (rw (← e, le-ltb 1 k o) (and-false (eqb (getD (run (drop at s)) 0 0) 48))) h g
 
-  pub number-more : 1 < k → k ≤ 7 → (getD s at 0 ≡ 48 → ⊥) → Value (value 0 (run (drop at s))) (at + k) ≡ number s at
+  pub number-more : 1 < k → k ≤ most → (getD s at 0 ≡ 48 → ⊥) → Value (value 0 (run (drop at s))) (at + k) ≡ number most s at
   unfolding zeroFirst
   number-more o g z = let p : 0 < k = omega arith in value-when (rw (run-first p, ne-eqb _ _ z)) p g
 
@@ -396,19 +383,19 @@ pub done : (s : List ℕ) (i n total : ℕ) → length (run (drop i s)) ≡ 0 �
 done s i n total e q = sym (none-left n (run (drop i s)) e) ∙ q
 
 -- one law for each way through the reader of a field
-module _ (e : ℕ) (s : List ℕ) (at : ℕ) where
-  pub field-bad : number s at ≡ Bad → Bad ≡ field e s at
+module _ (most e : ℕ) (s : List ℕ) (at : ℕ) where
+  pub field-bad : number most s at ≡ Bad → Bad ≡ field most e s at
   unfolding field
   field-bad p = rw p
 
-  pub field-end : (n next : ℕ) → number s at ≡ Value n next → 0 < e → length s ≤ next → Bad ≡ field e s at
+  pub field-end : (n next : ℕ) → number most s at ≡ Value n next → 0 < e → length s ≤ next → Bad ≡ field most e s at
   unfolding field
   field-end n next p h g = let q = List·getD-eq-default s 0 {n = next} g in rw (p, ne-eqb (getD s next 0) e (λ z. omega arith))
 
-  pub field-miss : (n next : ℕ) → number s at ≡ Value n next → (getD s next 0 ≡ e → ⊥) → Bad ≡ field e s at
+  pub field-miss : (n next : ℕ) → number most s at ≡ Value n next → (getD s next 0 ≡ e → ⊥) → Bad ≡ field most e s at
   unfolding field
   field-miss n next p g = rw (p, ne-eqb (getD s next 0) e g)
 
-  pub field-hit : (n next : ℕ) → number s at ≡ Value n next → getD s next 0 ≡ e → Value n (next + 1) ≡ field e s at
+  pub field-hit : (n next : ℕ) → number most s at ≡ Value n next → getD s next 0 ≡ e → Value n (next + 1) ≡ field most e s at
   unfolding field
   field-hit n next p g = rw (p, eq-eqb (getD s next 0) e g)

@@ -12,7 +12,8 @@ use Rattle.answers.specs.declared.Answer.the-variants.{Written, BadLength}
 use Rattle.text.specs.Digits.{digits, ended, separated, line}
 use Rattle.text.specs.Fixed.{refusalNames, refusalText}
 use Rattle.text.specs.Writing.{placed, fits, textAnswer, textAfter, Put}
-use Rattle.text.proofs.Digits.{dec, length-dec, digits-dec, separated-snoc}
+use Rattle.text.specs.Loops.{dec, Grown}
+use Rattle.text.proofs.Digits.{length-dec, digits-dec, separated-snoc}
 
 -- the number writer's loop, from the last digit on
 
@@ -57,7 +58,7 @@ lent o t at r part h p =
     let a : take (length o - at) (drop at o) ≡ drop at o = take-all (length o - at) (drop at o) (rw length-drop (omega arith)) in
     record { place = omega (arith, p .place); bytes = rw (p .bytes, placed-zero, z, a, drop-drop, append-nil) }
 
-pub length-placed : (o t : List ℕ) (at : ℕ) → at + length t ≤ length o → length (placed o at t) ≡ length o
+length-placed : (o t : List ℕ) (at : ℕ) → at + length t ≤ length o → length (placed o at t) ≡ length o
 unfolding placed
 length-placed o t at h = simp (length-append, length-drop, length-take-le at o (omega arith)) (omega arith)
 
@@ -87,6 +88,16 @@ unfolding placed
 put-none o at h =
     let z : at + 0 ≡ at = omega arith in
     record { place = sym z; bytes = rw z (sym (take-append-drop at o)) }
+
+pub grown-none : (o : List ℕ) (start : ℕ) → start ≤ length o → Grown o start [] o start
+grown-none o start h = record { long = refl; put = put-none o start h }
+
+module _ {o : List ℕ} {start : ℕ} {t out : List ℕ} {at : ℕ} (g : Grown o start t out at) where
+  pub grown-room : (u : List ℕ) → start + length t + length u ≤ length o → at + length u ≤ length out
+  grown-room u h = omega (arith, g .long, g .put .place)
+
+  pub grown-more : {u next : List ℕ} {r : ℕ} → start + length t + length u ≤ length o → Put out at u r next → Grown o start (t ++ u) next r
+  grown-more h p = let q = then h (g .put) p in record { long = put-length (simp length-append (omega arith)) q; put = q }
 
 set-placed : (o : List ℕ) (m v : ℕ) → m < length o → set o m v ≡ placed o m (v ∷ [])
 unfolding placed

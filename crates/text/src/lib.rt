@@ -3,19 +3,25 @@ ghost use mathlib.Core.Path.{_≡_};
 ghost use Prim.Native.Nat.{_+_, _-_, _*_, _%_, _≤_, _<_};
 ghost use lib.ListN.{length, drop};
 ghost use Rattle.text.specs.Digits.{digits, ended, separated, line};
-ghost use Rattle.text.specs.Reading.{isDigit, run, value, number, field};
+ghost use Rattle.text.specs.Reading.{isDigit, run, value, number, field, separatedAt, placeOf, rowAfter, lineAt, lastOf};
 ghost use Rattle.text.specs.Fixed.{startsWith, refusalNames, refusalText};
 ghost use Rattle.text.specs.Writing.{Put, textAnswer, textAfter};
 use answers::Answer;
 
 const COMMA: u8 = b',';
 
-const LINE_END: u8 = 10;
+pub const LINE_END: u8 = 10;
 
 // A number read: its value and the place behind it.
 pub enum Number {
     Value { n: u32, next: usize },
     Bad,
+}
+
+// The place behind numbers read.
+pub enum Place {
+    Behind { next: usize },
+    NoPlace,
 }
 
 fn is_digit(d: u8) -> bool
@@ -46,9 +52,9 @@ fn run_len(s: &[u8], at: usize) -> usize
     i - at
 }
 
-// The value of the k digits that stand at a place. Seven digits fit 32 bits.
+// The value of the k digits that stand at a place. Nine digits fit 32 bits.
 fn value_at(s: &[u8], at: usize, k: usize) -> u32
-    requires { ⌜ (at ≤ length (now s)) × (k ≡ length (run (drop at (now s)))) × (k ≤ 7) ⌝ }
+    requires { ⌜ (at ≤ length (now s)) × (k ≡ length (run (drop at (now s)))) × (k ≤ 9) ⌝ }
     ensures { λ r. ⌜ r ≡ value 0 (run (drop at (now (s .entry)))) ⌝ }
 {
     let mut n: u32 = 0;
@@ -60,16 +66,16 @@ fn value_at(s: &[u8], at: usize, k: usize) -> u32
     n
 }
 
-// The number at a place.
-fn number_at(s: &[u8], at: usize) -> Number
-    requires { ⌜ at ≤ length (now s) ⌝ }
-    ensures { λ r. ⌜ r ≡ number (now (s .entry)) at ⌝ }
+// The number of at most `most` digits at a place.
+fn number_at(s: &[u8], at: usize, most: usize) -> Number
+    requires { ⌜ (at ≤ length (now s)) × (most ≤ 9) ⌝ }
+    ensures { λ r. ⌜ r ≡ number most (now (s .entry)) at ⌝ }
 {
     let k = run_len(s, at);
     if k == 0 {
         return Number::Bad;
     }
-    if 7 < k {
+    if most < k {
         return Number::Bad;
     }
     if 1 < k {
@@ -84,11 +90,11 @@ fn number_at(s: &[u8], at: usize) -> Number
 }
 
 // A number that the byte e ends, and the place behind that byte.
-pub fn field_at(s: &[u8], at: usize, e: u8) -> Number
-    requires { ⌜ (at ≤ length (now s)) × (0 < e) ⌝ }
-    ensures { λ r. ⌜ r ≡ field e (now (s .entry)) at ⌝ }
+pub fn field_at(s: &[u8], at: usize, most: usize, e: u8) -> Number
+    requires { ⌜ (at ≤ length (now s)) × (most ≤ 9) × (0 < e) ⌝ }
+    ensures { λ r. ⌜ r ≡ field most e (now (s .entry)) at ⌝ }
 {
-    let p = number_at(s, at);
+    let p = number_at(s, at, most);
     let Number::Value { n, next } = p else {
         return Number::Bad;
     };
@@ -99,6 +105,39 @@ pub fn field_at(s: &[u8], at: usize, e: u8) -> Number
         return Number::Value { n, next: next + 1 };
     }
     Number::Bad
+}
+
+// As many numbers as the row has, each with a comma behind it, into the row; the place behind them.
+pub fn separated_at(s: &[u8], at: usize, most: usize, numbers: &mut [u32]) -> Place
+    requires { ⌜ (at ≤ length (now s)) × (most ≤ 9) ⌝ }
+    ensures { λ r. ⌜ r ≡ placeOf (separatedAt (length (now (numbers .entry))) most (now (s .entry)) at) ⌝ }
+    ensures { λ _. ⌜ now (numbers .exit) ≡ rowAfter (separatedAt (length (now (numbers .entry))) most (now (s .entry)) at) (now (numbers .entry)) ⌝ }
+{
+    let mut next = at;
+    let mut i: usize = 0;
+    while i < numbers.len() {
+        let p = field_at(s, next, most, COMMA);
+        let Number::Value { n, next: behind } = p else {
+            return Place::NoPlace;
+        };
+        numbers[i] = n;
+        i += 1;
+        next = behind;
+    }
+    Place::Behind { next }
+}
+
+// A line of one number more than the row has: the last number and the place behind the line, the others into the row.
+pub fn line_at(s: &[u8], at: usize, most: usize, numbers: &mut [u32]) -> Number
+    requires { ⌜ (at ≤ length (now s)) × (most ≤ 9) ⌝ }
+    ensures { λ r. ⌜ r ≡ lastOf (lineAt (length (now (numbers .entry))) most (now (s .entry)) at) ⌝ }
+    ensures { λ _. ⌜ now (numbers .exit) ≡ rowAfter (separatedAt (length (now (numbers .entry))) most (now (s .entry)) at) (now (numbers .entry)) ⌝ }
+{
+    let p = separated_at(s, at, most, numbers);
+    let Place::Behind { next } = p else {
+        return Number::Bad;
+    };
+    field_at(s, next, most, LINE_END)
 }
 
 // Whether the fixed bytes w stand at a place.
@@ -168,12 +207,20 @@ pub fn put_fixed(out: &mut [u8], w: &[u8]) -> usize
     i
 }
 
-// A number from `at` on: the part that starts there is lent on.
-fn put_next(out: &mut [u8], at: usize, n: usize, e: u8) -> usize
+// The same from `at` on: the part that starts there is lent on.
+pub fn put_number_at(out: &mut [u8], at: usize, n: usize, e: u8) -> usize
     requires { ⌜ at + length (ended e n) ≤ length (now out) ⌝ }
     ensures { λ r. ⌜ Put (now (out .entry)) at (ended e n) r (now (out .exit)) ⌝ }
 {
     let k = put_number(&mut out[at..], n, e);
+    at + k
+}
+
+pub fn put_fixed_at(out: &mut [u8], at: usize, w: &[u8]) -> usize
+    requires { ⌜ at + length (now w) ≤ length (now out) ⌝ }
+    ensures { λ r. ⌜ Put (now (out .entry)) at (now (w .entry)) r (now (out .exit)) ⌝ }
+{
+    let k = put_fixed(&mut out[at..], w);
     at + k
 }
 
@@ -185,7 +232,7 @@ pub fn put_separated(out: &mut [u8], numbers: &[usize]) -> usize
     let mut at: usize = 0;
     let mut i: usize = 0;
     while i < numbers.len() {
-        at = put_next(out, at, numbers[i], COMMA);
+        at = put_number_at(out, at, numbers[i], COMMA);
         i += 1;
     }
     at
@@ -197,7 +244,16 @@ pub fn put_line(out: &mut [u8], numbers: &[usize], last: usize) -> usize
     ensures { λ r. ⌜ Put (now (out .entry)) 0 (line (now (numbers .entry)) last) r (now (out .exit)) ⌝ }
 {
     let at = put_separated(out, numbers);
-    put_next(out, at, last, LINE_END)
+    put_number_at(out, at, last, LINE_END)
+}
+
+// A line of numbers from `at` on.
+pub fn put_line_at(out: &mut [u8], at: usize, numbers: &[usize], last: usize) -> usize
+    requires { ⌜ at + length (line (now numbers) last) ≤ length (now out) ⌝ }
+    ensures { λ r. ⌜ Put (now (out .entry)) at (line (now (numbers .entry)) last) r (now (out .exit)) ⌝ }
+{
+    let k = put_line(&mut out[at..], numbers, last);
+    at + k
 }
 
 // How many bytes a number and the byte that ends its field take.

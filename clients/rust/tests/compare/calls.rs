@@ -1,7 +1,7 @@
 //! Each exported call compared with what document 01 says of it: the answer, and every lent row afterwards.
 //! A call is given rows of any content and length; the refusals that apply are listed in document 01's order, and the first is
 //! the answer.
-use crate::day::{plain_read, Day, Rows};
+use crate::day::{plain_read, Day, Rows, FLIGHTS, FLIGHT_ROW, PERIODS};
 use crate::planners::{accepts, least_by_moves, quick_by_sorting, short_stretch};
 use crate::seed::Seed;
 use hold_desk_client::*;
@@ -97,8 +97,8 @@ impl Run {
         assert!(before == std::hint::black_box(sheet), "the sheet was changed");
         let read = plain_read(sheet);
         let mut refusals = Vec::new();
-        refusals.extend(unless(capacity_length == 96, answer(7, 96, 0)));
-        refusals.extend(unless(flight_length == 768, answer(7, 768, 0)));
+        refusals.extend(unless(capacity_length == PERIODS, answer(7, PERIODS as u64, 0)));
+        refusals.extend(unless(flight_length == FLIGHT_ROW, answer(7, FLIGHT_ROW as u64, 0)));
         refusals.extend(read.as_ref().err().map(|&(number, first)| answer(number, first, 0)));
         if let Some(refusal) = self.first("reader", &refusals) {
             assert_eq!(got, refusal, "{:?}", String::from_utf8_lossy(sheet));
@@ -271,8 +271,8 @@ impl Run {
     }
 
     fn reach_sizes(&mut self, call: &str, day: &Day, total: u64) {
-        if day.capacities.len() == 96 && day.flights.len() == 128 {
-            self.reach(format!("{call} of 96 periods and 128 flights"));
+        if day.capacities.len() == PERIODS && day.flights.len() == FLIGHTS {
+            self.reach(format!("{call} of {PERIODS} periods and {FLIGHTS} flights"));
         }
         if day.flights.len() > 64 && total > 0 && day.capacities.iter().any(|&c| c > 0) {
             self.reach(format!("{call} of more than 64 flights, some held, some period open"));

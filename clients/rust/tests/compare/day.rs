@@ -1,5 +1,11 @@
 //! The day of document 01, apart from the core: what it is, what it costs, its two texts, and its reader.
 
+/// The most periods and flights of a day, the numbers of a flight, and the entries of the flight row that the reader is lent.
+pub const PERIODS: usize = 96;
+pub const FLIGHTS: usize = 128;
+pub const WIDTH: usize = 6;
+pub const FLIGHT_ROW: usize = FLIGHTS * WIDTH;
+
 #[derive(Clone, Debug, PartialEq)]
 pub struct Flight {
     pub number: u32,
@@ -44,12 +50,12 @@ impl Flight {
 impl Rows {
     /// The day, if every length and value is as the table says and no number is repeated; else refusal 6.
     pub fn day(&self) -> Option<Day> {
-        let sizes = (1..=96).contains(&self.capacities.len()) && self.flights.len() % 6 == 0 && self.flights.len() <= 128 * 6;
+        let sizes = (1..=PERIODS).contains(&self.capacities.len()) && self.flights.len() % WIDTH == 0 && self.flights.len() <= FLIGHT_ROW;
         if !sizes || self.capacities.iter().any(|&c| c > 255) {
             return None;
         }
         let limit = |l: u32| if l == 255 { None } else { Some(l) };
-        let flights: Vec<Flight> = self.flights.chunks(6).map(|v| Flight { number: v[0], due: v[1], rate: v[2], after: v[3], jump: v[4], limit: limit(v[5]) }).collect();
+        let flights: Vec<Flight> = self.flights.chunks(WIDTH).map(|v| Flight { number: v[0], due: v[1], rate: v[2], after: v[3], jump: v[4], limit: limit(v[5]) }).collect();
         let numbers: std::collections::HashSet<u32> = flights.iter().map(|f| f.number).collect();
         let good = flights.iter().all(|f| f.in_range(self.capacities.len() as u32)) && numbers.len() == flights.len();
         good.then(|| Day { capacities: self.capacities.clone(), flights })
@@ -156,7 +162,7 @@ pub fn plain_read(bytes: &[u8]) -> Result<Day, (u64, u64)> {
     loop {
         let (offset, line) = lines.next().ok_or((2, bytes.len() as u64))?;
         match (line == Some(NAMES[1]), day.capacities.len()) {
-            (true, 0) | (false, 96) => return Err((5, offset)),
+            (true, 0) | (false, PERIODS) => return Err((5, offset)),
             (true, _) => break,
             (false, before) => match line.and_then(period_of).ok_or((2, offset))? {
                 (period, capacity) if period as usize == before + 1 && capacity <= 255 => day.capacities.push(capacity),
@@ -165,7 +171,7 @@ pub fn plain_read(bytes: &[u8]) -> Result<Day, (u64, u64)> {
         }
     }
     for (offset, line) in lines {
-        if day.flights.len() == 128 {
+        if day.flights.len() == FLIGHTS {
             return Err((5, offset));
         }
         let flight = line.and_then(flight_of).ok_or((2, offset))?;

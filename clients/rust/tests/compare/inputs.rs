@@ -1,5 +1,5 @@
 //! Inputs from a seed: days, rows that are no day, lengths and places, hold and price rows, sheets.
-use crate::day::{Day, Flight, Rows, NAMES};
+use crate::day::{Day, Flight, Rows, FLIGHTS, NAMES, PERIODS, WIDTH};
 use crate::seed::Seed;
 use std::collections::BTreeSet;
 
@@ -96,8 +96,8 @@ pub fn day_of_size(seed: &Seed, periods: u64, count: u64) -> Day {
 /// A day whose plan costs as much as any can, 250,880,000, or a little less.
 pub fn heavy_day(seed: &Seed) -> Day {
     let dear = Style { due: (1, 1), rate: (10_000, 10_000), after: (0, 95), jump: (1_000_000, 1_000_000), limit: (96, 96), unlimited: 2 };
-    let mut day = Day { capacities: vec![0; 96], flights: Vec::new() };
-    for number in numbers(seed, 128) {
+    let mut day = Day { capacities: vec![0; PERIODS], flights: Vec::new() };
+    for number in numbers(seed, FLIGHTS as u64) {
         day.flights.push(Flight { number, due: 1, rate: 10_000, after: seed.edged(0, 95), jump: 1_000_000, limit: seed.pick(&[None, Some(96)]) });
     }
     for _ in 0..seed.below(4) {
@@ -115,7 +115,7 @@ pub fn heavy_day(seed: &Seed) -> Day {
 pub fn wide_day(seed: &Seed) -> Day {
     let wide = Style { due: (10, 96), rate: (10_000, 10_000), after: (10, 96), jump: (1_000_000, 1_000_000), limit: (10, 96), unlimited: 1000 };
     let flights = (0..128).map(|i| flight(seed, 9_999 - i, 96, &wide)).collect();
-    Day { capacities: (0..96).map(|_| seed.edged(100, 255)).collect(), flights }
+    Day { capacities: (0..PERIODS).map(|_| seed.edged(100, 255)).collect(), flights }
 }
 
 /// A day on which all periods but the last few are closed and flights are due early, so that limits near the day's length bind.
@@ -138,15 +138,15 @@ pub fn spoil(seed: &Seed, rows: &mut Rows) {
     if rows.flights.is_empty() {
         rows.flights = vec![1, 1, 1, 0, 0, 255];
     }
-    let (p, n) = (rows.capacities.len(), rows.flights.len() / 6);
-    let i = seed.place(n) * 6;
+    let (p, n) = (rows.capacities.len(), rows.flights.len() / WIDTH);
+    let i = seed.place(n) * WIDTH;
     match seed.below(13) {
         0 => rows.capacities.clear(),
         1 => rows.capacities.resize(seed.pick(&[97, 97, 98, 1000]), seed.edged(0, 255)),
         2 => rows.capacities[seed.place(p)] = seed.from(256),
-        3 => rows.flights.resize(i + seed.between(1, 5) as usize, 1),
+        3 => rows.flights.resize(i + seed.between(1, WIDTH as u64 - 1) as usize, 1),
         4 => add_flights(rows, seed.pick(&[129, 129, 130, 256])),
-        5 if n > 1 => rows.flights[i] = rows.flights[(i + 6 * seed.between(1, n as u64 - 1) as usize) % (6 * n)],
+        5 if n > 1 => rows.flights[i] = rows.flights[(i + WIDTH * seed.between(1, n as u64 - 1) as usize) % (WIDTH * n)],
         6 => rows.flights[i] = seed.pick(&[0, 10_000, seed.from(10_000)]),
         7 => rows.flights[i + 1] = seed.pick(&[0, p as u32 + 1, seed.from(p as u64 + 1)]),
         8 => rows.flights[i + 2] = seed.pick(&[0, 10_001, seed.from(10_001)]),
@@ -159,9 +159,9 @@ pub fn spoil(seed: &Seed, rows: &mut Rows) {
 
 /// Flights up to so many, good but for their count.
 fn add_flights(rows: &mut Rows, count: usize) {
-    let used: BTreeSet<u32> = rows.flights.iter().step_by(6).copied().collect();
+    let used: BTreeSet<u32> = rows.flights.iter().step_by(WIDTH).copied().collect();
     for number in (1..=9_999).rev().filter(|n| !used.contains(n)) {
-        if rows.flights.len() < count * 6 {
+        if rows.flights.len() < count * WIDTH {
             rows.flights.extend([number, 1, 1, 0, 0, 255]);
         }
     }
@@ -173,7 +173,7 @@ fn add_flights(rows: &mut Rows, count: usize) {
 pub fn length(seed: &Seed, exact: usize) -> usize {
     match seed.below(12) {
         0 => 0,
-        1 => exact.saturating_sub(seed.pick(&[1, 1, 6])),
+        1 => exact.saturating_sub(seed.pick(&[1, 1, WIDTH])),
         2 => exact + 1,
         3 => exact + seed.between(2, 1000) as usize,
         _ => exact,
@@ -297,7 +297,7 @@ const ODD_FIELDS: [&str; 36] = [
 ];
 
 /// For each field of a flight line: numbers just out of range, and a dash where none may be.
-const JUST_PAST: [[&str; 3]; 6] = [["0", "10000", "-"], ["0", "97", "-"], ["0", "10001", "-"], ["97", "98", "-"], ["1000001", "1000002", "-"], ["97", "255", "--"]];
+const JUST_PAST: [[&str; 3]; WIDTH] = [["0", "10000", "-"], ["0", "97", "-"], ["0", "10001", "-"], ["97", "98", "-"], ["1000001", "1000002", "-"], ["97", "255", "--"]];
 
 fn lines(bytes: &[u8]) -> Vec<Vec<u8>> {
     bytes.split_inclusive(|&b| b == 10).map(<[u8]>::to_vec).collect()
@@ -331,7 +331,7 @@ fn with_odd_field(seed: &Seed, line: &[u8]) -> Vec<u8> {
     match seed.below(14) {
         0 | 1 => fields[at] = seed.below(10u64.pow(seed.between(1, 8) as u32)).to_string().into_bytes(),
         2 | 3 => fields[at] = (number + (1 << seed.pick(&[0, 8, 8, 16, 20, 32]))).to_string().into_bytes(),
-        12 | 13 if fields.len() == 6 => fields[at] = seed.pick(&JUST_PAST[at]).as_bytes().to_vec(),
+        12 | 13 if fields.len() == WIDTH => fields[at] = seed.pick(&JUST_PAST[at]).as_bytes().to_vec(),
         4 | 5 => fields[at].insert(0, b'0'),
         6 => fields.insert(at + 1, seed.pick(&[&b""[..], b"1"]).to_vec()),
         7 => drop(fields.remove(at)),

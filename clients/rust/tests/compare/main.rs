@@ -8,7 +8,7 @@ mod planners;
 mod seed;
 
 use calls::{answer, Run};
-use day::{plain_read, Day, Rows};
+use day::{plain_read, Day, Rows, FLIGHT_ROW, PERIODS, WIDTH};
 use hold_desk_client::{period_card, quick_plan};
 use planners::{least_by_moves, least_by_trial, quick_by_sorting};
 use seed::days;
@@ -16,7 +16,7 @@ use seed::days;
 /// Every call for one pair of rows, each with lent rows of a length of its own; hold and price rows near those given, also where
 /// the rows are no day.
 fn every_call(run: &mut Run, rows: &Rows, holds: &[u32], prices: &[u32]) {
-    let (n, p) = (rows.flights.len() / 6, rows.capacities.len());
+    let (n, p) = (rows.flights.len() / WIDTH, rows.capacities.len());
     let lengths: Vec<usize> = [n, n, n, p].iter().map(|&exact| inputs::length(&run.seed, exact)).collect();
     run.quick(rows, lengths[0]);
     run.full(rows, lengths[1], lengths[3]);
@@ -164,10 +164,10 @@ fn sheets() {
             _ => inputs::day_of_size(&run.seed, some(1, 11), some(0, 5)),
         };
         let sheet = day.sheet();
-        run.read(sheet.as_bytes(), 96, 768);
+        run.read(sheet.as_bytes(), PERIODS, FLIGHT_ROW);
         let bytes = inputs::damaged(&run.seed, &sheet);
-        run.read(&bytes, 96, 768);
-        let lengths = (inputs::length(&run.seed, 96), inputs::length(&run.seed, 768));
+        run.read(&bytes, PERIODS, FLIGHT_ROW);
+        let lengths = (inputs::length(&run.seed, PERIODS), inputs::length(&run.seed, FLIGHT_ROW));
         run.read(&bytes, lengths.0, lengths.1);
     }
     must_reach(&run, 100, &READER);

@@ -63,7 +63,10 @@ shared-slice-read-t26 c = search needs
 
 returns : tie.Need-returns
 unfolding flightAt
-returns c = let e : c .before .before .before .before .before .before .args .i * width + 0 ≡ c .before .before .before .before .before .before .args .i * width = omega arith in rw e
+returns c =
+    let at-shared-slice-known = c .before .before .before .before .before in
+    let at-start = at-shared-slice-known .before in
+    let e : at-start .args .i * width + 0 ≡ at-start .args .i * width = omega arith in rw e
 
 pub flight-at-spec : {M : Type 1} → statement M
 flight-at-spec =

@@ -3,8 +3,6 @@ use mathlib.Core.Path.{refl}
 use Rattle.day.specs.Day.{flightCount}
 use Rattle.day.proofs.flight_count.Statement.{statement}
 use Rattle.day.proofs.flight_count.Tie as tie
-use Rattle.day.proofs.flight_count.Reads as reads
-use Rattle.day.proofs.flight_count.Lts as lts
 
 returns : tie.Need-returns
 unfolding flightCount

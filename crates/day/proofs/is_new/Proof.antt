@@ -25,7 +25,10 @@ entry-of-requires : tie.Need-entry-of-requires Inv-loop μ-loop
 entry-of-requires c κs = search needs
 
 loop-holds : tie.Need-loop-holds Inv-loop μ-loop
-loop-holds c = walk-start (c .before .before .before .before .before .before .before .pre .0) (c .before .before .before .before .before .before .before .pre .1) (c .before .before .before .number-of .ensures .0) (c .before .before .chain-of .ensures .0) (c .entry-of .ensures)
+loop-holds c =
+    let at-number-of = c .before .before .before in
+    let at-start = at-number-of .before .before .before .before in
+    walk-start (at-start .pre .0) (at-start .pre .1) (at-number-of .number-of .ensures .0) (c .before .before .chain-of .ensures .0) (c .entry-of .ensures)
 
 sub-at : tie.Need-sub-at Inv-loop μ-loop
 sub-at c = search needs

@@ -42,10 +42,16 @@ both-requires c κs = search needs
 returns-4 : tie.Need-returns-4
 unfolding flightCount
 returns-4 c =
-    let a = c .before .before .before .before .before .before .before .before .before .before .args in
+    let at-if3 = c .before .before .before in
+    let at-if2 = at-if3 .before in
+    let at-if1 = at-if2 .before in
+    let at-is-inside = at-if1 .before in
+    let at-flight-count = at-is-inside .before in
+    let at-start = at-flight-count .before .before .before in
+    let a = at-start .args in
     let d = day (a .capacities .now) (a .flights .now) in
-    let n = c .before .before .before .before .before .before .before .flight-count .ensures in
-    valid-made d (sym (c .before .before .before .before .before .before .is-inside .ensures) ∙ not-false _ (c .before .before .before .before .before .if1 .left)) n (c .before .before .before .before .if2 .left) (c .before .before .before .if3 .left) (c .before .before .capacities-fit .ensures) (c .before .flights-fit .ensures) (c .both .ensures)
+    let n = at-flight-count .flight-count .ensures in
+    valid-made d (sym (at-is-inside .is-inside .ensures) ∙ not-false _ (at-if1 .if1 .left)) n (at-if2 .if2 .left) (at-if3 .if3 .left) (c .before .before .capacities-fit .ensures) (c .before .flights-fit .ensures) (c .both .ensures)
 
 pub is-valid-spec : {M : Type 1} → statement M
 is-valid-spec =

@@ -52,7 +52,11 @@ loop-less : tie.Need-loop-less Inv-loop μ-loop
 loop-less c = search needs
 
 loop-again : tie.Need-loop-again Inv-loop μ-loop
-loop-again c = pass-next (c .before .before .before .before .before .before .before .loop .inv) (c .before .before .before .before .before .before .loop-test .taken) (c .before .chain-of .ensures .0) (c .before .chain-of .ensures .1) (c .before .before .before .is-new .ensures) (not-false _ (c .before .before .if1 .left))
+loop-again c =
+    let at-is-new = c .before .before .before in
+    let at-loop-test = at-is-new .before .before .before in
+    let at-loop = at-loop-test .before in
+    pass-next (at-loop .loop .inv) (at-loop-test .loop-test .taken) (c .before .chain-of .ensures .0) (c .before .chain-of .ensures .1) (at-is-new .is-new .ensures) (not-false _ (c .before .before .if1 .left))
 
 same-length-3 : tie.Need-same-length-3 Inv-loop μ-loop
 same-length-3 c = search needs

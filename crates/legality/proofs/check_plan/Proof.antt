@@ -29,7 +29,12 @@ total-of-requires : tie.Need-total-of-requires
 total-of-requires c κs = can-sum _ (sym (c .before .before .before .before .before .is-valid .ensures) ∙ not-false _ (c .before .before .before .before .if1 .left)) (c .before .before .if2 .left ∙ c .before .before .before .flight-count .ensures)
 
 returns-4 : tie.Need-returns-4
-returns-4 c = check-legal _ _ (sym (c .before .before .before .before .before .before .is-valid .ensures) ∙ not-false _ (c .before .before .before .before .before .if1 .left)) (c .before .before .before .before .flight-count .ensures) (c .before .before .before .if2 .left) (c .before .before .first-break .ensures) (c .before .if3 .left) (c .total-of .ensures)
+returns-4 c =
+    let at-if2 = c .before .before .before in
+    let at-flight-count = at-if2 .before in
+    let at-if1 = at-flight-count .before in
+    let at-is-valid = at-if1 .before in
+    check-legal _ _ (sym (at-is-valid .is-valid .ensures) ∙ not-false _ (at-if1 .if1 .left)) (at-flight-count .flight-count .ensures) (at-if2 .if2 .left) (c .before .before .first-break .ensures) (c .before .if3 .left) (c .total-of .ensures)
 
 pub check-plan-spec : {M : Type 1} → statement M
 check-plan-spec =

@@ -56,13 +56,25 @@ same-length-2 : tie.Need-same-length-2 Inv-loop μ-loop
 same-length-2 c = search needs
 
 returns-2 : tie.Need-returns-2 Inv-loop μ-loop
-returns-2 c = walk-over (c .before .before .before .before .before .before .before .loop .inv) (c .before .before .before .before .before .before .loop-test .taken) (c .before .before .before .before .before .land-of .ensures .0) (sym (c .before .before .before .before .is-too-long .ensures) ∙ c .before .before .before .if1 .left) (sym (c .before .is-over .ensures) ∙ c .if2 .taken)
+returns-2 c =
+    let at-if1 = c .before .before .before in
+    let at-is-too-long = at-if1 .before in
+    let at-land-of = at-is-too-long .before in
+    let at-loop-test = at-land-of .before in
+    let at-loop = at-loop-test .before in
+    walk-over (at-loop .loop .inv) (at-loop-test .loop-test .taken) (at-land-of .land-of .ensures .0) (sym (at-is-too-long .is-too-long .ensures) ∙ at-if1 .if1 .left) (sym (c .before .is-over .ensures) ∙ c .if2 .taken)
 
 mul-loads : tie.Need-mul-loads Inv-loop μ-loop
 mul-loads c = search needs
 
 slice-write-loads : tie.Need-slice-write-loads Inv-loop μ-loop
-slice-write-loads c = omega (arith, walk-in (c .before .before .before .before .before .before .before .loop .inv) (c .before .before .before .before .before .before .loop-test .taken) (c .before .before .before .before .before .land-of .ensures .0) (sym (c .before .before .before .before .is-too-long .ensures) ∙ c .before .before .before .if1 .left), c .before .before .before .before .before .before .before .loop .inv .sizes)
+slice-write-loads c =
+    let at-if1 = c .before .before .before in
+    let at-is-too-long = at-if1 .before in
+    let at-land-of = at-is-too-long .before in
+    let at-loop-test = at-land-of .before in
+    let at-loop = at-loop-test .before in
+    omega (arith, walk-in (at-loop .loop .inv) (at-loop-test .loop-test .taken) (at-land-of .land-of .ensures .0) (sym (at-is-too-long .is-too-long .ensures) ∙ at-if1 .if1 .left), at-loop .loop .inv .sizes)
 
 add-place : tie.Need-add-place Inv-loop μ-loop
 add-place c = search needs
@@ -71,7 +83,13 @@ loop-less : tie.Need-loop-less Inv-loop μ-loop
 loop-less c = search needs
 
 loop-again : tie.Need-loop-again Inv-loop μ-loop
-loop-again c = walk-next (c .before .before .before .before .before .before .before .loop .inv) (c .before .before .before .before .before .before .loop-test .taken) (c .before .before .before .before .before .land-of .ensures .0) (sym (c .before .before .before .before .is-too-long .ensures) ∙ c .before .before .before .if1 .left) (sym (c .before .is-over .ensures) ∙ c .if2 .left)
+loop-again c =
+    let at-if1 = c .before .before .before in
+    let at-is-too-long = at-if1 .before in
+    let at-land-of = at-is-too-long .before in
+    let at-loop-test = at-land-of .before in
+    let at-loop = at-loop-test .before in
+    walk-next (at-loop .loop .inv) (at-loop-test .loop-test .taken) (at-land-of .land-of .ensures .0) (sym (at-is-too-long .is-too-long .ensures) ∙ at-if1 .if1 .left) (sym (c .before .is-over .ensures) ∙ c .if2 .left)
 
 same-length-3 : tie.Need-same-length-3 Inv-loop μ-loop
 same-length-3 c = search needs

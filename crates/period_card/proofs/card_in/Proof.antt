@@ -33,7 +33,12 @@ same-length : tie.Need-same-length
 same-length c = search needs
 
 returns : tie.Need-returns
-returns c = let a = c .before .before .before .before .before .before .before .before .before .before .before .before .before .before in card-is _ (a .pre .0 .0) (a .pre .0 .2) (a .pre .0 .3) (c .before .before .before .before .before .before .before .before .plan-to .ensures) (c .before .before .before .before .marks-of .ensures)
+returns c =
+    let at-marks-of = c .before .before .before .before in
+    let at-plan-to = at-marks-of .before .before .before .before in
+    let at-shared-slice-known = at-plan-to .before .before .before .before .before in
+    let at-start = at-shared-slice-known .before in
+    let a = at-start in card-is _ (a .pre .0 .0) (a .pre .0 .2) (a .pre .0 .3) (at-plan-to .plan-to .ensures) (at-marks-of .marks-of .ensures)
 
 pub card-in-spec : {M : Type 1} → statement M
 card-in-spec =

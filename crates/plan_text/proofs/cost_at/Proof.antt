@@ -1,5 +1,4 @@
 -- The cost of the hold, by its accessor.
-use Prim.Native.Nat.{_-_}
 use native.Mathlib.Omega.{arith}
 use mathlib.Core.Path.{refl, _∙_}
 use borrow.Author.Needs.{needs}
@@ -16,7 +15,7 @@ wide-requires : tie.Need-wide-requires
 wide-requires c κs = search needs
 
 cost-of-requires : tie.Need-cost-of-requires
-cost-of-requires c κs = (c .before .before .before .before .before .pre .1, omega (arith, c .wide .ensures, c .before .shared-slice-known4 .given (c .before .before .before .before .before .args .i)))
+cost-of-requires c κs = (c .before .before .before .before .pre .1, omega (arith, c .wide .ensures, c .before .shared-slice-known3 .given (c .before .before .before .before .args .i)))
 
 returns : tie.Need-returns
 returns c = c .cost-of .ensures ∙ rw (c .before .wide .ensures) refl

@@ -1,7 +1,5 @@
 -- The text's length is that of its parts.
 use Rattle.plan_text.proofs.Placing.{length-plan}
-use Rattle.day.specs.Day.{day}
-use Prim.Native.Nat.{_-_}
 use native.Mathlib.Omega.{arith}
 use borrow.Author.Needs.{needs}
 use Rattle.plan_text.proofs.plan_len.Statement.{statement}
@@ -21,10 +19,10 @@ add-result-2 c = search needs
 
 returns : tie.Need-returns
 returns c =
-    let a = c .before .before .before .before .before .args in
-    let d = day (a .capacities .now) (a .flights .now) in
+    let a = c .before .before .before .before .args in
+    let f = a .flights .now in
     let h = a .holds .now in
-    omega (arith, length-plan d h (c .before .before .before .before .before .pre .0) (c .before .before .before .before .before .pre .1), c .before .plan-lines-len .ensures .0, c .number-len .ensures .1)
+    omega (arith, length-plan f h (c .before .before .before .before .pre .0) (c .before .before .before .before .pre .1), c .before .plan-lines-len .ensures .0, c .number-len .ensures .1)
 
 pub plan-len-spec : {M : Type 1} → statement M
 plan-len-spec =

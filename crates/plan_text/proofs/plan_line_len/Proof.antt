@@ -1,14 +1,13 @@
 -- The line's length, by its definition.
 use Rattle.plan_text.proofs.Placing.{line-is}
 use Rattle.text.specs.Digits.{line}
-use Rattle.day.specs.Day.{day, number, due, cost, hold, land}
 use Rattle.plan_text.specs.PlanText.{planLine}
-use Prim.Native.Nat.{_-_}
 use native.Mathlib.Omega.{arith}
 use mathlib.Core.Path.{_≡_, ap, sym, _∙_}
 use mathlib.Core.List.{[], _∷_}
 use lib.ListN.{length}
 use borrow.Author.Needs.{needs}
+use Rattle.day.specs.Day.{column, flightAt, holdCost, hold, landOf}
 use Rattle.plan_text.proofs.plan_line_len.Statement.{statement}
 use Rattle.plan_text.proofs.plan_line_len.Tie as tie
 
@@ -26,12 +25,14 @@ line-len-requires c κs = search needs
 
 returns : tie.Need-returns
 returns c =
-    let a = c .before .before .before .before .before .before .before .args in
-    let d = day (a .capacities .now) (a .flights .now) in
+    let at-values-of = c .before .before .before in
+    let at-start = at-values-of .before .before .before in
+    let a = at-start .args in
+    let f = a .flights .now in
     let h = a .holds .now in
-    let v : c .before .before .before .values-of .result ≡ number d (a .i) ∷ due d (a .i) ∷ land d h (a .i) ∷ hold h (a .i) ∷ [] = c .before .before .before .values-of .ensures in
-    let q : c .before .cost-at .result ≡ cost d (a .i) (hold h (a .i)) = c .before .cost-at .ensures in
-    let e : line (c .before .before .before .values-of .result) (c .before .cost-at .result) ≡ planLine d h (a .i) = rw (v, q) (sym (line-is d h (a .i))) in
+    let v : at-values-of .values-of .result ≡ column 0 f (a .i) ∷ column 1 f (a .i) ∷ landOf f h (a .i) ∷ hold h (a .i) ∷ [] = at-values-of .values-of .ensures in
+    let q : c .before .cost-at .result ≡ holdCost (flightAt f (a .i)) (hold h (a .i)) = c .before .cost-at .ensures in
+    let e : line (at-values-of .values-of .result) (c .before .cost-at .result) ≡ planLine f h (a .i) = rw (v, q) (sym (line-is f h (a .i))) in
     let s = rw (v, q) at (c .line-len .ensures) in
     (c .line-len .ensures .0 ∙ ap length e, omega (arith, s .1))
 

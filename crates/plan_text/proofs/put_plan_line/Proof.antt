@@ -1,17 +1,25 @@
--- The part lent on is the rest of the buffer.
-use Rattle.text.proofs.Writing.{lent}
-use Rattle.plan_text.proofs.Placing.{line-is}
-use Rattle.text.specs.Digits.{line}
-use Rattle.day.specs.Day.{day, number, due, cost, hold, land}
-use Rattle.plan_text.specs.PlanText.{planLine}
-use Prim.Native.Nat.{_-_}
+-- A line of five numbers. Assumes nothing.
 use native.Mathlib.Omega.{arith}
-use mathlib.Core.Path.{_≡_, ap, sym}
+use Rattle.day.specs.Day.{column, flightAt, holdCost, hold, landOf}
 use mathlib.Core.List.{[], _∷_}
-use lib.ListN.{length, length-take, length-drop}
+use mathlib.Core.Path.{_≡_, sym}
+use Rattle.plan_text.specs.PlanText.{planLine}
+use Rattle.text.specs.Digits.{line}
+use Rattle.plan_text.proofs.Placing.{line-is}
 use borrow.Author.Needs.{needs}
 use Rattle.plan_text.proofs.put_plan_line.Statement.{statement}
 use Rattle.plan_text.proofs.put_plan_line.Tie as tie
+
+-- what is written, seen from where its numbers are known
+line-made : (s : tie.After-cost-at) → line (s .before .values-of .result) (s .cost-at .result)
+    ≡ planLine (s .before .before .before .before .before .args .flights .now) (s .before .before .before .before .before .args .holds .now) (s .before .before .before .before .before .args .i)
+line-made s =
+    let a = s .before .before .before .before .before .args in
+    let f = a .flights .now in
+    let h = a .holds .now in
+    let v : s .before .values-of .result ≡ column 0 f (a .i) ∷ column 1 f (a .i) ∷ landOf f h (a .i) ∷ hold h (a .i) ∷ [] = s .before .values-of .ensures in
+    let q : s .cost-at .result ≡ holdCost (flightAt f (a .i)) (hold h (a .i)) = s .cost-at .ensures in
+    rw (v, q) (sym (line-is f h (a .i)))
 
 values-of-requires : tie.Need-values-of-requires
 values-of-requires c κs = search needs
@@ -19,50 +27,21 @@ values-of-requires c κs = search needs
 cost-at-requires : tie.Need-cost-at-requires
 cost-at-requires c κs = search needs
 
-sub-put-line : tie.Need-sub-put-line
-sub-put-line c = search needs
+slice-aggregate-put-line-at : tie.Need-slice-aggregate-put-line-at
+slice-aggregate-put-line-at c = search needs
 
-part-put-line-start : tie.Need-part-put-line-start
-part-put-line-start c = search needs
-
-part-put-line-end : tie.Need-part-put-line-end
-part-put-line-end c = search needs
-
-slice-aggregate-put-line : tie.Need-slice-aggregate-put-line
-slice-aggregate-put-line c = search needs
-
-put-line-requires : tie.Need-put-line-requires
-put-line-requires c κs =
-    let a = c .before .before .before .before .before .before .before .before .args in
-    let d = day (a .capacities .now) (a .flights .now) in
-    let h = a .holds .now in
-    let v : c .before .before .before .values-of .result ≡ number d (a .i) ∷ due d (a .i) ∷ land d h (a .i) ∷ hold h (a .i) ∷ [] = c .before .before .before .values-of .ensures in
-    let q : c .before .before .cost-at .result ≡ cost d (a .i) (hold h (a .i)) = c .before .before .cost-at .ensures in
-    let e : line (c .before .before .before .values-of .result) (c .before .before .cost-at .result) ≡ planLine d h (a .i) = rw (v, q) (sym (line-is d h (a .i))) in
-    rw e (simp (length-take, length-drop) (omega (arith, c .before .before .before .before .before .before .before .before .pre .2)))
-
-add-result : tie.Need-add-result
-add-result c =
-    let a = c .before .before .before .before .before .before .before .before .before .before .before .args in
-    let d = day (a .capacities .now) (a .flights .now) in
-    let h = a .holds .now in
-    let v : c .before .before .before .before .before .before .values-of .result ≡ number d (a .i) ∷ due d (a .i) ∷ land d h (a .i) ∷ hold h (a .i) ∷ [] = c .before .before .before .before .before .before .values-of .ensures in
-    let q : c .before .before .before .before .before .cost-at .result ≡ cost d (a .i) (hold h (a .i)) = c .before .before .before .before .before .cost-at .ensures in
-    let e : line (c .before .before .before .before .before .before .values-of .result) (c .before .before .before .before .before .cost-at .result) ≡ planLine d h (a .i) = rw (v, q) (sym (line-is d h (a .i))) in
-    omega (arith, c .before .before .put-line .ensures .place, ap length e, c .before .before .before .before .before .before .before .before .before .before .before .pre .2)
+put-line-at-requires : tie.Need-put-line-at-requires
+put-line-at-requires c κs =
+    let s = c .before .before in
+    rw (line-made s) (omega (arith, s .before .before .before .before .before .pre .2))
 
 same-length : tie.Need-same-length
 same-length c = search needs
 
 returns : tie.Need-returns
 returns c =
-    let a = c .before .before .before .before .before .before .before .before .before .before .before .args in
-    let d = day (a .capacities .now) (a .flights .now) in
-    let h = a .holds .now in
-    let v : c .before .before .before .before .before .before .values-of .result ≡ number d (a .i) ∷ due d (a .i) ∷ land d h (a .i) ∷ hold h (a .i) ∷ [] = c .before .before .before .before .before .before .values-of .ensures in
-    let q : c .before .before .before .before .before .cost-at .result ≡ cost d (a .i) (hold h (a .i)) = c .before .before .before .before .before .cost-at .ensures in
-    let e : line (c .before .before .before .before .before .before .values-of .result) (c .before .before .before .before .before .cost-at .result) ≡ planLine d h (a .i) = rw (v, q) (sym (line-is d h (a .i))) in
-    lent (a .out .now) (planLine d h (a .i)) (a .at) _ _ (c .before .before .before .before .before .before .before .before .before .before .before .pre .2) (rw e at (c .before .before .put-line .ensures))
+    let l = c .before .before in
+    rw (line-made (l .before .before .before)) at (l .put-line-at .ensures)
 
 pub put-plan-line-spec : {M : Type 1} → statement M
 put-plan-line-spec =
@@ -70,11 +49,7 @@ put-plan-line-spec =
     (tie.spec
     values-of-requires
     cost-at-requires
-    sub-put-line
-    part-put-line-start
-    part-put-line-end
-    slice-aggregate-put-line
-    put-line-requires
-    add-result
+    slice-aggregate-put-line-at
+    put-line-at-requires
     same-length
     returns)

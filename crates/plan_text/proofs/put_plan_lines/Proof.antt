@@ -2,7 +2,6 @@
 use Rattle.text.proofs.Writing.{then, put-none, put-length}
 use Rattle.plan_text.proofs.Placing.{lines-part, lines-room, no-lines}
 use Rattle.text.specs.Writing.{Put}
-use Rattle.day.specs.Day.{day}
 use Rattle.plan_text.specs.PlanText.{planLines}
 use borrow.Author.Needs.{needs}
 use Prim.Native.Nat.{_≤_, _<_, _-_}
@@ -13,26 +12,28 @@ use Rattle.plan_text.proofs.put_plan_lines.Statement.{statement}
 use Rattle.plan_text.proofs.put_plan_lines.Tie as tie
 
 abbrev Inv-loop : tie.InvT-loop
-Inv-loop out₀ start capacities flights holds at₀ i₀ out at i = (i ≤ length holds) × (length out ≡ length out₀) × Put out₀ start (planLines (day capacities flights) holds i 0) at out
+Inv-loop out₀ start flights holds at₀ i₀ out at i = (i ≤ length holds) × (length out ≡ length out₀) × Put out₀ start (planLines flights holds i 0) at out
 
 abbrev μ-loop : tie.MeasureT-loop
-μ-loop out₀ start capacities flights holds at₀ i₀ out at i = length holds - i
+μ-loop out₀ start flights holds at₀ i₀ out at i = length holds - i
 
 loop-holds : tie.Need-loop-holds Inv-loop μ-loop
 loop-holds c =
-    let a = c .before .before .before .before .args in
-    let d = day (a .capacities .now) (a .flights .now) in
+    let a = c .before .before .before .args in
+    let f = a .flights .now in
     let h = a .holds .now in
-    (search needs, refl, rw (no-lines d h) (put-none (a .out .now) (a .start) (omega (arith, c .before .before .before .before .pre .1))))
+    (search needs, refl, rw (no-lines f h) (put-none (a .out .now) (a .start) (omega (arith, c .before .before .before .pre .1))))
 
 put-plan-line-requires : tie.Need-put-plan-line-requires Inv-loop μ-loop
 put-plan-line-requires c κs =
-    let a = c .before .before .before .before .before .before .before .args in
-    let d = day (a .capacities .now) (a .flights .now) in
+    let at-slice-known = c .before .before .before .before .before in
+    let at-start = at-slice-known .before in
+    let a = at-start .args in
+    let f = a .flights .now in
     let h = a .holds .now in
     let l = c .before .before .loop in
     let t : l .i < length h = c .before .loop-test .taken in
-    (t, omega (arith, c .before .before .before .before .before .before .before .pre .0), omega (arith, lines-room d h (l .i) (length h) t, l .inv .2 .place, l .inv .1, c .before .before .before .before .before .before .before .pre .1))
+    (t, omega (arith, at-start .pre .0), omega (arith, lines-room f h (l .i) (length h) t, l .inv .2 .place, l .inv .1, at-start .pre .1))
 
 add-i : tie.Need-add-i Inv-loop μ-loop
 add-i c = search needs
@@ -42,22 +43,25 @@ loop-less c = search needs
 
 loop-again : tie.Need-loop-again Inv-loop μ-loop
 loop-again c =
-    let a = c .before .before .before .before .before .before .before .before .before .before .args in
-    let d = day (a .capacities .now) (a .flights .now) in
+    let at-loop-test = c .before .before .before .before in
+    let at-loop = at-loop-test .before in
+    let at-start = at-loop .before .before .before .before in
+    let a = at-start .args in
+    let f = a .flights .now in
     let h = a .holds .now in
-    let l = c .before .before .before .before .before .loop in
-    let t : l .i < length h = c .before .before .before .before .loop-test .taken in
-    let p = lines-room d h (l .i) (length h) t in
-    let q = then (omega (arith, p, c .before .before .before .before .before .before .before .before .before .before .pre .1)) (l .inv .2) (c .before .before .put-plan-line .ensures) in
-    (omega arith, put-length (simp length-append (omega (arith, p, c .before .before .before .before .before .before .before .before .before .before .pre .1))) q, rw (lines-part d h (l .i)) q)
+    let l = at-loop .loop in
+    let t : l .i < length h = at-loop-test .loop-test .taken in
+    let p = lines-room f h (l .i) (length h) t in
+    let q = then (omega (arith, p, at-start .pre .1)) (l .inv .2) (c .before .before .put-plan-line .ensures) in
+    (omega arith, put-length (simp length-append (omega (arith, p, at-start .pre .1))) q, rw (lines-part f h (l .i)) q)
 
 same-length : tie.Need-same-length Inv-loop μ-loop
 same-length c = search needs
 
 returns : tie.Need-returns Inv-loop μ-loop
 returns c =
-    let a = c .before .before .before .before .before .before .args in
-    let d = day (a .capacities .now) (a .flights .now) in
+    let a = c .before .before .before .before .before .args in
+    let f = a .flights .now in
     let h = a .holds .now in
     let l = c .before .loop in
     let e : l .i ≡ length h = omega arith in

@@ -1,7 +1,6 @@
 -- The constant's bytes are the definition's.
 use Rattle.plan_text.proofs.Placing.{length-plan-names}
 use Rattle.plan_text.specs.PlanText.{planNames}
-use Prim.Native.Nat.{_-_}
 use native.Mathlib.Omega.{arith}
 use borrow.Author.Needs.{needs}
 use Rattle.plan_text.proofs.put_plan_names.Statement.{statement}

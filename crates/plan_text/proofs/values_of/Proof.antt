@@ -1,5 +1,4 @@
 -- Each accessor gives its number.
-use Prim.Native.Nat.{_-_}
 use mathlib.Core.Path.{refl}
 use borrow.Author.Needs.{needs}
 use Rattle.plan_text.proofs.values_of.Statement.{statement}

@@ -1,3 +1,4 @@
+use Rattle.day.proofs.Valid.{valid-means}
 -- The periods passed are full or have no price.
 -- Assumes nothing.
 use borrow.Author.Needs.{needs}
@@ -25,19 +26,32 @@ of-period-requires : tie.Need-of-period-requires Inv-loop μ-loop
 of-period-requires c κs = search needs
 
 landings-of-requires : tie.Need-landings-of-requires Inv-loop μ-loop
-landings-of-requires c κs = search needs
+landings-of-requires c κs =
+    let at-shared-slice-known3 = c .before .before .before .before .before in
+    let at-start = at-shared-slice-known3 .before .before .before in
+    let s = at-start in omega (arith, s .pre .1, valid-means (s .pre .0) .whole)
 
 of-period-requires-2 : tie.Need-of-period-requires-2 Inv-loop μ-loop
 of-period-requires-2 c κs = search needs
 
 returns : tie.Need-returns Inv-loop μ-loop
-returns c = say-no (unsold-not (c .before .before .before .before .before .before .loop .inv .0) (c .before .before .before .before .before .loop-test .taken) (c .before .before .before .before .of-period .ensures .0) (c .before .before .before .if1 .taken) (c .before .before .landings-of .ensures) (c .before .of-period2 .ensures .0) (c .if2 .taken))
+returns c =
+    let at-if1 = c .before .before .before in
+    let at-of-period = at-if1 .before in
+    let at-loop-test = at-of-period .before in
+    let at-loop = at-loop-test .before in
+    let at-start = at-loop .before .before .before .before .before in
+    say-no (unsold-not (at-loop .loop .inv .0) (at-loop-test .loop-test .taken) (at-of-period .of-period .ensures .0) (at-if1 .if1 .taken) (at-start .pre .1) (c .before .before .landings-of .ensures) (c .before .of-period2 .ensures .0) (c .if2 .taken))
 
 loop-less : tie.Need-loop-less Inv-loop μ-loop
 loop-less c = search needs
 
 loop-again : tie.Need-loop-again Inv-loop μ-loop
-loop-again c = (omega arith, omega arith, unsold-full (c .before .before .before .before .before .before .loop .inv .2) (c .before .before .landings-of .ensures) (c .before .of-period2 .ensures .0) (c .if2 .left))
+loop-again c =
+    let at-loop-test = c .before .before .before .before .before in
+    let at-loop = at-loop-test .before in
+    let at-start = at-loop .before .before .before .before .before in
+    (omega arith, omega arith, unsold-full (at-loop .loop .inv .2) (at-start .pre .1) (c .before .before .landings-of .ensures) (c .before .of-period2 .ensures .0) (c .if2 .left))
 
 loop-less-2 : tie.Need-loop-less-2 Inv-loop μ-loop
 loop-less-2 c = search needs

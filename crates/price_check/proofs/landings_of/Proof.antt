@@ -4,19 +4,18 @@ use borrow.Author.Needs.{needs}
 use Prim.Native.Nat.{_-_}
 use native.Mathlib.Omega.{arith}
 use lib.ListN.{length}
-use Rattle.day.specs.Day.{day}
 use Rattle.price_check.proofs.Laws.{Counted, counted-start, counted-place, counted-on, counted-off, counted-end}
 use Rattle.price_check.proofs.landings_of.Statement.{statement}
 use Rattle.price_check.proofs.landings_of.Tie as tie
 
 abbrev Inv-loop : tie.InvT-loop
-Inv-loop capacities flights holds k count₀ i₀ count i = Counted (day capacities flights) holds k count i
+Inv-loop flights holds k count₀ i₀ count i = Counted flights holds k count i
 
 abbrev μ-loop : tie.MeasureT-loop
-μ-loop capacities flights holds k count₀ i₀ count i = length holds - i
+μ-loop flights holds k count₀ i₀ count i = length holds - i
 
 loop-holds : tie.Need-loop-holds Inv-loop μ-loop
-loop-holds c = counted-start (c .before .before .before .pre .0) (c .before .before .before .pre .1)
+loop-holds c = counted-start (c .before .before .pre)
 
 add-i : tie.Need-add-i Inv-loop μ-loop
 add-i c = search needs

@@ -35,13 +35,23 @@ loop-less-2 : tie.Need-loop-less-2 Inv-loop μ-loop
 loop-less-2 c = search needs
 
 loop-again-2 : tie.Need-loop-again-2 Inv-loop μ-loop
-loop-again-2 c = scan-better (c .before .before .before .before .before .before .loop .inv) (c .before .before .before .before .before .loop-test .taken) (c .before .before .before .before .is-waiting .ensures) (c .before .goes-before .ensures) (c .before .before .before .if1 .taken) (c .before .before .if2 .left) (c .if3 .taken)
+loop-again-2 c =
+    let at-if1 = c .before .before .before in
+    let at-is-waiting = at-if1 .before in
+    let at-loop-test = at-is-waiting .before in
+    let at-loop = at-loop-test .before in
+    scan-better (at-loop .loop .inv) (at-loop-test .loop-test .taken) (at-is-waiting .is-waiting .ensures) (c .before .goes-before .ensures) (at-if1 .if1 .taken) (c .before .before .if2 .left) (c .if3 .taken)
 
 loop-less-3 : tie.Need-loop-less-3 Inv-loop μ-loop
 loop-less-3 c = search needs
 
 loop-again-3 : tie.Need-loop-again-3 Inv-loop μ-loop
-loop-again-3 c = scan-worse (c .before .before .before .before .before .before .loop .inv) (c .before .before .before .before .before .loop-test .taken) (c .before .before .before .before .is-waiting .ensures) (c .before .goes-before .ensures) (c .before .before .before .if1 .taken) (c .before .before .if2 .left) (c .if3 .left)
+loop-again-3 c =
+    let at-if1 = c .before .before .before in
+    let at-is-waiting = at-if1 .before in
+    let at-loop-test = at-is-waiting .before in
+    let at-loop = at-loop-test .before in
+    scan-worse (at-loop .loop .inv) (at-loop-test .loop-test .taken) (at-is-waiting .is-waiting .ensures) (c .before .goes-before .ensures) (at-if1 .if1 .taken) (c .before .before .if2 .left) (c .if3 .left)
 
 loop-less-4 : tie.Need-loop-less-4 Inv-loop μ-loop
 loop-less-4 c = search needs

@@ -22,7 +22,10 @@ wide-requires : tie.Need-wide-requires
 wide-requires c κs = search needs
 
 add-result : tie.Need-add-result
-add-result c = omega (arith, c .wide .ensures, c .before .before .before .due-of .ensures .1, c .before .shared-slice-known4 .given (c .before .before .before .before .before .before .before .args .i))
+add-result c =
+    let at-due-of = c .before .before .before in
+    let at-start = at-due-of .before .before .before .before in
+    omega (arith, c .wide .ensures, at-due-of .due-of .ensures .1, c .before .shared-slice-known4 .given (at-start .args .i))
 
 add-result-2 : tie.Need-add-result-2
 add-result-2 c = search needs

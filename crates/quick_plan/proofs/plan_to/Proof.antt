@@ -19,7 +19,10 @@ start-row-requires : tie.Need-start-row-requires Inv-loop μ-loop
 start-row-requires c κs = search needs
 
 loop-holds : tie.Need-loop-holds Inv-loop μ-loop
-loop-holds c = (omega arith, planned-start (c .before .before .before .before .before .before .before .pre .0 .0) (c .before .before .start-row .kept .1 .1 .0 ∙ c .before .before .before .before .before .before .before .pre .0 .1) (c .before .before .start-row .ensures))
+loop-holds c =
+    let at-shared-slice-known2 = c .before .before .before .before .before in
+    let at-start = at-shared-slice-known2 .before .before in
+    (omega arith, planned-start (at-start .pre .0 .0) (c .before .before .start-row .kept .1 .1 .0 ∙ at-start .pre .0 .1) (c .before .before .start-row .ensures))
 
 add-j : tie.Need-add-j Inv-loop μ-loop
 add-j c = search needs
@@ -34,10 +37,16 @@ loop-less : tie.Need-loop-less Inv-loop μ-loop
 loop-less c = search needs
 
 loop-again : tie.Need-loop-again Inv-loop μ-loop
-loop-again c = (omega arith, planned-next (c .before .before .before .before .before .before .loop .inv .1) (c .before .before .before .of-period .ensures .0) (c .before .before .land-period .kept .1 .1 .0) (c .before .before .land-period .ensures))
+loop-again c =
+    let at-of-period = c .before .before .before in
+    let at-loop = at-of-period .before .before .before in
+    (omega arith, planned-next (at-loop .loop .inv .1) (at-of-period .of-period .ensures .0) (c .before .before .land-period .kept .1 .1 .0) (c .before .before .land-period .ensures))
 
 same-length : tie.Need-same-length Inv-loop μ-loop
-same-length c = c .before .loop .inv .1 .rows ∙ sym (c .before .before .before .before .before .before .before .before .before .pre .0 .1)
+same-length c =
+    let at-start-row-arg = c .before .before .before .before .before in
+    let at-start = at-start-row-arg .before .before .before .before in
+    c .before .loop .inv .1 .rows ∙ sym (at-start .pre .0 .1)
 
 returns : tie.Need-returns Inv-loop μ-loop
 returns c = planned-end (c .before .loop .inv .1) (c .before .loop .inv .0) (c .loop-test .left)

@@ -1,48 +1,58 @@
 -- The whole reading is the reading of what is left, after the capacities read so far.
+use borrow.Author.Needs.{needs}
+use Rattle.day.specs.Day.{mostPeriods}
+use Rattle.sheet_reader.specs.Loop.{PeriodsRead}
+use Rattle.sheet_reader.proofs.Loops.{periods-start, no-period, some-period, full-end, full-more, period-form, period-count, period-range, period-next}
+use Rattle.text.specs.Fixed.{startsWith}
+use Rattle.sheet.specs.Text.{flightNames}
 use Rattle.sheet.specs.Lines.{periodLine}
 use Rattle.sheet.specs.declared.PeriodLine.the-variants.{Period}
-use borrow.Author.Needs.{needs}
-use Rattle.sheet_reader.proofs.Loops.{names-there, no-period, some-period, names-within, full-end, full-more, period-form, period-count, period-range, period-next}
-use Rattle.sheet.specs.Text.{flightNames}
-use Rattle.text.specs.Fixed.{startsWith}
-use lib.ListN.{drop, length-set}
-use mathlib.Core.Bool.{true, false}
-use Rattle.sheet.specs.Sheet.{readPeriods}
-use lib.ListN.{length, take}
-use mathlib.Core.List.{[]}
-use Prim.Native.Nat.{_≤_, _<_, _-_}
-use native.Mathlib.Omega.{arith}
-use mathlib.Core.Path.{_≡_, refl, sym, _∙_}
+use Prim.Native.Nat.{ℕ, _-_}
+use mathlib.Core.Bool.{false}
+use mathlib.Core.List.{List}
+use lib.ListN.{drop}
+use mathlib.Core.Path.{_≡_, sym, _∙_}
 use Rattle.sheet_reader.proofs.read_periods.Statement.{statement}
 use Rattle.sheet_reader.proofs.read_periods.Tie as tie
 
 abbrev Inv-loop : tie.InvT-loop
-Inv-loop s caps₀ n₀ at₀ caps n at = (n ≤ 96) × (at ≤ length s) × (length caps ≡ 96) × (readPeriods 96 s 16 [] ≡ readPeriods (96 - n) s at (take n caps))
+Inv-loop s caps₀ n₀ at₀ caps n at = PeriodsRead s caps n at
 
 abbrev μ-loop : tie.MeasureT-loop
-μ-loop s caps₀ n₀ at₀ caps n at = 96 - n
+μ-loop s caps₀ n₀ at₀ caps n at = mostPeriods - n
+
+-- the sheet, seen from where a turn begins, and where the second names line is not there
+abbrev sheet : tie.At-loop Inv-loop μ-loop → List ℕ
+sheet c = c .before .before .args .s .now
+
+no-names : (c : tie.Else1 Inv-loop μ-loop) → startsWith (drop (c .before .before .loop .at) (sheet (c .before .before))) flightNames ≡ false
+no-names c = sym (c .before .names-here .ensures) ∙ c .if1 .left
+
+-- where the row has room for another line, and the line read there, seen from where it is a period line
+abbrev more : tie.After-wide Inv-loop μ-loop → tie.Else2 Inv-loop μ-loop
+more c = c .before .before .before .before .before
+
+abbrev turn : tie.After-wide Inv-loop μ-loop → tie.At-loop Inv-loop μ-loop
+turn c = more c .before .before .before
+
+line-read : (c : tie.After-wide Inv-loop μ-loop) → periodLine (sheet (turn c)) (turn c .loop .at) ≡ Period (c .before .before .line .given .0 .0) (c .before .before .line .given .0 .1 .0) (c .before .before .line .given .0 .1 .1 .0)
+line-read c = sym (c .before .before .before .before .period-line .ensures) ∙ c .before .before .line .given .1
 
 loop-holds : tie.Need-loop-holds Inv-loop μ-loop
-loop-holds c = (search needs, search needs, c .before .pre .1, refl)
+loop-holds c = periods-start _ _ (c .before .pre .0) (c .before .pre .1)
 
 names-here-requires : tie.Need-names-here-requires Inv-loop μ-loop
 names-here-requires c κs = search needs
 
 returns : tie.Need-returns Inv-loop μ-loop
 returns c =
-    let a = c .before .before .before .before .before .before .args in
-    let s = a .s .now in
-    let l = c .before .before .before .before .loop in
-    let e : startsWith (drop (l .at) s) flightNames ≡ false = sym (c .before .before .before .names-here .ensures) ∙ c .before .before .if1 .left in
-    (l .inv .2, (l .inv .3 ∙ full-end s (l .caps) (l .n) (l .at) (l .inv .2) (c .before .if2 .taken) e (c .if3 .taken), tt))
+    let e = c .before .before in
+    full-end (e .before .before .loop .inv) (no-names e) (c .before .if2 .taken) (c .if3 .taken)
 
 returns-2 : tie.Need-returns-2 Inv-loop μ-loop
 returns-2 c =
-    let a = c .before .before .before .before .before .before .args in
-    let s = a .s .now in
-    let l = c .before .before .before .before .loop in
-    let e : startsWith (drop (l .at) s) flightNames ≡ false = sym (c .before .before .before .names-here .ensures) ∙ c .before .before .if1 .left in
-    (l .inv .2, (l .inv .3 ∙ full-more s (l .caps) (l .n) (l .at) (l .inv .2) (c .before .if2 .taken) e (c .if3 .left), tt))
+    let e = c .before .before in
+    full-more (e .before .before .loop .inv) (no-names e) (c .before .if2 .taken) (c .if3 .left)
 
 period-line-requires : tie.Need-period-line-requires Inv-loop μ-loop
 period-line-requires c κs = search needs
@@ -55,12 +65,9 @@ enum-told c = search needs
 
 returns-3 : tie.Need-returns-3 Inv-loop μ-loop
 returns-3 c =
-    let a = c .before .before .before .before .before .before .before .before .args in
-    let s = a .s .now in
-    let l = c .before .before .before .before .before .before .loop in
-    let e : startsWith (drop (l .at) s) flightNames ≡ false = sym (c .before .before .before .before .before .names-here .ensures) ∙ c .before .before .before .before .if1 .left in
-    let h : l .n < 96 = omega (arith, c .before .before .before .if2 .left) in
-    (l .inv .2, (l .inv .3 ∙ period-form s (l .caps) (l .n) (l .at) (l .inv .2) h e (sym (c .before .before .period-line .ensures) ∙ c .enum-told .given .1), tt))
+    let p = c .before .before in
+    let m = p .before in
+    period-form (m .before .before .before .loop .inv) (no-names (m .before)) (m .if2 .left) (sym (p .period-line .ensures) ∙ c .enum-told .given .1)
 
 wide-requires : tie.Need-wide-requires Inv-loop μ-loop
 wide-requires c κs = search needs
@@ -70,27 +77,13 @@ add-if4 c = search needs
 
 returns-4 : tie.Need-returns-4 Inv-loop μ-loop
 returns-4 c =
-    let a = c .before .before .before .before .before .before .before .before .before .before .before .args in
-    let s = a .s .now in
-    let l = c .before .before .before .before .before .before .before .before .before .loop in
-    let e : startsWith (drop (l .at) s) flightNames ≡ false = sym (c .before .before .before .before .before .before .before .before .names-here .ensures) ∙ c .before .before .before .before .before .before .before .if1 .left in
-    let v = c .before .before .before .line .given .0 in
-    let p : periodLine s (l .at) ≡ Period (v .0) (v .1 .0) (v .1 .1 .0) = sym (c .before .before .before .before .before .period-line .ensures) ∙ c .before .before .before .line .given .1 in
-    let w = c .before .wide .ensures in
-    let h : l .n < 96 = omega (arith, c .before .before .before .before .before .before .if2 .left) in
-    (l .inv .2, (l .inv .3 ∙ period-count s (l .caps) (l .n) (l .at) (l .inv .2) h e (v .0) (v .1 .0) (v .1 .1 .0) p (λ z. c .if4 .taken (w ∙ z)), tt))
+    let w = c .before in
+    period-count (turn w .loop .inv) (no-names (more w .before)) (more w .if2 .left) (line-read w) (λ z. c .if4 .taken (w .wide .ensures ∙ z))
 
 returns-5 : tie.Need-returns-5 Inv-loop μ-loop
 returns-5 c =
-    let a = c .before .before .before .before .before .before .before .before .before .before .before .before .args in
-    let s = a .s .now in
-    let l = c .before .before .before .before .before .before .before .before .before .before .loop in
-    let e : startsWith (drop (l .at) s) flightNames ≡ false = sym (c .before .before .before .before .before .before .before .before .before .names-here .ensures) ∙ c .before .before .before .before .before .before .before .before .if1 .left in
-    let v = c .before .before .before .before .line .given .0 in
-    let p : periodLine s (l .at) ≡ Period (v .0) (v .1 .0) (v .1 .1 .0) = sym (c .before .before .before .before .before .before .period-line .ensures) ∙ c .before .before .before .before .line .given .1 in
-    let w = c .before .before .wide .ensures in
-    let h : l .n < 96 = omega (arith, c .before .before .before .before .before .before .before .if2 .left) in
-    (l .inv .2, (l .inv .3 ∙ period-range s (l .caps) (l .n) (l .at) (l .inv .2) h e (v .0) (v .1 .0) (v .1 .1 .0) p (sym w ∙ c .before .if4 .left) (c .if5 .taken), tt))
+    let w = c .before .before in
+    period-range (turn w .loop .inv) (no-names (more w .before)) (more w .if2 .left) (line-read w) (sym (w .wide .ensures) ∙ c .before .if4 .left) (c .if5 .taken)
 
 mul-caps : tie.Need-mul-caps Inv-loop μ-loop
 mul-caps c = search needs
@@ -106,35 +99,21 @@ loop-less c = search needs
 
 loop-again : tie.Need-loop-again Inv-loop μ-loop
 loop-again c =
-    let a = c .before .before .before .before .before .before .before .before .before .before .before .before .args in
-    let s = a .s .now in
-    let l = c .before .before .before .before .before .before .before .before .before .before .loop in
-    let e : startsWith (drop (l .at) s) flightNames ≡ false = sym (c .before .before .before .before .before .before .before .before .before .names-here .ensures) ∙ c .before .before .before .before .before .before .before .before .if1 .left in
-    let v = c .before .before .before .before .line .given .0 in
-    let p : periodLine s (l .at) ≡ Period (v .0) (v .1 .0) (v .1 .1 .0) = sym (c .before .before .before .before .before .before .period-line .ensures) ∙ c .before .before .before .before .line .given .1 in
-    let w = c .before .before .wide .ensures in
-    let h : l .n < 96 = omega (arith, c .before .before .before .before .before .before .before .if2 .left) in
-    let q = period-next s (l .caps) (l .n) (l .at) (l .inv .2) h e (v .0) (v .1 .0) (v .1 .1 .0) p (sym w ∙ c .before .if4 .left) (c .if5 .left) in
-    (omega arith, q .0, simp length-set (l .inv .2), l .inv .3 ∙ q .1)
+    let w = c .before .before in
+    period-next (turn w .loop .inv) (no-names (more w .before)) (more w .if2 .left) (line-read w) (sym (w .wide .ensures) ∙ c .before .if4 .left) (c .if5 .left)
 
 returns-6 : tie.Need-returns-6 Inv-loop μ-loop
 returns-6 c =
-    let a = c .before .before .before .before .before .args in
-    let s = a .s .now in
-    let l = c .before .before .before .loop in
-    let e : startsWith (drop (l .at) s) flightNames ≡ true = sym (c .before .before .names-here .ensures) ∙ c .before .if1 .taken in
-    (l .inv .2, (l .inv .3 ∙ (names-there s (l .caps) (l .n) (l .at) (l .inv .2) (l .inv .0) e ∙ no-period s (l .caps) (l .n) (l .at) (l .inv .2) (c .if6 .taken)), tt))
+    let n = c .before .before in
+    no-period (n .before .loop .inv) (sym (n .names-here .ensures) ∙ c .before .if1 .taken) (c .if6 .taken)
 
 add-t24 : tie.Need-add-t24 Inv-loop μ-loop
 add-t24 c = search needs
 
 returns-7 : tie.Need-returns-7 Inv-loop μ-loop
 returns-7 c =
-    let a = c .before .before .before .before .before .args in
-    let s = a .s .now in
-    let l = c .before .before .before .loop in
-    let e : startsWith (drop (l .at) s) flightNames ≡ true = sym (c .before .before .names-here .ensures) ∙ c .before .if1 .taken in
-    (l .inv .2, (l .inv .3 ∙ (names-there s (l .caps) (l .n) (l .at) (l .inv .2) (l .inv .0) e ∙ some-period s (l .caps) (l .n) (l .at) (l .inv .2) (l .inv .0) (c .if6 .left)), (l .inv .0, names-within s (l .caps) (l .n) (l .at) (l .inv .2) (l .inv .1) e)))
+    let n = c .before .before in
+    some-period (n .before .loop .inv) (sym (n .names-here .ensures) ∙ c .before .if1 .taken) (c .if6 .left)
 
 pub read-periods-spec : {M : Type 1} → statement M
 read-periods-spec =

@@ -1,69 +1,71 @@
 -- The definition's tests in their order.
 use Rattle.sheet_reader.proofs.Loops.{call-caps, call-flights, call-long, call-top, call-on, top-within, ready-upto, refused-so}
 use Rattle.sheet_reader.specs.Loop.{goOn}
-use Rattle.sheet.specs.Sheet.{refused, readFlights, reading}
-use Rattle.answers.specs.declared.Answer.the-variants.{TooLong, BadForm, BadLength}
 use Rattle.sheet_reader.specs.declared.Periods.{Periods}
+use Rattle.day.specs.Day.{mostPeriods}
+use Rattle.sheet.specs.Sheet.{readPeriods, reading}
 use Rattle.sheet.specs.Text.{periodNames}
 use Rattle.text.specs.Fixed.{startsWith}
-use lib.ListN.{length, take}
-use mathlib.Core.Bool.{true, false}
-use mathlib.Core.List.{[]}
-use Prim.Native.Nat.{_≤_, _-_}
+use Prim.Native.Nat.{ℕ}
+use lib.ListN.{length}
+use mathlib.Core.Bool.{true}
+use mathlib.Core.List.{List, []}
 use mathlib.Core.Path.{_≡_, refl, ap, sym, _∙_}
 use borrow.Author.Tests.{not-true, not-false}
 use borrow.Author.Needs.{needs}
 use Rattle.sheet_reader.proofs.read_sheet.Statement.{statement}
 use Rattle.sheet_reader.proofs.read_sheet.Tie as tie
 
+-- the start, and the sheet, seen from behind the first test
+abbrev start : tie.Else1 → tie.Start
+start c = c .before .before .before .before
+
+abbrev sheet : tie.Else1 → List ℕ
+sheet c = start c .args .sheet .now
+
+-- the first test, seen from where the first names line is compared
+abbrev rows : tie.After-top-here → tie.Else1
+rows c = c .before .before .before
+
+top : (c : tie.Else4) → startsWith (sheet (rows (c .before))) periodNames ≡ true
+top c = sym (c .before .top-here .ensures) ∙ not-false _ (c .if4 .left)
+
+-- where all tests are passed, the reading is that of the period lines; and how it goes on behind them
+on : (c : tie.Else4)
+    → reading (sheet (rows (c .before))) (start (rows (c .before)) .args .capacities .now) (start (rows (c .before)) .args .flights .now)
+    ≡ readPeriods mostPeriods (sheet (rows (c .before))) (length periodNames) []
+on c =
+    let t = c .before in
+    call-on _ _ _ (rows t .if1 .left) (t .before .before .if2 .left) (t .before .if3 .left) (top c)
+
+abbrev passed : tie.After-read-periods → tie.Else4
+passed c = c .before .before
+
+behind : (c : tie.After-read-periods) (x : Periods) → c .read-periods .result ≡ x
+    → reading (sheet (rows (passed c .before))) (start (rows (passed c .before)) .args .capacities .now) (start (rows (passed c .before)) .args .flights .now)
+    ≡ goOn x (sheet (rows (passed c .before))) (c .read-periods .last .1 .0)
+behind c x e =
+    on (passed c) ∙ (c .read-periods .ensures .1 .0 ∙ ap (λ (y : Periods). goOn y (sheet (rows (passed c .before))) (c .read-periods .last .1 .0)) e)
+
 returns : tie.Need-returns
-returns c =
-    let a = c .before .before .before .before .args in
-    let s = a .sheet .now in
-    let R = reading s (a .capacities .now) (a .flights .now) in
-    refused-so R (BadLength 96) (a .capacities .now) (a .flights .now) (call-caps s (a .capacities .now) (a .flights .now) (c .if1 .taken))
+returns c = call-caps _ _ _ (c .if1 .taken)
 
 returns-2 : tie.Need-returns-2
-returns-2 c =
-    let a = c .before .before .before .before .before .args in
-    let s = a .sheet .now in
-    let R = reading s (a .capacities .now) (a .flights .now) in
-    let h : length (a .capacities .now) ≡ 96 = c .before .if1 .left in
-    refused-so R (BadLength 768) (a .capacities .now) (a .flights .now) (call-flights s (a .capacities .now) (a .flights .now) h (c .if2 .taken))
+returns-2 c = call-flights _ _ _ (c .before .if1 .left) (c .if2 .taken)
 
 returns-3 : tie.Need-returns-3
-returns-3 c =
-    let a = c .before .before .before .before .before .before .args in
-    let s = a .sheet .now in
-    let R = reading s (a .capacities .now) (a .flights .now) in
-    let h : length (a .capacities .now) ≡ 96 = c .before .before .if1 .left in
-    let g : length (a .flights .now) ≡ 768 = c .before .if2 .left in
-    refused-so R TooLong (a .capacities .now) (a .flights .now) (call-long s (a .capacities .now) (a .flights .now) h g (c .if3 .taken))
+returns-3 c = call-long _ _ _ (c .before .before .if1 .left) (c .before .if2 .left) (c .if3 .taken)
 
 top-here-requires : tie.Need-top-here-requires
 top-here-requires c κs = search needs
 
 returns-4 : tie.Need-returns-4
 returns-4 c =
-    let a = c .before .before .before .before .before .before .before .before .args in
-    let s = a .sheet .now in
-    let R = reading s (a .capacities .now) (a .flights .now) in
-    let h : length (a .capacities .now) ≡ 96 = c .before .before .before .before .if1 .left in
-    let g : length (a .flights .now) ≡ 768 = c .before .before .before .if2 .left in
-    let l : length s ≤ 8192 = c .before .before .if3 .left in
-    let t : startsWith s periodNames ≡ false = sym (c .before .top-here .ensures) ∙ not-true _ (c .if4 .taken) in
-    refused-so R (BadForm 0) (a .capacities .now) (a .flights .now) (call-top s (a .capacities .now) (a .flights .now) h g l t)
+    let t = c .before in
+    call-top _ _ _ (rows t .if1 .left) (t .before .before .if2 .left) (t .before .if3 .left) (sym (t .top-here .ensures) ∙ not-true _ (c .if4 .taken))
 
 read-periods-requires : tie.Need-read-periods-requires
-read-periods-requires c κs =
-    let a = c .before .before .before .before .before .before .before .before .before .args in
-    let s = a .sheet .now in
-    let R = reading s (a .capacities .now) (a .flights .now) in
-    let h : length (a .capacities .now) ≡ 96 = c .before .before .before .before .before .if1 .left in
-    let g : length (a .flights .now) ≡ 768 = c .before .before .before .before .if2 .left in
-    let l : length s ≤ 8192 = c .before .before .before .if3 .left in
-    let t : startsWith s periodNames ≡ true = sym (c .before .before .top-here .ensures) ∙ not-false _ (c .before .if4 .left) in
-    (top-within s t, refl)
+read-periods-requires c κs = (top-within _ (top (c .before)), refl)
 
 enum-known-p : tie.Need-enum-known-p
 enum-known-p c = search needs
@@ -73,29 +75,16 @@ enum-known-p-2 c = search needs
 
 read-rest-requires : tie.Need-read-rest-requires
 read-rest-requires c κs =
-    let a = c .before .before .before .before .before .before .before .before .before .before .before .before .before .before .before .before .args in
-    let s = a .sheet .now in
-    let R = reading s (a .capacities .now) (a .flights .now) in
-    let h : length (a .capacities .now) ≡ 96 = c .before .before .before .before .before .before .before .before .before .before .before .before .if1 .left in
-    let g : length (a .flights .now) ≡ 768 = c .before .before .before .before .before .before .before .before .before .before .before .if2 .left in
-    let l : length s ≤ 8192 = c .before .before .before .before .before .before .before .before .before .before .if3 .left in
-    let t : startsWith s periodNames ≡ true = sym (c .before .before .before .before .before .before .before .before .before .top-here .ensures) ∙ not-false _ (c .before .before .before .before .before .before .before .before .if4 .left) in
-    let f = c .before .before .before .before .before .before .read-periods in
-    let w = ready-upto (f .result) s (c .before .before .before .before .p2 .given .0 .0) (c .before .before .before .before .p2 .given .0 .1 .0) (c .before .before .before .before .p2 .given .1) (f .ensures .1 .1) in
-    (w .1, w .0, f .ensures .0, h, g)
+    let v = c .before .before .before .before in
+    let r = v .before .before in
+    let t = passed r .before in
+    let w = ready-upto _ _ _ _ (v .p2 .given .1) (r .read-periods .ensures .1 .1) in
+    (w .1, w .0, r .read-periods .ensures .0, rows t .if1 .left, t .before .before .if2 .left)
 
 returns-5 : tie.Need-returns-5
 returns-5 c =
-    let a = c .before .before .before .before .before .before .before .before .before .before .before .before .before .args in
-    let s = a .sheet .now in
-    let R = reading s (a .capacities .now) (a .flights .now) in
-    let h : length (a .capacities .now) ≡ 96 = c .before .before .before .before .before .before .before .before .before .if1 .left in
-    let g : length (a .flights .now) ≡ 768 = c .before .before .before .before .before .before .before .before .if2 .left in
-    let l : length s ≤ 8192 = c .before .before .before .before .before .before .before .if3 .left in
-    let t : startsWith s periodNames ≡ true = sym (c .before .before .before .before .before .before .top-here .ensures) ∙ not-false _ (c .before .before .before .before .before .if4 .left) in
-    let f = c .before .before .before .read-periods in
-    let e : R ≡ refused (c .before .p .given .0 .0) = call-on s (a .capacities .now) (a .flights .now) h g l t ∙ (f .ensures .1 .0 ∙ ap (λ (x : Periods). goOn x s (f .last .1 .0)) (c .before .p .given .1)) in
-    refused-so R (c .before .p .given .0 .0) (a .capacities .now) (a .flights .now) (e)
+    let r = c .before .before .before in
+    refused-so _ _ _ _ (behind r _ (c .before .p .given .1))
 
 same-length : tie.Need-same-length
 same-length c = search needs
@@ -103,19 +92,15 @@ same-length c = search needs
 same-length-2 : tie.Need-same-length-2
 same-length-2 c = search needs
 
+-- the period lines read, seen from behind the rest
+abbrev upto : tie.After-read-rest → tie.After-p2
+upto c = c .before .before .before .before .before
+
 returns-6 : tie.Need-returns-6
 returns-6 c =
-    let a = c .before .before .before .before .before .before .before .before .before .before .before .before .before .before .before .before .before .before .before .before .before .args in
-    let s = a .sheet .now in
-    let R = reading s (a .capacities .now) (a .flights .now) in
-    let h : length (a .capacities .now) ≡ 96 = c .before .before .before .before .before .before .before .before .before .before .before .before .before .before .before .before .before .if1 .left in
-    let g : length (a .flights .now) ≡ 768 = c .before .before .before .before .before .before .before .before .before .before .before .before .before .before .before .before .if2 .left in
-    let l : length s ≤ 8192 = c .before .before .before .before .before .before .before .before .before .before .before .before .before .before .before .if3 .left in
-    let t : startsWith s periodNames ≡ true = sym (c .before .before .before .before .before .before .before .before .before .before .before .before .before .before .top-here .ensures) ∙ not-false _ (c .before .before .before .before .before .before .before .before .before .before .before .before .before .if4 .left) in
-    let f = c .before .before .before .before .before .before .before .before .before .before .before .read-periods in
-    let v = c .before .before .before .before .before .before .before .before .before .p2 .given in
-    let e : R ≡ readFlights 128 s (v .0 .1 .0) (take (v .0 .0) (f .last .1 .0)) [] = call-on s (a .capacities .now) (a .flights .now) h g l t ∙ (f .ensures .1 .0 ∙ ap (λ (x : Periods). goOn x s (f .last .1 .0)) (v .1)) in
-    rw e (c .before .before .before .before .read-rest .ensures)
+    let e = c .before .before .before .before in
+    let v = upto e in
+    rw (behind (v .before .before) _ (v .p2 .given .1)) (e .read-rest .ensures)
 
 pub read-sheet-spec : {M : Type 1} → statement M
 read-sheet-spec =

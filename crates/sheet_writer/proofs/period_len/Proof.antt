@@ -1,7 +1,5 @@
 -- The line's length, by its definition.
-use Rattle.sheet_writer.proofs.Placing.{length-period}
-use Prim.Native.Nat.{_-_}
-use mathlib.Core.Path.{sym, _∙_}
+use Rattle.sheet.specs.Text.{periodText}
 use borrow.Author.Needs.{needs}
 use Rattle.sheet_writer.proofs.period_len.Statement.{statement}
 use Rattle.sheet_writer.proofs.period_len.Tie as tie
@@ -13,7 +11,8 @@ line-len-requires : tie.Need-line-len-requires
 line-len-requires c κs = search needs
 
 returns : tie.Need-returns
-returns c = (c .line-len .ensures .0 ∙ sym (length-period (c .before .before .args .j) (c .before .before .args .capacity)), c .line-len .ensures .1)
+unfolding periodText
+returns c = c .line-len .ensures
 
 pub period-len-spec : {M : Type 1} → statement M
 period-len-spec = tie.close (tie.spec slice-aggregate-line-len line-len-requires returns)

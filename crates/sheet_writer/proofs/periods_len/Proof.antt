@@ -45,9 +45,9 @@ loop-less c = search needs
 
 loop-again : tie.Need-loop-again Inv-loop μ-loop
 loop-again c =
-    let a = c .before .before .before .before .before .before .args in
-    let l = c .before .before .before .before .loop in
-    let p = period-part (a .capacities .now) (l .i) (omega arith) in
+    let a = c .before .before .before .before in
+    let l = a .loop in
+    let p = period-part (a .before .before .args .capacities .now) (l .i) (omega arith) in
     let e = rw (c .before .wide .ensures) at (c .period-len .ensures) in
     (omega arith, rw (p .0, length-append) (omega (arith, e .0)), omega (arith, e .1))
 

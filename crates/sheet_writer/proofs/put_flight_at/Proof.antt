@@ -1,6 +1,5 @@
 -- The part lent on is the rest of the buffer.
 use Rattle.text.proofs.Writing.{lent}
-use Prim.Native.Nat.{_-_}
 use borrow.Author.Needs.{needs}
 use Rattle.sheet_writer.proofs.put_flight_at.Statement.{statement}
 use Rattle.sheet_writer.proofs.put_flight_at.Tie as tie
@@ -24,7 +23,7 @@ same-length : tie.Need-same-length
 same-length c = search needs
 
 returns : tie.Need-returns
-returns c = lent _ _ _ _ _ (c .before .before .before .before .before .before .pre .1) (c .before .before .put-flight .ensures)
+returns c = lent _ _ _ _ _ (c .before .before .before .before .before .pre) (c .before .before .put-flight .ensures)
 
 pub put-flight-at-spec : {M : Type 1} → statement M
 put-flight-at-spec =

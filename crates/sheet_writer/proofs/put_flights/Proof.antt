@@ -1,31 +1,41 @@
 -- After i turns the first i lines are written.
-use Rattle.text.proofs.Writing.{then, put-none, put-length}
-use Rattle.sheet_writer.proofs.Placing.{flight-part, flight-room, no-flights}
-use Rattle.text.specs.Writing.{Put}
-use Rattle.sheet.specs.Flights.{firstFlights}
-use Rattle.sheet.specs.Text.{flightsText}
 use borrow.Author.Needs.{needs}
+use Rattle.text.specs.Loops.{Grown}
+use Rattle.text.proofs.Writing.{grown-none, grown-room, grown-more}
+use Rattle.sheet_writer.proofs.Placing.{flight-part, flight-room, no-flights}
+use Rattle.day.specs.Flights.{firstFlights}
+use Rattle.day.specs.Day.{flightAt}
+use Rattle.sheet.specs.Text.{flightText, flightsText}
 use Prim.Native.Nat.{_≤_, _-_}
 use native.Mathlib.Omega.{arith}
-use mathlib.Core.Path.{_≡_, refl}
-use lib.ListN.{length, length-append}
+use mathlib.Core.Path.{_≡_}
 use Rattle.sheet_writer.proofs.put_flights.Statement.{statement}
 use Rattle.sheet_writer.proofs.put_flights.Tie as tie
 
 abbrev Inv-loop : tie.InvT-loop
-Inv-loop out₀ start flights n at₀ i₀ out at i = (i ≤ n) × (length out ≡ length out₀) × Put out₀ start (flightsText (firstFlights i flights)) at out
+Inv-loop out₀ start flights n at₀ i₀ out at i = (i ≤ n) × Grown out₀ start (flightsText (firstFlights i flights)) out at
 
 abbrev μ-loop : tie.MeasureT-loop
 μ-loop out₀ start flights n at₀ i₀ out at i = n - i
 
+-- the start and a turn, seen from where its flight is read
+abbrev turn : tie.After-flight-at Inv-loop μ-loop → tie.In-loop Inv-loop μ-loop
+turn c = c .before .before
+
+abbrev begin : tie.In-loop Inv-loop μ-loop → tie.Start Inv-loop μ-loop
+begin c = c .before .before .before .before
+
 loop-holds : tie.Need-loop-holds Inv-loop μ-loop
-loop-holds c = (search needs, refl, rw no-flights (put-none (c .before .before .args .out .now) (c .before .before .args .start) (omega (arith, c .before .before .pre))))
+loop-holds c = (search needs, rw no-flights (grown-none _ _ (omega (arith, c .before .before .pre))))
+
+flight-at-requires : tie.Need-flight-at-requires Inv-loop μ-loop
+flight-at-requires c κs = omega (arith, begin (c .before) .pre)
 
 put-flight-at-requires : tie.Need-put-flight-at-requires Inv-loop μ-loop
 put-flight-at-requires c κs =
-    let a = c .before .before .before .before .before .args in
-    let l = c .before .before .loop in
-    (omega (arith, c .before .before .before .before .before .pre), omega (arith, flight-room (a .flights .now) (l .i) (a .n) (omega arith), l .inv .2 .place, l .inv .1, c .before .before .before .before .before .pre .0))
+    let l = turn c .before .loop in
+    let b = begin (turn c) in
+    rw (c .flight-at .ensures) (grown-room (l .inv .1) (flightText (flightAt (b .args .flights .now) (l .i))) (omega (arith, flight-room (b .args .flights .now) (l .i) (b .args .n) (turn c .loop-test .taken), b .pre .0)))
 
 add-i : tie.Need-add-i Inv-loop μ-loop
 add-i c = search needs
@@ -35,21 +45,22 @@ loop-less c = search needs
 
 loop-again : tie.Need-loop-again Inv-loop μ-loop
 loop-again c =
-    let a = c .before .before .before .before .before .before .before .before .args in
-    let l = c .before .before .before .before .before .loop in
-    let p = flight-room (a .flights .now) (l .i) (a .n) (omega arith) in
-    let q = then (omega (arith, p, c .before .before .before .before .before .before .before .before .pre .0)) (l .inv .2) (c .before .before .put-flight-at .ensures) in
-    (omega arith, put-length (simp length-append (omega (arith, p, c .before .before .before .before .before .before .before .before .pre .0))) q, rw (flight-part (a .flights .now) (l .i)) q)
+    let p = c .before .before in
+    let f = p .before in
+    let l = turn f .before .loop in
+    let b = begin (turn f) in
+    let r = flight-room (b .args .flights .now) (l .i) (b .args .n) (turn f .loop-test .taken) in
+    let e = rw (f .flight-at .ensures) at (p .put-flight-at .ensures) in
+    (omega (arith, turn f .loop-test .taken), rw (flight-part (b .args .flights .now) (l .i)) (grown-more (l .inv .1) (omega (arith, b .pre .0)) e))
 
 same-length : tie.Need-same-length Inv-loop μ-loop
 same-length c = search needs
 
 returns : tie.Need-returns Inv-loop μ-loop
 returns c =
-    let a = c .before .before .before .before .args in
     let l = c .before .loop in
-    let e : l .i ≡ a .n = omega arith in
-    rw e at (l .inv .2)
+    let e : l .i ≡ c .before .before .before .before .args .n = omega arith in
+    rw e at (l .inv .1 .put)
 
 pub put-flights-spec : {M : Type 1} → statement M
 put-flights-spec =
@@ -58,6 +69,7 @@ put-flights-spec =
     Inv-loop
     μ-loop
     loop-holds
+    flight-at-requires
     put-flight-at-requires
     add-i
     loop-less

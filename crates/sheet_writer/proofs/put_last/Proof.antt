@@ -1,6 +1,5 @@
 -- The part lent on is the rest of the buffer.
 use Rattle.text.proofs.Writing.{lent}
-use Prim.Native.Nat.{_-_}
 use borrow.Author.Needs.{needs}
 use Rattle.sheet_writer.proofs.put_last.Statement.{statement}
 use Rattle.sheet_writer.proofs.put_last.Tie as tie

@@ -1,48 +1,24 @@
--- The part lent on is the rest of the buffer.
-use Rattle.text.proofs.Writing.{lent}
-use Rattle.sheet_writer.proofs.Placing.{length-period, period-line}
-use Prim.Native.Nat.{_-_}
+-- A line of two numbers. Assumes nothing.
 use native.Mathlib.Omega.{arith}
-use lib.ListN.{length-take, length-drop}
+use Rattle.sheet.specs.Text.{periodText}
 use borrow.Author.Needs.{needs}
 use Rattle.sheet_writer.proofs.put_period_at.Statement.{statement}
 use Rattle.sheet_writer.proofs.put_period_at.Tie as tie
 
-sub-put-line : tie.Need-sub-put-line
-sub-put-line c = search needs
+slice-aggregate-put-line-at : tie.Need-slice-aggregate-put-line-at
+slice-aggregate-put-line-at c = search needs
 
-part-put-line-start : tie.Need-part-put-line-start
-part-put-line-start c = search needs
-
-part-put-line-end : tie.Need-part-put-line-end
-part-put-line-end c = search needs
-
-slice-aggregate-put-line : tie.Need-slice-aggregate-put-line
-slice-aggregate-put-line c = search needs
-
-put-line-requires : tie.Need-put-line-requires
-put-line-requires c κs = simp (length-take, length-drop) (omega (arith, length-period (c .before .before .before .args .j) (c .before .before .before .args .capacity), c .before .before .before .pre))
-
-add-result : tie.Need-add-result
-add-result c = omega (arith, c .before .before .put-line .ensures .place, length-period (c .before .before .before .before .before .before .args .j) (c .before .before .before .before .before .before .args .capacity), c .before .before .before .before .before .before .pre)
+put-line-at-requires : tie.Need-put-line-at-requires
+unfolding periodText
+put-line-at-requires c κs = omega (arith, c .before .before .before .pre)
 
 same-length : tie.Need-same-length
 same-length c = search needs
 
 returns : tie.Need-returns
-returns c =
-    let a = c .before .before .before .before .before .before .args in
-    rw (period-line (a .j) (a .capacity)) (lent _ _ _ _ _ (rw (period-line (a .j) (a .capacity)) at (c .before .before .before .before .before .before .pre)) (c .before .before .put-line .ensures))
+unfolding periodText
+returns c = c .before .before .put-line-at .ensures
 
 pub put-period-at-spec : {M : Type 1} → statement M
 put-period-at-spec =
-    tie.close
-    (tie.spec
-    sub-put-line
-    part-put-line-start
-    part-put-line-end
-    slice-aggregate-put-line
-    put-line-requires
-    add-result
-    same-length
-    returns)
+    tie.close (tie.spec slice-aggregate-put-line-at put-line-at-requires same-length returns)

@@ -1,7 +1,6 @@
 -- The constant's bytes are the definition's.
 use Rattle.sheet.proofs.Grammar.{length-top}
 use Rattle.sheet.specs.Text.{periodNames}
-use Prim.Native.Nat.{_-_}
 use native.Mathlib.Omega.{arith}
 use borrow.Author.Needs.{needs}
 use Rattle.sheet_writer.proofs.put_period_names.Statement.{statement}

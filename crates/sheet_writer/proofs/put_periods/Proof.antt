@@ -1,25 +1,32 @@
 -- After i turns the first i lines are written.
-use Rattle.text.proofs.Writing.{then, put-none, put-length}
+use Rattle.text.specs.Loops.{Grown}
+use Rattle.text.proofs.Writing.{grown-none, grown-room, grown-more}
 use Rattle.sheet_writer.proofs.Placing.{period-part, no-periods}
-use lib.Seq.{take-all}
-use Rattle.text.specs.Writing.{Put}
-use Rattle.sheet.specs.Text.{periodsText}
+use Rattle.sheet.specs.Text.{periodText, periodsText}
 use borrow.Author.Needs.{needs}
-use Prim.Native.Nat.{_≤_, _-_}
+use Prim.Native.Nat.{_≤_, _+_, _-_}
 use native.Mathlib.Omega.{arith}
-use mathlib.Core.Path.{_≡_, refl}
-use lib.ListN.{length, take, length-append}
+use mathlib.Core.Path.{_≡_}
+use lib.ListN.{length, getD, take}
+use lib.Seq.{take-all}
 use Rattle.sheet_writer.proofs.put_periods.Statement.{statement}
 use Rattle.sheet_writer.proofs.put_periods.Tie as tie
 
 abbrev Inv-loop : tie.InvT-loop
-Inv-loop out₀ start capacities at₀ i₀ out at i = (i ≤ length capacities) × (length out ≡ length out₀) × Put out₀ start (periodsText 1 (take i capacities)) at out
+Inv-loop out₀ start capacities at₀ i₀ out at i = (i ≤ length capacities) × Grown out₀ start (periodsText 1 (take i capacities)) out at
 
 abbrev μ-loop : tie.MeasureT-loop
 μ-loop out₀ start capacities at₀ i₀ out at i = length capacities - i
 
+-- a turn, seen from where its capacity is read, and the start
+abbrev turn : tie.After-wide Inv-loop μ-loop → tie.In-loop Inv-loop μ-loop
+turn c = c .before .before .before
+
+abbrev begin : tie.In-loop Inv-loop μ-loop → tie.Start Inv-loop μ-loop
+begin c = c .before .before .before .before
+
 loop-holds : tie.Need-loop-holds Inv-loop μ-loop
-loop-holds c = (search needs, refl, rw no-periods (put-none (c .before .before .args .out .now) (c .before .before .args .start) (omega (arith, c .before .before .pre))))
+loop-holds c = (search needs, rw no-periods (grown-none _ _ (omega (arith, c .before .before .pre))))
 
 add-put-period-at : tie.Need-add-put-period-at Inv-loop μ-loop
 add-put-period-at c = search needs
@@ -35,9 +42,10 @@ wide-requires c κs = search needs
 
 put-period-at-requires : tie.Need-put-period-at-requires Inv-loop μ-loop
 put-period-at-requires c κs =
-    let a = c .before .before .before .before .before .before .before .args in
-    let l = c .before .before .before .before .loop in
-    rw (c .wide .ensures) (omega (arith, period-part (a .capacities .now) (l .i) (omega arith), l .inv .2 .place, l .inv .1, c .before .before .before .before .before .before .before .pre .0))
+    let l = turn c .before .loop in
+    let b = begin (turn c) in
+    let caps = b .args .capacities .now in
+    rw (c .wide .ensures) (grown-room (l .inv .1) (periodText (l .i + 1) (getD caps (l .i) 0)) (omega (arith, period-part caps (l .i) (turn c .loop-test .taken) .1, b .pre .0)))
 
 add-i : tie.Need-add-i Inv-loop μ-loop
 add-i c = search needs
@@ -47,22 +55,23 @@ loop-less c = search needs
 
 loop-again : tie.Need-loop-again Inv-loop μ-loop
 loop-again c =
-    let a = c .before .before .before .before .before .before .before .before .before .before .args in
-    let l = c .before .before .before .before .before .before .before .loop in
-    let p = period-part (a .capacities .now) (l .i) (omega arith) in
-    let e = rw (c .before .before .before .wide .ensures) at (c .before .before .put-period-at .ensures) in
-    let q = then (omega (arith, p .1, c .before .before .before .before .before .before .before .before .before .before .pre .0)) (l .inv .2) e in
-    (omega arith, put-length (simp length-append (omega (arith, p .1, c .before .before .before .before .before .before .before .before .before .before .pre .0))) q, rw (p .0) q)
+    let q = c .before .before in
+    let w = q .before in
+    let l = turn w .before .loop in
+    let b = begin (turn w) in
+    let p = period-part (b .args .capacities .now) (l .i) (turn w .loop-test .taken) in
+    let e = rw (w .wide .ensures) at (q .put-period-at .ensures) in
+    (omega (arith, turn w .loop-test .taken), rw (p .0) (grown-more (l .inv .1) (omega (arith, p .1, b .pre .0)) e))
 
 same-length : tie.Need-same-length Inv-loop μ-loop
-same-length c = search needs
+same-length c = c .before .loop .inv .1 .long
 
 returns : tie.Need-returns Inv-loop μ-loop
 returns c =
-    let a = c .before .before .before .before .args in
     let l = c .before .loop in
-    let t : take (l .i) (a .capacities .now) ≡ a .capacities .now = take-all (l .i) (a .capacities .now) (omega arith) in
-    rw t at (l .inv .2)
+    let caps = c .before .before .before .before .args .capacities .now in
+    let t : take (l .i) caps ≡ caps = take-all (l .i) caps (omega arith) in
+    rw t at (l .inv .1 .put)
 
 pub put-periods-spec : {M : Type 1} → statement M
 put-periods-spec =

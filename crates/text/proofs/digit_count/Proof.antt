@@ -2,7 +2,7 @@
 use Rattle.text.proofs.Digits.{count-short, count-long}
 use Rattle.text.specs.Digits.{digits}
 use borrow.Author.Needs.{needs}
-use Prim.Native.Nat.{_≤_, _+_, _-_}
+use Prim.Native.Nat.{_≤_, _+_}
 use native.Mathlib.Omega.{arith}
 use mathlib.Core.Path.{_≡_}
 use lib.ListN.{length}

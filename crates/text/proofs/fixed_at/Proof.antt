@@ -16,6 +16,10 @@ Inv-loop s at w k₀ k = (k ≤ length w) × (startsWith (drop at s) w ≡ start
 abbrev μ-loop : tie.MeasureT-loop
 μ-loop s at w k₀ k = length w - k
 
+-- a turn, seen from where both bytes are read
+abbrev turn : tie.After-shared-slice-known2 Inv-loop μ-loop → tie.In-loop Inv-loop μ-loop
+turn c = c .before .before .before
+
 loop-holds : tie.Need-loop-holds Inv-loop μ-loop
 loop-holds c = (search needs, rw add-zero)
 
@@ -39,8 +43,8 @@ shared-slice-read-if2-2 c = search needs
 
 returns-2 : tie.Need-returns-2 Inv-loop μ-loop
 returns-2 c =
-    let a = c .before .before .before .before .before .before .args in
-    let l = c .before .before .before .before .before .loop in
+    let a = turn (c .before) .before .before .args in
+    let l = turn (c .before) .before .loop in
     sym (l .inv .1 ∙ starts-other (a .s .now) (a .w .now) (a .at) (l .k) (omega arith) (omega arith) (c .if2 .taken))
 
 add-k : tie.Need-add-k Inv-loop μ-loop
@@ -51,8 +55,8 @@ loop-less c = search needs
 
 loop-again : tie.Need-loop-again Inv-loop μ-loop
 loop-again c =
-    let a = c .before .before .before .before .before .before .args in
-    let l = c .before .before .before .before .before .loop in
+    let a = turn (c .before) .before .before .args in
+    let l = turn (c .before) .before .loop in
     (search needs, l .inv .1 ∙ starts-same (a .s .now) (a .w .now) (a .at) (l .k) (omega arith) (omega arith) (c .if2 .left))
 
 returns-3 : tie.Need-returns-3 Inv-loop μ-loop

@@ -1,6 +1,5 @@
 -- The line's length is that of its two parts.
 use Rattle.text.proofs.Writing.{length-line}
-use Prim.Native.Nat.{_-_}
 use native.Mathlib.Omega.{arith}
 use borrow.Author.Needs.{needs}
 use Rattle.text.proofs.line_len.Statement.{statement}

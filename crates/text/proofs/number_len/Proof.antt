@@ -1,6 +1,5 @@
 -- The digits and the end byte; a 64-bit number has at most 20 digits.
 use Rattle.text.proofs.Digits.{length-ended, ended-le}
-use Prim.Native.Nat.{_-_}
 use native.Mathlib.Omega.{arith}
 use borrow.Author.Needs.{needs}
 use Rattle.text.proofs.number_len.Statement.{statement}

@@ -1,11 +1,12 @@
 -- The digits written so far and those of the number that is left make up all digits.
 use borrow.Author.Needs.{needs}
 use Rattle.text.proofs.Writing.{back-step, at-zero, number-put}
-use Rattle.text.proofs.Digits.{dec, length-ended}
+use Rattle.text.specs.Loops.{dec}
+use Rattle.text.proofs.Digits.{length-ended}
 use Rattle.text.specs.Digits.{digits}
 use lib.ListN.{length, drop, length-set}
 use mathlib.Core.List.{_++_}
-use Prim.Native.Nat.{_≤_, _<_, _+_, _-_}
+use Prim.Native.Nat.{_≤_, _<_}
 use native.Mathlib.Omega.{arith}
 use mathlib.Core.Path.{_≡_, refl, sym, _∙_}
 use Rattle.text.proofs.put_number.Statement.{statement}

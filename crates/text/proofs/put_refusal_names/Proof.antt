@@ -1,7 +1,6 @@
 -- The constant's bytes are the definition's.
 use Rattle.text.proofs.Writing.{length-refusal-names}
 use Rattle.text.specs.Fixed.{refusalNames}
-use Prim.Native.Nat.{_-_}
 use native.Mathlib.Omega.{arith}
 use borrow.Author.Needs.{needs}
 use Rattle.text.proofs.put_refusal_names.Statement.{statement}

@@ -34,8 +34,9 @@ loop-less c = search needs
 
 loop-again : tie.Need-loop-again Inv-loop μ-loop
 loop-again c =
-    let l = c .before .before .before .before .loop in
-    let s = c .before .before .before .before .before .before .args .s .now in
+    let t = c .before .before .before .before in
+    let l = t .loop in
+    let s = t .before .before .args .s .now in
     let d = sym (c .before .is-digit .ensures) ∙ not-false _ (c .if1 .left) in
     omega (arith, ap length (run-on s (l .i) (omega arith) d))
 

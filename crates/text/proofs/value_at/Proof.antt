@@ -22,7 +22,7 @@ known : (c : tie.In-loop Inv-loop μ-loop)
     → (c .before .before .before .args .at + c .before .loop .i < length (c .before .before .before .args .s .now))
     × (48 ≤ getD (c .before .before .before .args .s .now) (c .before .before .before .args .at + c .before .loop .i) 0)
     × (getD (c .before .before .before .args .s .now) (c .before .before .before .args .at + c .before .loop .i) 0 ≤ 57)
-    × (c .before .loop .n < 1000000)
+    × (c .before .loop .n < 100000000)
 known c =
     let a = c .before .before .before .args in
     let l = c .before .loop in

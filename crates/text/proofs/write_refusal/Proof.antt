@@ -3,7 +3,7 @@
 use Rattle.text.proofs.Writing.{lent, length-refusal, length-refusal-names, refusal-put, not-fits, it-fits}
 use Rattle.text.specs.Digits.{line}
 use Rattle.text.specs.Fixed.{refusalText}
-use Prim.Native.Nat.{_≤_, _+_, _-_}
+use Prim.Native.Nat.{_≤_, _+_}
 use native.Mathlib.Omega.{arith}
 use mathlib.Core.Path.{_≡_}
 use mathlib.Core.List.{[], _∷_}
@@ -49,17 +49,29 @@ put-line-requires c κs = search needs
 same-length : tie.Need-same-length
 same-length c = search needs
 
+-- the lengths, and the test, seen from behind the names line
+abbrev tested : tie.After-put-refusal-names → tie.Else1
+tested c = c .before .before
+
+abbrev start : tie.After-line-len → tie.Start
+start c = c .before .before .before
+
+-- the names line, seen from behind the numbers line
+abbrev names : tie.After-put-line → tie.After-put-refusal-names
+names c = c .before .before .before .before .before
+
 returns-2 : tie.Need-returns-2
 returns-2 c =
-    let a = c .before .before .before .before .before .before .before .before .before .before .before .before .before .args in
+    let w = c .before .before in
+    let n = names w in
+    let m = tested n .before in
+    let a = start m .args in
     let t = refusalText (a .number) (a .first) (a .second) in
-    let u = line (a .number ∷ a .first ∷ []) (a .second) in
     let l = length-refusal (a .number) (a .first) (a .second) in
-    let n = c .before .before .before .before .before .before .before .put-refusal-names in
-    let k : c .before .before .before .before .before .before .before .before .before .before .line-len .result + 21 ≡ length t = omega (arith, l, c .before .before .before .before .before .before .before .before .before .before .line-len .ensures .0) in
-    let h : length t ≤ length (a .text .now) = omega (arith, c .before .before .before .before .before .before .before .before .before .if1 .left) in
-    let g = lent (n .last .0) u 21 _ _ (omega (arith, l, n .kept)) (c .before .before .put-line .ensures) in
-    rw k (it-fits (a .text .now) t 0 (omega arith) (refusal-put (a .number) (a .first) (a .second) h (n .ensures) g))
+    let k : m .line-len .result + 21 ≡ length t = omega (arith, l, m .line-len .ensures .0) in
+    let h : length t ≤ length (a .text .now) = omega (arith, tested n .if1 .left) in
+    let g = lent (n .put-refusal-names .last .0) (line (a .number ∷ a .first ∷ []) (a .second)) 21 _ _ (omega (arith, l, n .put-refusal-names .kept)) (w .put-line .ensures) in
+    rw k (it-fits (a .text .now) t 0 (omega arith) (refusal-put (a .number) (a .first) (a .second) h (n .put-refusal-names .ensures) g))
 
 pub write-refusal-spec : {M : Type 1} → statement M
 write-refusal-spec =

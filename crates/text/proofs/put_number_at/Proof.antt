@@ -2,10 +2,9 @@
 
 use Rattle.text.proofs.Writing.{lent}
 use borrow.Author.Needs.{needs}
-use Prim.Native.Nat.{_-_}
 use native.Mathlib.Omega.{arith}
-use Rattle.text.proofs.put_next.Statement.{statement}
-use Rattle.text.proofs.put_next.Tie as tie
+use Rattle.text.proofs.put_number_at.Statement.{statement}
+use Rattle.text.proofs.put_number_at.Tie as tie
 
 sub-put-number : tie.Need-sub-put-number
 sub-put-number c = search needs
@@ -28,8 +27,8 @@ same-length c = search needs
 returns : tie.Need-returns
 returns c = lent _ _ _ _ _ (c .before .before .before .before .before .pre) (c .before .before .put-number .ensures)
 
-pub put-next-spec : {M : Type 1} → statement M
-put-next-spec =
+pub put-number-at-spec : {M : Type 1} → statement M
+put-number-at-spec =
     tie.close
     (tie.spec
     sub-put-number
