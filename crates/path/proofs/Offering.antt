@@ -3,7 +3,7 @@
 use mathlib.Core.Path.{_≡_, refl, sym, ap, _∙_}
 use mathlib.Core.Logic.{_⊎_, inl, inr, _≢_}
 use mathlib.Core.List.{List}
-use Prim.Native.Nat.{ℕ, _+_, _-_, _*_, _^_, _≤_, _<_, min}
+use Prim.Native.Nat.{ℕ, _+_, _-_, _*_, _^_, _≤_, _<_}
 use native.Mathlib.Omega.{arith}
 use lib.ListN.{getD, length, length-set}
 use Rattle.assignment.specs.Rows.{el}
@@ -14,7 +14,7 @@ use Rattle.day.specs.declared.Flight.{Flight}
 use Rattle.day.specs.Day.{mostPeriods, periodRow, ofPeriod, holdCost, latestOf}
 use Rattle.day.proofs.Costs.{hold-rises, period-in}
 use Rattle.path.specs.declared.Origin.{Origin}
-use Rattle.path.specs.Path.{far, away, dearest, pays, offersTo, Nearer, CanOffer, Offers}
+use Rattle.path.specs.Path.{far, away, dearest, pays, offersTo, Nearer, FirstFrom, CanOffer, Offers}
 use Rattle.path.proofs.Rows.{away-moved, as-read}
 use Rattle.path.proofs.Listing.{list-to, list-before, list-apart}
 
@@ -32,6 +32,7 @@ pub record Offering (f : Flight) (o : Origin) (prices list dist₀ dist via₀ v
   pub last-is : last ≡ latestOf (target - 1) f
   pub goal-is : goal ≡ away dist₀ target + o .base
   pub upto : z ≤ left
+  pub later : (y : ℕ) → z ≤ y → y ≤ left → due ≤ el list y
   pub same-d : length dist ≡ length dist₀
   pub same-v : length via ≡ length via₀
   pub done : (y : ℕ) → y < z → Heard f o prices target dist₀ dist via₀ via (el list y)
@@ -43,19 +44,29 @@ module _ {f : Flight} {o : Origin} {prices list dist via : List ℕ} {left targe
       let b : target < length dist = omega (arith, c .within, c .dists) in
       (b, c .within, omega (arith, as-read dist target b, c .most, c .base-low), omega (arith, c .from-due, c .by-target), omega (arith, c .within))
 
-  pub offering-start : {due last : ℕ} → due ≡ f .due → last ≡ latestOf (target - 1) f
-      → Offering f o prices list dist dist via via left target due last (getD dist target 0 + o .base) 0
-  offering-start e g = record {
+  pub offering-start : {due last z : ℕ} → due ≡ f .due → last ≡ latestOf (target - 1) f → FirstFrom list left due z
+      → Offering f o prices list dist dist via via left target due last (getD dist target 0 + o .base) z
+  offering-start {due} {z = z} e g h = record {
     can = c;
     due-is = e;
     last-is = g;
     goal-is = ap (λ z. z + o .base) (as-read dist target (offer-room .0));
-    upto = omega arith;
+    upto = h .to;
+    later = later;
     same-d = refl;
     same-v = refl;
-    done = λ y l. absurd (omega arith);
+    done = λ y l. inr (record { far = refl; by = refl; no-nearer = λ a b. absurd (omega (arith, h .before y l)) });
     rest = λ j _. (refl, refl);
   }
+    where
+      later : (y : ℕ) → z ≤ y → y ≤ left → due ≤ el list y
+      later y a b = elim (eq? y left) [
+        | inl last ↦ omega (arith, ap (el list) last, c .shape .ends, c .by-target)
+        | inr less ↦ elim (eq? y z) [
+          | inl first ↦ rw first (h .there (omega arith))
+          | inr more ↦ omega (arith, h .there (omega arith), c .shape .rising z y (omega arith) b)
+        ]
+      ]
 
 module _ {f : Flight} {o : Origin} {prices list dist₀ dist via₀ via : List ℕ} {left target due last goal z : ℕ}
     (s : Offering f o prices list dist₀ dist via₀ via left target due last goal z) where
@@ -88,30 +99,12 @@ module _ {f : Flight} {o : Origin} {prices list dist₀ dist via₀ via : List �
     here-was : (away dist at ≡ away dist₀ at) × (el via at ≡ el via₀ at)
     here-was = rw at-is (as-was z (omega arith) (s .upto))
 
-    module _ (l : z < left) where
-      kept : (f .due ≤ at → at ≤ offersTo f target → min (away dist₀ at) (away dist₀ target) + o .base ≤ o .from + pays f prices at)
-          → Offering f o prices list dist₀ dist via₀ via left target due last goal (z + 1)
-      kept h = record {
-        can = s .can;
-        due-is = s .due-is;
-        last-is = s .last-is;
-        goal-is = s .goal-is;
-        upto = omega arith;
-        same-d = s .same-d;
-        same-v = s .same-v;
-        done = λ y b. elim (eq? y z) [
-          | inl e ↦ rw (e, ← at-is) (inr (record { far = here-was .0; by = here-was .1; no-nearer = h }))
-          | inr e ↦ s .done y (omega arith)
-        ];
-        rest = λ j a. s .rest j (λ y b. a y (omega arith));
-      }
+    pub offering-from : due ≤ at
+    offering-from = rw at-is (s .later z (omega arith) (s .upto))
 
-      pub offering-early : at < due → Offering f o prices list dist₀ dist via₀ via left target due last goal (z + 1)
-      offering-early b = kept (λ a e. absurd (omega (arith, s .due-is)))
-
-    module _ (to : at ≤ last) (from : due ≤ at) where
+    module _ (to : at ≤ last) where
       due-by : f .due ≤ at
-      due-by = omega (arith, s .due-is)
+      due-by = omega (arith, s .due-is, offering-from)
 
       to-target : at ≤ target
       to-target = rw at-is (list-to (s .can .shape) z (s .upto))
@@ -196,6 +189,7 @@ module _ {f : Flight} {o : Origin} {prices list dist₀ dist via₀ via : List �
               last-is = s .last-is;
               goal-is = s .goal-is;
               upto = omega arith;
+              later = λ y a b. s .later y (omega arith) b;
               same-d = sizes .0 ∙ s .same-d;
               same-v = sizes .1 ∙ s .same-v;
               done = up-to;
@@ -219,8 +213,35 @@ module _ {f : Flight} {o : Origin} {prices list dist₀ dist via₀ via : List �
     pub target-at : target ≡ getD list z 0
     target-at = sym (ap (el list) e ∙ s .can .shape .ends)
 
-    pub target-from : due ≤ target
-    target-from = omega (arith, s .due-is, s .can .by-target)
-
     pub target-free : 0 ≡ ofPeriod prices target
     target-free = sym (s .can .free)
+
+-- ---- first_from
+
+-- the periods before place z are before `due`
+pub record Seeking (list : List ℕ) (left due z : ℕ) : Type 0 where
+  pub rows : (length list ≡ periodRow) × (left < periodRow)
+  pub to : z ≤ left
+  pub before : (y : ℕ) → y < z → el list y < due
+
+pub seeking-start : {list : List ℕ} {left due : ℕ} → (length list ≡ periodRow) × (left < periodRow) → Seeking list left due 0
+seeking-start c = record { rows = c; to = omega arith; before = λ y l. absurd (omega arith) }
+
+module _ {list : List ℕ} {left due z : ℕ} (s : Seeking list left due z) where
+  pub seeking-end : left ≤ z → FirstFrom list left due z
+  seeking-end l = record { to = s .to; before = s .before; there = λ b. absurd (omega arith) }
+
+  module _ (l : z < left) where
+    pub seeking-room : (z < length list) × (z < periodRow)
+    seeking-room = omega (arith, s .rows)
+
+    module _ {at : ℕ} (at-is : at ≡ getD list z 0) where
+      pub seeking-found : due ≤ at → FirstFrom list left due z
+      seeking-found b = record { to = s .to; before = s .before; there = λ _. omega (arith, at-is) }
+
+      pub seeking-next : at < due → Seeking list left due (z + 1)
+      seeking-next b = record {
+        rows = s .rows;
+        to = omega arith;
+        before = λ y c. elim (eq? y z) [ inl e ↦ rw e (omega (arith, at-is)) | inr e ↦ s .before y (omega arith) ];
+      }

@@ -241,6 +241,12 @@ pub record Nearer (dist dist₂ via via₂ : List ℕ) (k v who : ℕ) : Type 0 
 
 -- ---- the offers of one flight
 
+-- the periods of the list before place z are before `due`, the others are not; the last may be
+pub record FirstFrom (list : List ℕ) (left due z : ℕ) : Type 0 where
+  pub to : z ≤ left
+  pub before : (y : ℕ) → y < z → el list y < due
+  pub there : z < left → due ≤ el list z
+
 -- what a flight pays in period k
 abbrev pub pays : Flight → List ℕ → ℕ → ℕ
 pays f prices k = holdCost f (k - f .due) + ofPeriod prices k

@@ -4,7 +4,7 @@ ghost use Prim.Native.Nat.{_+_, _<_};
 ghost use lib.ListN.{length};
 ghost use Rattle.assignment.specs.Rows.{el};
 ghost use Rattle.day.specs.Day.{lent, periodRow};
-ghost use Rattle.path.specs.Path.{away, CanList, Filled, Removed, CanNear, NearestIn, CanLevel, Levelled, NextLevel, Nearer, CanOffer, Offers, CanExpandSome, ExpandedAll, CanSearchSome, SearchedAll};
+ghost use Rattle.path.specs.Path.{away, CanList, Filled, Removed, CanNear, NearestIn, CanLevel, Levelled, NextLevel, Nearer, FirstFrom, CanOffer, Offers, CanExpandSome, ExpandedAll, CanSearchSome, SearchedAll};
 use day::Flight;
 use day::PERIOD_ROW;
 use day::due_of;
@@ -162,6 +162,21 @@ fn bring_nearer(dist: &mut [usize], via: &mut [usize], k: usize, away: usize, wh
     }
 }
 
+// The first place of the list whose period is not before `due`; at the latest the last, where the target stands.
+fn first_from(list: &[u8], left: usize, due: usize) -> usize
+    requires { ⌜ (length (now list) ≡ periodRow) × (left < periodRow) ⌝ }
+    ensures { λ z. ⌜ FirstFrom (now (list .entry)) left due z ⌝ }
+{
+    let mut z = 0;
+    while z < left {
+        if due <= period(list[z]) {
+            return z;
+        }
+        z += 1;
+    }
+    z
+}
+
 // A flight offers the periods of its window that stand in the list, up to the target, which stands last: from the distance of its origin to
 // what it pays there more than at home. Costs rise with the hold, so that behind the first offer that is no nearer than the target none is.
 // The target has no price.
@@ -181,21 +196,19 @@ fn offer(
     let due = wide(f.due);
     let last = latest_of(target - 1, f);
     let goal = dist[target] + o.base;
-    let mut z = 0;
+    let mut z = first_from(list, left, due);
     while z < left {
         let at = period(list[z]);
         z += 1;
         if last < at {
             return;
         }
-        if due <= at {
-            let reach = o.from + hold_cost(f, at - due);
-            if goal <= reach {
-                return;
-            }
-            let price = wide(prices[at - 1]);
-            bring_nearer(dist, via, at, reach + price - o.base, o.who);
+        let reach = o.from + hold_cost(f, at - due);
+        if goal <= reach {
+            return;
         }
+        let price = wide(prices[at - 1]);
+        bring_nearer(dist, via, at, reach + price - o.base, o.who);
     }
     if target <= last {
         let reach = o.from + hold_cost(f, target - due);
