@@ -1,4 +1,4 @@
--- The laws of sums and counts; among them the exchange of a sum over flights with one over periods, and weak duality in its bare form.
+-- The laws of sums and counts; among them the exchange of a sum over flights with one over periods.
 -- Assumes nothing.
 use mathlib.Core.Path.{_≡_, refl, sym, ap, ap₂, _∙_}
 use mathlib.Core.Logic.{inl, inr, _≢_}
@@ -19,18 +19,6 @@ pub sum-le : (n : ℕ) (f g : ℕ → ℕ) → ((i : ℕ) → i < n → f i ≤ 
 unfolding sum
 sum-le zero f g h = zero-le
 sum-le (suc n) f g h = omega (arith, sum-le n f g (λ i l. h i (omega arith)), h n (omega arith))
-
--- terms that are at most others, and come to as much, are those
-pub sum-tight : (n : ℕ) (f g : ℕ → ℕ) → ((i : ℕ) → i < n → f i ≤ g i) → sum n g ≤ sum n f → (i : ℕ) → i < n → g i ≤ f i
-unfolding sum
-sum-tight zero f g h e i l = omega arith
-sum-tight (suc n) f g h e i l =
-    let rest = sum-le n f g (λ j m. h j (omega arith)) in
-    let here = h n (omega arith) in
-    elim (eq? i n) [
-      | inl same ↦ rw same (omega arith)
-      | inr other ↦ sum-tight n f g (λ j m. h j (omega arith)) (omega arith) i (omega arith)
-    ]
 
 pub sum-member : (n i : ℕ) (f : ℕ → ℕ) → i < n → f i ≤ sum n f
 unfolding sum
@@ -101,25 +89,6 @@ exchange (suc n) m x g =
 pub exchange-all : (n m : ℕ) (x g : ℕ → ℕ) → ((i : ℕ) → i < n → x i < m) → sum n (λ i. g (x i)) ≡ sum m (λ k. g k * count n x k)
 exchange-all n m x g h =
     sum-ext n (λ i. g (x i)) (λ i. gate (ltb (x i) m) (g (x i))) (λ i l. sym (gate-lt (x i) m (g (x i)) (h i l))) ∙ exchange n m x g
-
--- Weak duality, bare: flight i costs cx i and lands at x i in the one plan, cy i and y i in the other. If no flight gains by
--- leaving the first plan at these prices, and the first plan's landings sell for at least as much, period by period, it costs no more.
-pub duality : (n m : ℕ) (x y price cx cy : ℕ → ℕ)
-    → ((i : ℕ) → i < n → x i < m)
-    → ((i : ℕ) → i < n → y i < m)
-    → ((i : ℕ) → i < n → cx i + price (x i) ≤ cy i + price (y i))
-    → ((k : ℕ) → k < m → price k * count n y k ≤ price k * count n x k)
-    → sum n cx ≤ sum n cy
-duality n m x y price cx cy hx hy best sold =
-    omega (
-      arith,
-      sum-le n (λ i. cx i + price (x i)) (λ i. cy i + price (y i)) best,
-      sum-add n cx (λ i. price (x i)),
-      sum-add n cy (λ i. price (y i)),
-      exchange-all n m x price hx,
-      exchange-all n m y price hy,
-      sum-le m (λ k. price k * count n y k) (λ k. price k * count n x k) sold,
-    )
 
 -- one flight moved
 pub count-move : (n i : ℕ) (x y : ℕ → ℕ) → i < n → ((j : ℕ) → j < n → j ≢ i → y j ≡ x j) → (k : ℕ)

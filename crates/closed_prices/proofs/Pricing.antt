@@ -2,15 +2,14 @@
 -- Assumes nothing.
 use mathlib.Core.Path.{_≡_, refl, sym, ap, _∙_}
 use mathlib.Core.Logic.{_⊎_, inl, inr, _≢_}
-use mathlib.Core.List.{List, _∷_}
-use Prim.Native.Nat.{ℕ, zero, suc, _+_, _-_, _*_, _/_, _^_, _≤_, _<_}
+use mathlib.Core.List.{List}
+use Prim.Native.Nat.{ℕ, _+_, _-_, _*_, _^_, _≤_, _<_}
 use native.Mathlib.Omega.{arith}
 use lib.ListN.{getD, length, set, length-set}
-use lib.Seq.{getD-set-same, getD-set-other}
 use Rattle.assignment.specs.Moves.{Moved}
 use Rattle.assignment.proofs.Tests.{eq?, lt?}
 use Rattle.day.specs.Day.{Day, P, N, mostPeriods, mostFlights, width, column, flightAt, flightCount, ofPeriod, holdCost, latestOf, cost, capacity, hold, land}
-use Rattle.day.proofs.Costs.{period-in, period-out}
+use Rattle.day.proofs.Costs.{period-in, period-out, period-moved}
 use Rattle.closed_prices.specs.ClosedPrices.{paid, costIn, Reaches, CanPay, Shortfall, Sets, LeastPrice, CanPrice, Priced}
 
 -- ---- shortfall
@@ -26,7 +25,7 @@ module _ {p : ℕ} {flights holds prices : List ℕ} {i k : ℕ} (c : CanPay p f
   out-late e b = record { high = λ w. absurd (omega (arith, w .limited)); low = inl refl }
 
   module _ {due₁ last h : ℕ} (due-is : due₁ ≡ column 1 flights i) (from : due₁ ≤ k) (last-is : last ≡ latestOf p (flightAt flights i)) (to : k ≤ last) (h-is : h ≡ getD holds i 0) where
-    pub pay-hold : (h < 2 ^ 32) × (due₁ + h ≤ 97) × (k - due₁ < 2 ^ 32)
+    pub pay-hold : (h < 2 ^ 32) × (due₁ + h ≤ mostPeriods + 1) × (k - due₁ < 2 ^ 32)
     pay-hold = omega (arith, due-is, h-is, c .few i l, c .valid .periods-to, c .period)
 
     reaches : Reaches p flights i k
@@ -100,16 +99,6 @@ module _ {p : ℕ} {flights holds prices : List ℕ} {k count price i : ℕ} (s 
       }
 
 -- ---- price_closed
-
--- an entry of a row that has one for each period
-pub period-moved : (row : List ℕ) (k v : ℕ) → 1 ≤ k → k ≤ length row → Moved (ofPeriod row) (ofPeriod (set row (k - 1) v)) k v
-period-moved row zero v some l = absurd (omega arith)
-period-moved row (suc k) v some l =
-    let e : suc k - 1 ≡ k = omega arith in
-    rw e (record {
-      here = getD-set-same (0 ∷ row) (suc k) v 0 (omega arith);
-      others = λ o f. getD-set-other (0 ∷ row) (suc k) o v 0 f;
-    })
 
 module _ {p : ℕ} {flights holds prices : List ℕ} (prices₂ : List ℕ)
     (same : (i : ℕ) → i < flightCount flights → paid flights holds prices₂ i ≡ paid flights holds prices i) where

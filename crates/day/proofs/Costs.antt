@@ -7,10 +7,12 @@ use Prim.Native.Nat.{ℕ, zero, suc, _+_, _-_, _*_, _≤_, _<_}
 use native.Mathlib.Nat.{mul-le-mul, mul-le-mul-left}
 use native.Mathlib.Omega.{arith}
 use lib.Dec.{ltb}
-use lib.ListN.{length, getD, List·getD-eq-default}
+use lib.ListN.{length, getD, set, List·getD-eq-default}
+use lib.Seq.{getD-set-same, getD-set-other}
 use borrow.Author.Tests.{lt-ltb, le-ltb, eq-eqb, ne-eqb}
 use Rattle.assignment.specs.Sum.{gate}
-use Rattle.assignment.proofs.Tests.{lt?, gate-lt, gate-ge, gate-eq, gate-ne}
+use Rattle.assignment.specs.Moves.{Moved}
+use Rattle.assignment.proofs.Tests.{eq?, lt?, gate-lt, gate-ge, gate-eq, gate-ne}
 use Rattle.day.specs.declared.Flight.{Flight}
 use Rattle.day.specs.Day.{Day, P, due, rate, after, jump, limit, ofPeriod, takes, flightAt, holdCost, cost, latestOf, latest}
 
@@ -22,6 +24,16 @@ period-in row (suc k) h = let e : k ≡ suc k - 1 = omega arith in ap (λ z. get
 
 pub period-out : (row : List ℕ) (k : ℕ) → length row < k → ofPeriod row k ≡ 0
 period-out row k h = List·getD-eq-default (0 ∷ row) 0 h
+
+-- one entry stored
+pub period-moved : (row : List ℕ) (k v : ℕ) → 1 ≤ k → k ≤ length row → Moved (ofPeriod row) (ofPeriod (set row (k - 1) v)) k v
+period-moved row zero v some l = absurd (omega arith)
+period-moved row (suc k) v some l =
+    let e : suc k - 1 ≡ k = omega arith in
+    rw e (record {
+      here = getD-set-same (0 ∷ row) (suc k) v 0 (omega arith);
+      others = λ o f. getD-set-other (0 ∷ row) (suc k) o v 0 f;
+    })
 
 -- ---- what a period takes
 
@@ -80,3 +92,6 @@ module _ (d : Day) (i : ℕ) where
   pub latest-given : limit d i ≢ 255 → latest d i ≡ due d i + limit d i
   unfolding latestOf flightAt
   latest-given e = rw (ne-eqb (limit d i) 255 e)
+
+  pub due-latest : due d i ≤ P d → due d i ≤ latest d i
+  due-latest l = elim (eq? (limit d i) 255) [ inl e ↦ omega (arith, latest-missing e) | inr e ↦ omega (arith, latest-given e) ]

@@ -10,15 +10,15 @@ use lib.Dec.{leb, le→leb}
 use Rattle.assignment.specs.Sum.{gate}
 use Rattle.assignment.specs.Assignment as A
 use Rattle.assignment.specs.Rows.{row}
-use Rattle.assignment.proofs.Tests.{lt?, eq?, gate-on, gate-le}
+use Rattle.assignment.proofs.Tests.{lt?, gate-on, gate-le}
 use Rattle.assignment.proofs.Sums.{sum-most, sum-member, count-ext}
 use Rattle.assignment.proofs.Rows.{row-length, row-at}
 use Rattle.assignment.proofs.Existence as existence
-use Rattle.day.specs.Day.{Day, P, N, due, limit, takes, land}
+use Rattle.day.specs.Day.{Day, P, N, due, takes, land}
 use Rattle.day.specs.Plan.{Legal, Short, Picked}
-use Rattle.day.proofs.Costs.{takes-closing, latest-missing, latest-given}
 use Rattle.day.specs.Valid.{Valid}
 use Rattle.day.specs.Instance.{instance, last}
+use Rattle.day.proofs.Costs.{takes-closing, due-latest}
 use Rattle.day.proofs.Instance.{instance-legal, instance-short, short-has-no-plan}
 
 pub record HasPlan (d : Day) : Type 0 where
@@ -33,10 +33,7 @@ pub record HasShort (d : Day) : Type 0 where
 module _ {d : Day} (v : Valid d) where
   due-le-last : (i : ℕ) → i < N d → due d i ≤ last d i
   unfolding last
-  due-le-last i l = elim (eq? (limit d i) 255) [
-    | inl e ↦ omega (arith, latest-missing d i e, v .flight i l .due-to)
-    | inr e ↦ omega (arith, latest-given d i e, v .flight i l .due-to)
-  ]
+  due-le-last i l = omega (arith, due-latest d i (v .flight i l .due-to), v .flight i l .due-to)
 
   plan-of-day : existence.HasPlan (instance d) → HasPlan d
   plan-of-day p = record { holds = holds; legal = instance-legal v (row-length (N d) _) legal }

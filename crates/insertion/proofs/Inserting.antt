@@ -22,9 +22,9 @@ use Rattle.assignment.proofs.Closed.{open-cost, shut-cost, opened-short, lands-
 use Rattle.assignment.proofs.Permuted.{permuted-short, reordered-sound, reordered-total}
 use Rattle.assignment.proofs.Restricted.{Rising, until-near, restrict, widen, widen-short}
 use Rattle.assignment.proofs.Rows.{set-moved}
-use Rattle.day.specs.Day.{Day, width, P, N, mostFlights, periodRow, ofPeriod, takes, due, limit, cost}
+use Rattle.day.specs.Day.{Day, width, P, N, mostFlights, periodRow, ofPeriod, takes, due, cost}
 use Rattle.day.specs.Instance.{instance, last, last-to}
-use Rattle.day.proofs.Costs.{takes-in, takes-closing, latest-missing, latest-given, cost-grows}
+use Rattle.day.proofs.Costs.{takes-in, takes-closing, due-latest, cost-grows}
 use Rattle.day.proofs.Instance.{cost-le, instance-short}
 use Rattle.path.specs.Path.{far, away, dear, begun, scope, landing, Table, Scene, Searched, CanSearchSome, SearchedAll}
 use Rattle.path.proofs.Rows.{as-read}
@@ -34,13 +34,9 @@ use Rattle.insertion.proofs.Steps.{added-chained, added-loads}
 
 -- ---- the numbers of a day
 
-module _ (d : Day) (i : ℕ) where
-  due-latest : due d i ≤ P d → due d i ≤ last d i
-  unfolding last
-  due-latest l = elim (eq? (limit d i) 255) [
-    | inl e ↦ omega (arith, latest-missing d i e)
-    | inr e ↦ omega (arith, latest-given d i e)
-  ]
+due-last : (d : Day) (i : ℕ) → due d i ≤ P d → due d i ≤ last d i
+unfolding last
+due-last d i l = omega (arith, due-latest d i l)
 
 -- a restriction changes no cost
 same-total : (d : A.Instance) (target : ℕ) (x : ℕ → ℕ) → A.total (restricted d target) x ≡ A.total d x
@@ -141,7 +137,7 @@ module _ {d : Day} {places holds prices : List ℕ} {n : ℕ} (s : Placed d plac
                 floor = λ o b. s .falling o n (omega arith) (omega arith) l;
                 ceiling = λ o b low. omega (arith, until-near (last d (el places o)) low);
                 from = f .due-from;
-                some = omega (arith, until-near (last d (el places n)) near, due-latest d (el places n) (f .due-to), first-at, room .from);
+                some = omega (arith, until-near (last d (el places n)) near, due-last d (el places n) (f .due-to), first-at, room .from);
                 before = near;
                 within = omega (arith, room .to);
                 full = λ k a b. omega (

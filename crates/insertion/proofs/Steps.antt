@@ -24,8 +24,7 @@ use Rattle.assignment.proofs.Insertion.{going-step}
 use Rattle.assignment.proofs.Permuted.{permuted-other, permuted-same, swapped}
 use Rattle.assignment.proofs.Rows.{set-moved}
 use Rattle.day.specs.Day.{mostFlights, periodRow, width, column, flightCount, ofPeriod, hold}
-use Rattle.day.proofs.Costs.{period-out}
-use Rattle.closed_prices.proofs.Pricing.{period-moved}
+use Rattle.day.proofs.Costs.{period-out, period-moved}
 use Rattle.path.specs.Path.{far, away, landing, Chained}
 use Rattle.path.proofs.Rows.{away-moved, as-read}
 use Rattle.insertion.specs.Insertion.{EachOnce, home, Added, CanFind, FirstRoom, Hop, Linked, CanWalk, Walked, CanForget, Forgotten, CanRaise, Raised, Cleared}
