@@ -1,5 +1,5 @@
 // The full plan of a day: a cheapest legal plan and prices that show it, or the short stretch that leaves none.
-ghost use Rattle.day.specs.Day.{day};
+ghost use Rattle.day.specs.Day.{lent};
 ghost use Rattle.full_plan.specs.FullPlan.{FullPlan};
 use answers::Answer;
 use day::flight_count;
@@ -15,7 +15,7 @@ pub fn full_plan(
     holds: &mut [u32],
     prices: &mut [u32],
 ) -> Answer
-    ensures { λ r. ⌜ FullPlan (day (now (capacities .entry)) (now (flights .entry))) r (now (holds .entry)) (now (prices .entry)) (now (holds .exit)) (now (prices .exit)) ⌝ }
+    ensures { λ r. ⌜ FullPlan (lent (capacities .entry) (flights .entry)) r (now (holds .entry)) (now (prices .entry)) (now (holds .exit)) (now (prices .exit)) ⌝ }
 {
     if !is_valid(capacities, flights) {
         return Answer::BadDay;

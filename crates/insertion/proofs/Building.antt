@@ -17,20 +17,22 @@ use Rattle.assignment.proofs.Insertion.{sound-start, price-le}
 use Rattle.assignment.proofs.Chains.{chained-start}
 use Rattle.assignment.proofs.Closed.{Tied, priced, lands-open, opened-total}
 use Rattle.assignment.proofs.Permuted.{Stands, permuted-stands, permuted-accepted, permuted-total}
-use Rattle.day.specs.Day.{Day, P, N, ofPeriod, due, capacity, cost as cost-of, Window, hold, land, total}
-use Rattle.day.proofs.Costs.{period-out}
-use Rattle.day.proofs.Instance.{instance, last-to, places-in, places-closing, cost-le, window-in, in-window, instance-accepted, total-instance}
+use Rattle.day.specs.Day.{Day, P, N, mostFlights, periodRow, ofPeriod, due, capacity, cost as cost-of, Window, hold, land, total}
+use Rattle.day.specs.Instance.{instance, last-to}
+use Rattle.day.proofs.Costs.{period-out, takes-in, takes-closing}
+use Rattle.day.proofs.Valid.{valid-flights}
+use Rattle.day.proofs.Instance.{cost-le, window-in, in-window, instance-accepted, total-instance}
 use Rattle.closed_prices.specs.ClosedPrices.{paid, Sets, CanPrice, Priced}
 use Rattle.due_order.specs.DueOrder.{DueOrder, CanOrder}
-use Rattle.path.specs.Path.{far, away, dear, room-in, begun, landing}
+use Rattle.path.specs.Path.{far, away, dear, room-in, chainRow, begun, landing}
 use Rattle.insertion.specs.Insertion.{Placed, Kept, Inserted, cost-of-placed, Cleared, CanInsert, Planned}
 use Rattle.insertion.proofs.Inserting.{placed-total}
 
 -- n flights are placed at the cost that was added up
-pub record Building (d : Day) (places holds prices loads first-in next-in list queue dist turn via : List ℕ) (cost n : ℕ) : Type 0 where
-  pub places-row : length places ≡ 128
+pub record Building (d : Day) (places holds prices loads links dist via : List ℕ) (cost n : ℕ) : Type 0 where
+  pub places-row : length places ≡ mostFlights
   pub placed : Placed d places holds prices n
-  pub kept : Kept d places holds loads first-in next-in list queue dist turn via n
+  pub kept : Kept d places holds loads links dist via n
   pub cost-is : cost ≡ cost-of-placed d places holds n
 
 blank : (m k : ℕ) → el (replicate m 0) k ≡ 0
@@ -50,14 +52,14 @@ unfolding A.total sum
 none-placed d x e = rw e
 
 module _ {d : Day} {holds prices : List ℕ} (c : CanInsert d holds prices) where
-  pub building-order : CanOrder d (replicate 128 0)
-  building-order = record { valid = c .valid; row = omega (arith, c .valid .flights-to, length-replicate {A = ℕ} 128 0) }
+  pub building-order : CanOrder (P d) (d .flights) (replicate mostFlights 0)
+  building-order = record { valid = valid-flights (c .valid); row = omega (arith, c .valid .flights-to, length-replicate {A = ℕ} mostFlights 0) }
 
-  pub building-start : {places prices₀ : List ℕ} → length places ≡ length (replicate {A = ℕ} 128 0) → DueOrder d places
+  pub building-start : {places prices₀ : List ℕ} → length places ≡ length (replicate {A = ℕ} mostFlights 0) → DueOrder (d .flights) places
       → length prices₀ ≡ length prices → Cleared prices₀
-      → Building d places holds prices₀ (replicate 98 0) (replicate 98 0) (replicate 128 0) (replicate 98 0) (replicate 98 0) (replicate 98 far) (replicate 98 0) (replicate 98 0) 0 0
+      → Building d places holds prices₀ (replicate periodRow 0) (replicate chainRow 0) (replicate periodRow far) (replicate periodRow 0) 0 0
   building-start {places} row o same none = record {
-    places-row = row ∙ length-replicate {A = ℕ} 128 0;
+    places-row = row ∙ length-replicate {A = ℕ} mostFlights 0;
     placed = record {
       table = record { valid = c .valid; row = o .row; permuted = o .permuted };
       falling = λ s t le _ b. o .falling s t le b;
@@ -68,41 +70,33 @@ module _ {d : Day} {holds prices : List ℕ} (c : CanInsert d holds prices) wher
       sound = sound-start refl none;
     };
     kept = record {
-      loads-row = length-replicate {A = ℕ} 98 0;
-      loads-are = λ k _. blank 98 k ∙ sym (count-zero (landing d places holds) k);
-      chained = record {
-        firsts = length-replicate {A = ℕ} 98 0;
-        nexts = length-replicate {A = ℕ} 128 0;
-        chains = chained-start (λ k _. blank 98 k);
-      };
-      listed = length-replicate {A = ℕ} 98 0;
-      queue-row = length-replicate {A = ℕ} 98 0;
-      rows = record { dists = length-replicate {A = ℕ} 98 far; turns = length-replicate {A = ℕ} 98 0; vias = length-replicate {A = ℕ} 98 0 };
-      all-far = blank-far 98;
-      no-turns = blank 98;
+      loads-row = length-replicate {A = ℕ} periodRow 0;
+      loads-are = λ k _. blank periodRow k ∙ sym (count-zero (landing (d .flights) places holds) k);
+      chained = record { row = length-replicate {A = ℕ} chainRow 0; chains = chained-start (λ k _. blank chainRow k) };
+      dists = length-replicate {A = ℕ} periodRow far;
+      vias = length-replicate {A = ℕ} periodRow 0;
+      all-far = blank-far periodRow;
     };
-    cost-is = sym (none-placed (begun d places 0) (landing d places holds) refl);
+    cost-is = sym (none-placed (begun d places 0) (landing (d .flights) places holds) refl);
   }
 
-module _ {d : Day} {places holds prices loads first-in next-in list queue dist turn via : List ℕ} {cost n : ℕ}
-    (s : Building d places holds prices loads first-in next-in list queue dist turn via cost n) where
+module _ {d : Day} {places holds prices loads links dist via : List ℕ} {cost n : ℕ} (s : Building d places holds prices loads links dist via cost n) where
   pub building-more : n < length holds → n < N d
   building-more l = omega (arith, s .placed .holds-row)
 
   module _ {places₂ holds₂ prices₂ : List ℕ} {added : ℕ} (a : Inserted d places places₂ holds holds₂ prices₂ n added) where
-    pub building-small : (cost + added ≤ 250880000) × (n < 128)
+    pub building-small : (cost + added ≤ 250880000) × (n < mostFlights)
     building-small = omega (arith, s .cost-is, a .adds, placed-total (a .placed), a .placed .upto, s .placed .table .valid .flights-to)
 
-    pub building-next : {loads₂ first-in₂ next-in₂ list₂ queue₂ dist₂ turn₂ via₂ : List ℕ} → length places₂ ≡ length places
-        → Kept d places₂ holds₂ loads₂ first-in₂ next-in₂ list₂ queue₂ dist₂ turn₂ via₂ (n + 1)
-        → Building d places₂ holds₂ prices₂ loads₂ first-in₂ next-in₂ list₂ queue₂ dist₂ turn₂ via₂ (cost + added) (n + 1)
+    pub building-next : {loads₂ links₂ dist₂ via₂ : List ℕ} → length places₂ ≡ length places → Kept d places₂ holds₂ loads₂ links₂ dist₂ via₂ (n + 1)
+        → Building d places₂ holds₂ prices₂ loads₂ links₂ dist₂ via₂ (cost + added) (n + 1)
     building-next same kept = record { places-row = same ∙ s .places-row; placed = a .placed; kept = kept; cost-is = omega (arith, s .cost-is, a .adds) }
 
   module _ (end : length holds ≤ n) where
     all-placed : n ≡ N d
     all-placed = omega (arith, s .placed .upto, s .placed .holds-row)
 
-    sound : Sound (begun d places (N d)) (landing d places holds) (ofPeriod prices)
+    sound : Sound (begun d places (N d)) (landing (d .flights) places holds) (ofPeriod prices)
     sound = rw all-placed at (s .placed .sound)
 
     -- all flights, at their table places
@@ -112,8 +106,8 @@ module _ {d : Day} {places holds prices loads first-in next-in list queue dist t
     total-same : cost ≡ total d holds
     total-same =
         s .cost-is ∙ ap (cost-of-placed d places holds) all-placed
-        ∙ opened-total whole dear (landing d places holds) (sound .accepted .legal)
-        ∙ permuted-total (instance d) (s .placed .table .permuted) (landing d places holds) (land d holds) (λ o l. refl)
+        ∙ opened-total whole dear (landing (d .flights) places holds) (sound .accepted .legal)
+        ∙ permuted-total (instance d) (s .placed .table .permuted) (landing (d .flights) places holds) (land d holds) (λ o l. refl)
         ∙ total-instance d holds
 
     -- where the flight at table place i stands
@@ -128,7 +122,7 @@ module _ {d : Day} {places holds prices loads first-in next-in list queue dist t
     pub building-price : CanPrice d holds prices
     building-price = record {
       can = λ k to. record {
-        valid = s .placed .table .valid;
+        valid = valid-flights (s .placed .table .valid);
         holds-row = s .placed .holds-row;
         few = few;
         low = λ i l. omega (
@@ -146,7 +140,7 @@ module _ {d : Day} {places holds prices loads first-in next-in list queue dist t
             arith,
             ap (λ o. room-in d (land d holds o)) (h .is),
             lands-open (sound .accepted .legal) (h .at) (h .in-row),
-            places-in d (land d holds i) in-day,
+            takes-in (d .capacities) (land d holds i) in-day,
           );
     }
 
@@ -154,40 +148,40 @@ module _ {d : Day} {places holds prices loads first-in next-in list queue dist t
       -- a closed period of a window is one of 1 .. P
       in-day : {i k : ℕ} → Window d i k → i < N d → room-in d k ≡ 0 → (1 ≤ k) × (k ≤ P d) × (capacity d k ≡ 0)
       in-day {i} {k} w l none =
-          let open-end : k ≢ P d + 1 = λ e. omega (arith, ap (room-in d) e, places-closing d) in
+          let open-end : k ≢ P d + 1 = λ e. omega (arith, ap (room-in d) e, takes-closing (d .capacities)) in
           let to : k ≤ P d = omega (arith, w .closing) in
-          omega (arith, w .from, s .placed .table .valid .flight i l .due-from, to, places-in d k to)
+          omega (arith, w .from, s .placed .table .valid .flight i l .due-from, to, takes-in (d .capacities) k to)
 
       held : (i : ℕ) → land d holds i - due d i ≡ hold holds i
       held i = omega arith
 
-      pays : (o : ℕ) → whole .cost o (landing d places holds o) + ofPeriod prices (landing d places holds o) ≡ paid d holds prices (el places o)
+      pays : (o : ℕ) → whole .cost o (landing (d .flights) places holds o) + ofPeriod prices (landing (d .flights) places holds o) ≡ paid (d .flights) holds prices (el places o)
       pays o = ap (λ h. cost-of d (el places o) h + ofPeriod prices (land d holds (el places o))) (held (el places o))
 
       high : (o k : ℕ) → o < N d → A.In whole o k → room-in d k ≡ 0
-          → whole .cost o (landing d places holds o) + ofPeriod prices (landing d places holds o) ≤ whole .cost o k + ofPeriod prices₂ k
+          → whole .cost o (landing (d .flights) places holds o) + ofPeriod prices (landing (d .flights) places holds o) ≤ whole .cost o k + ofPeriod prices₂ k
       high o k l v none =
           let b = s .placed .table .permuted .below o l in
           let w : Window d (el places o) k = in-window (record { from = v .from; to = v .to }) in
           let t = in-day w b none in
-          omega (arith, pays o, c .least k (t .0) (t .1) (t .2) .high (el places o) b w)
+          omega (arith, pays o, c .least k (t .0) (t .1) (t .2) .high (el places o) b (record { from = w .from; limited = w .limited }))
 
-      low : (k : ℕ) → room-in d k ≡ 0 → (ofPeriod prices₂ k ≡ 0) ⊎ Tied whole (landing d places holds) (ofPeriod prices) (ofPeriod prices₂) k
+      low : (k : ℕ) → room-in d k ≡ 0 → (ofPeriod prices₂ k ≡ 0) ⊎ Tied whole (landing (d .flights) places holds) (ofPeriod prices) (ofPeriod prices₂) k
       low k none = elim (eq? k 0) [
         | inl e ↦ inl (rw e refl)
         | inr e ↦ elim (lt? (P d) k) [
           | inl past ↦ inl (period-out prices₂ k (omega (arith, same-row, s .placed .prices-row)))
-          | inr in-row ↦ elim (c .least k (omega arith) in-row (omega (arith, places-in d k in-row)) .low) [
+          | inr in-row ↦ elim (c .least k (omega arith) in-row (omega (arith, takes-in (d .capacities) k in-row)) .low) [
             | inl free ↦ inl free
-            | inr a ↦ inr (tied a (at-place (a .by) (a .who)))
+            | inr a ↦ inr (tied in-row a (at-place (a .by) (a .who)))
           ]
         ]
       ]
         where
-          tied : (a : Sets d holds prices (N d) k (ofPeriod prices₂ k)) → Stands (N d) (el places) (a .by)
-              → Tied whole (landing d places holds) (ofPeriod prices) (ofPeriod prices₂) k
-          tied a h =
-              let w = window-in (a .window) in
+          tied : k ≤ P d → (a : Sets (P d) (d .flights) holds prices (N d) k (ofPeriod prices₂ k)) → Stands (N d) (el places) (a .by)
+              → Tied whole (landing (d .flights) places holds) (ofPeriod prices) (ofPeriod prices₂) k
+          tied to a h =
+              let w = window-in {d = d} {i = a .by} (record { from = a .reaches .from; closing = omega arith; limited = a .reaches .limited }) in
               record {
                 by = h .at;
                 who = h .in-row;
@@ -195,9 +189,9 @@ module _ {d : Day} {places holds prices loads first-in next-in list queue dist t
                 tie = rw (h .is) (a .tie) ∙ sym (pays (h .at));
               }
 
-      all-priced : Sound whole (landing d places holds) (ofPeriod prices₂)
+      all-priced : Sound whole (landing (d .flights) places holds) (ofPeriod prices₂)
       all-priced = priced whole dear sound (λ k some. elim (lt? (P d) k) [
-        | inr in-row ↦ c .same k (omega (arith, places-in d k in-row))
+        | inr in-row ↦ c .same k (omega (arith, takes-in (d .capacities) k in-row))
         | inl past ↦
             period-out prices₂ k (omega (arith, same-row, s .placed .prices-row)) ∙ sym (period-out prices k (omega (arith, s .placed .prices-row)))
       ]) high low
@@ -205,11 +199,11 @@ module _ {d : Day} {places holds prices loads first-in next-in list queue dist t
       pub building-end : Planned d holds prices₂ cost
       building-end = record {
         accepted = instance-accepted (s .placed .table .valid) (s .placed .holds-row) (same-row ∙ s .placed .prices-row)
-            (permuted-accepted (instance d) (s .placed .table .permuted) (landing d places holds) (land d holds) (λ o l. refl) (all-priced .accepted));
+            (permuted-accepted (instance d) (s .placed .table .permuted) (landing (d .flights) places holds) (land d holds) (λ o l. refl) (all-priced .accepted));
         low = λ k. omega (
           arith,
           price-le all-priced k,
-          permuted-total (instance d) (s .placed .table .permuted) (landing d places holds) (land d holds) (λ o l. refl),
+          permuted-total (instance d) (s .placed .table .permuted) (landing (d .flights) places holds) (land d holds) (λ o l. refl),
           total-instance d holds,
         );
         is-total = total-same;

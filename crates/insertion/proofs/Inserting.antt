@@ -22,10 +22,11 @@ use Rattle.assignment.proofs.Closed.{open-cost, shut-cost, opened-short, lands-
 use Rattle.assignment.proofs.Permuted.{permuted-short, reordered-sound, reordered-total}
 use Rattle.assignment.proofs.Restricted.{Rising, until-near, restrict, widen, widen-short}
 use Rattle.assignment.proofs.Rows.{set-moved}
-use Rattle.day.specs.Day.{Day, width, P, N, ofPeriod, due, limit, cost}
-use Rattle.day.proofs.Costs.{latest-missing, latest-given, cost-grows}
-use Rattle.day.proofs.Instance.{instance, last, last-to, places as rooms, places-in, places-closing, cost-le, instance-short}
-use Rattle.path.specs.Path.{far, away, dear, begun, scope, landing, Table, Scene, CanSearch, Searched}
+use Rattle.day.specs.Day.{Day, width, P, N, mostFlights, periodRow, ofPeriod, takes, due, limit, cost}
+use Rattle.day.specs.Instance.{instance, last, last-to}
+use Rattle.day.proofs.Costs.{takes-in, takes-closing, latest-missing, latest-given, cost-grows}
+use Rattle.day.proofs.Instance.{cost-le, instance-short}
+use Rattle.path.specs.Path.{far, away, dear, begun, scope, landing, Table, Scene, Searched, CanSearchSome, SearchedAll}
 use Rattle.path.proofs.Rows.{as-read}
 use Rattle.path.proofs.Expanding.{stands}
 use Rattle.insertion.specs.Insertion.{Placed, Kept, cost-of-placed, Added, CanFind, FirstRoom, Linked, CanWalk, Arrived, Walked, CanForget, Forgotten, CanRaise, Raised, Inserted}
@@ -88,9 +89,9 @@ module _ {d : Day} {places holds prices : List ℕ} {n : ℕ} (s : Placed d plac
   placed-low : (k : ℕ) → ofPeriod prices k ≤ 250880000
   placed-low k = omega (arith, placed-total, price-le (s .sound) k)
 
-  module _ {loads first-in next-in list queue dist₀ turn₀ via₀ : List ℕ} (kept : Kept d places holds loads first-in next-in list queue dist₀ turn₀ via₀ n)
+  module _ {loads links dist₀ via₀ : List ℕ} (kept : Kept d places holds loads links dist₀ via₀ n)
       (l : n < N d) where
-    pub insert-room : (n < length places) × (n < 128)
+    pub insert-room : (n < length places) × (n < mostFlights)
     insert-room = omega (arith, s .table .row, s .table .valid .flights-to)
 
     module _ {i : ℕ} (i-is : i ≡ getD places n 0) where
@@ -112,18 +113,18 @@ module _ {d : Day} {places holds prices : List ℕ} {n : ℕ} (s : Placed d plac
             }
 
         module _ {target : ℕ} (room : FirstRoom (d .capacities) loads first target) where
-          pub insert-within : target < 98
+          pub insert-within : target < periodRow
           insert-within = omega (arith, room .to, s .table .valid .periods-to)
 
-          free : count n (landing d places holds) target < rooms d target
+          free : count n (landing (d .flights) places holds) target < takes (d .capacities) target
           free = elim (lt? (P d) target) [
-            | inr in-day ↦ omega (arith, places-in d target in-day, room .free in-day, kept .loads-are target insert-within)
+            | inr in-day ↦ omega (arith, takes-in (d .capacities) target in-day, room .free in-day, kept .loads-are target insert-within)
             | inl closing ↦
                 let e : target ≡ P d + 1 = omega (arith, room .to) in
-                rw e (omega (arith, places-closing d, count-le n (landing d places holds) (P d + 1), insert-room))
+                rw e (omega (arith, takes-closing (d .capacities), count-le n (landing (d .flights) places holds) (P d + 1), insert-room))
           ]
 
-          pub insert-scene : Scene (scope d places n target) (landing d places holds) (ofPeriod prices) target
+          pub insert-scene : Scene (scope d places n target) (landing (d .flights) places holds) (ofPeriod prices) target
           insert-scene =
               let near : due d (el places n) ≤ target = omega (arith, first-at, room .from) in
               let f = s .table .valid .flight (el places n) (in-table (s .table) n l) in
@@ -145,7 +146,7 @@ module _ {d : Day} {places holds prices : List ℕ} {n : ℕ} (s : Placed d plac
                 within = omega (arith, room .to);
                 full = λ k a b. omega (
                   arith,
-                  places-in d k (omega (arith, room .to)),
+                  takes-in (d .capacities) k (omega (arith, room .to)),
                   room .full k (omega (arith, first-at)) b,
                   kept .loads-are k (omega (arith, insert-within)),
                 );
@@ -155,29 +156,45 @@ module _ {d : Day} {places holds prices : List ℕ} {n : ℕ} (s : Placed d plac
                     (opened-short (ordered (instance d) (el places) (suc n)) dear (widen-short (begun d places (suc n)) target less short))));
               }
 
-          pub insert-search : CanSearch d places holds first-in next-in prices list queue dist₀ turn₀ via₀ n target
+          pub insert-search : CanSearchSome d places links prices dist₀ via₀ n target
           insert-search = record {
-            table = s .table;
-            scene = insert-scene;
-            upto = l;
-            holds-row = s .holds-row;
-            chained = kept .chained;
-            prices-row = omega (arith, s .prices-row, room .to);
-            listed = kept .listed;
-            queue-row = kept .queue-row;
-            rows = kept .rows;
-            all-far = kept .all-far;
-            no-turns = kept .no-turns;
+            x = landing (d .flights) places holds;
+            can = record {
+              ready = record {
+                table = s .table;
+                scene = insert-scene;
+                upto = l;
+                chained = kept .chained;
+                prices-row = omega (arith, s .prices-row, room .to);
+              };
+              dists = kept .dists;
+              vias = kept .vias;
+              all-far = kept .all-far;
+            };
           }
 
-          module _ {dist turn via : List ℕ} (h : Searched (scope d places n target) (landing d places holds) (ofPeriod prices) target dist turn via) where
+          module _ {dist via : List ℕ} (all : SearchedAll d places links prices dist₀ dist via₀ via n target) where
+            h : Searched (scope d places n target) (landing (d .flights) places holds) (ofPeriod prices) target dist via
+            unfolding insert-search
+            h = all (landing (d .flights) places holds) (insert-search .can)
+
+            abbrev turn : List ℕ
+            turn = h .turn
+
+            -- the target is reached last
+            abbrev last-turn : List ℕ
+            last-turn = set turn target (periodRow + 1)
+
+            reached-last : Moved (el turn) (el last-turn) target (periodRow + 1)
+            reached-last = set-moved turn target (periodRow + 1) (omega (arith, insert-within, h .so-far .rows .turns))
+
             fresh : el turn target ≡ 0
             fresh = elim (lt? 0 (el turn target)) [ inl some ↦ absurd (omega (arith, h .so-far .reached target some)) | inr e ↦ omega arith ]
 
-            pub insert-rows : (target < length dist) × (target < length turn) × (target < 98)
-            insert-rows = omega (arith, insert-within, h .so-far .rows .dists, h .so-far .rows .turns)
+            pub insert-rows : (target < length dist) × (target < periodRow)
+            insert-rows = omega (arith, insert-within, h .so-far .rows .dists)
 
-            found : Found (scope d places n target) (landing d places holds) (ofPeriod prices) (h .so-far .root) (away dist) (el turn) (el via) (h .t) (away dist target) target
+            found : Found (scope d places n target) (landing (d .flights) places holds) (ofPeriod prices) (h .so-far .root) (away dist) (el turn) (el via) (h .t) (away dist target) target
             found = record {
               near = h .so-far .near;
               fresh = fresh;
@@ -189,21 +206,23 @@ module _ {d : Day} {places holds prices : List ℕ} {n : ℕ} (s : Placed d plac
               reach = h .so-far .reach;
             }
 
-            pub insert-walk : CanWalk d places holds (set turn target 99) via n target
+            pub insert-walk : CanWalk (d .flights) places holds via n target
             insert-walk = record {
-              table = s .table;
+              once = record { whole = s .table .valid .whole; few = s .table .valid .flights-to; row = s .table .row; permuted = s .table .permuted };
               upto = l;
               holds-row = s .holds-row;
               vias = h .so-far .rows .vias;
               within = insert-within;
+              turn = last-turn;
               some = omega (arith, v .here);
+              latest = omega (arith, v .here);
               chain = λ k b some low. linked k some (h .so-far .near .how k);
             }
               where
-                v : Moved (el turn) (el (set turn target 99)) target 99
-                v = set-moved turn target 99 (insert-rows .1)
+                v : Moved (el turn) (el last-turn) target (periodRow + 1)
+                v = reached-last
 
-                k-in : (k : ℕ) → 0 < el (set turn target 99) k → (k ≤ P d + 1) × (away dist k < far)
+                k-in : (k : ℕ) → 0 < el last-turn k → (k ≤ P d + 1) × (away dist k < far)
                 k-in k some = elim (eq? k target) [
                   | inl e ↦ rw e (room .to, h .near)
                   | inr e ↦
@@ -212,20 +231,20 @@ module _ {d : Day} {places holds prices : List ℕ} {n : ℕ} (s : Placed d plac
                 ]
 
                 -- what the search reached from k keeps its turn
-                linked : (k : ℕ) → 0 < el (set turn target 99) k
+                linked : (k : ℕ) → 0 < el last-turn k
                     → ((away dist k ≡ h .so-far .root k)
                     × (In (scope d places n target) n k → h .so-far .root k ≡ scope d places n target .cost n k + ofPeriod prices k → el via k ≡ n))
-                    ⊎ Step (scope d places n target) (landing d places holds) (ofPeriod prices) (away dist) (el turn) k (el via k)
-                    → Linked d places (landing d places holds) (set turn target 99) via n k
+                    ⊎ Step (scope d places n target) (landing (d .flights) places holds) (ofPeriod prices) (away dist) (el turn) k (el via k)
+                    → Linked (d .flights) places (landing (d .flights) places holds) last-turn via n k
                 linked k some how = elim how [
                   | inl e ↦
                       let root = h .so-far .rooted k (omega (arith, e .0, k-in k some .1)) in
                       let new = e .1 (root .0) (root .1) in
                       record { due-by = rw new (root .0 .from); flight = inl new }
                   | inr a ↦
-                      let other : landing d places holds (el via k) ≢ target = λ f. omega (arith, a .from, fresh, ap (el turn) f) in
-                      let same = v .others (landing d places holds (el via k)) other in
-                      let at = h .so-far .reached (landing d places holds (el via k)) (a .from) in
+                      let other : landing (d .flights) places holds (el via k) ≢ target = λ f. omega (arith, a .from, fresh, ap (el turn) f) in
+                      let same = v .others (landing (d .flights) places holds (el via k)) other in
+                      let at = h .so-far .reached (landing (d .flights) places holds (el via k)) (a .from) in
                       record {
                         due-by = a .fits .from;
                         flight = inr (record {
@@ -233,23 +252,23 @@ module _ {d : Day} {places holds prices : List ℕ} {n : ℕ} (s : Placed d plac
                           in-day = omega (arith, at .1, insert-within);
                           some = omega (arith, same, a .from);
                           lower = elim (eq? k target) [
-                            | inl e ↦ omega (arith, same, ap (el (set turn target 99)) e, v .here, h .so-far .near .top (landing d places holds (el via k)), h .so-far .zeros)
+                            | inl e ↦ omega (arith, same, ap (el last-turn) e, v .here, h .so-far .near .top (landing (d .flights) places holds (el via k)), h .so-far .zeros)
                             | inr e ↦ omega (arith, same, v .others k e, a .lower (omega (arith, v .others k e)))
                           ];
                         });
                       }
                 ]
 
-            module _ {places₂ holds₂ : List ℕ} (w : Walked d places places₂ holds holds₂ via n target) where
-              f : Found (scope d places n target) (landing d places holds) (ofPeriod prices) (h .so-far .root) (away dist) (el turn) (el via) (h .t) (away dist target) target
+            module _ {places₂ holds₂ : List ℕ} (w : Walked (d .flights) places places₂ holds holds₂ via n target) where
+              f : Found (scope d places n target) (landing (d .flights) places holds) (ofPeriod prices) (h .so-far .root) (away dist) (el turn) (el via) (h .t) (away dist target) target
               f = found
 
-              narrow : Sound (scope d places n target) (landing d places holds) (ofPeriod prices)
+              narrow : Sound (scope d places n target) (landing (d .flights) places holds) (ofPeriod prices)
               narrow = insert-scene .sound
 
               -- whatever prices are higher by what their periods are nearer than the target
               module _ {q : ℕ → ℕ} (rise : (k : ℕ) → q k ≡ ofPeriod prices k + (away dist target - away dist k)) where
-                arrived : Arrived (scope d places n target) (landing d places holds) (w .y) q (reach-order f narrow rise) (el via) (away dist target) target
+                arrived : Arrived (scope d places n target) (landing (d .flights) places holds) (w .y) q (reach-order f narrow rise) (el via) (away dist target) target
                 arrived = w .keeps (scope d places n target) q (reach-order f narrow rise) (away dist target) refl (going f narrow rise)
 
                 whole : Sound (begun d places (suc n)) (w .y) q
@@ -260,7 +279,7 @@ module _ {d : Day} {places holds prices : List ℕ} {n : ℕ} (s : Placed d plac
                 adds = omega (
                   arith,
                   same-total (begun d places (suc n)) target (w .y),
-                  same-total (begun d places n) target (landing d places holds),
+                  same-total (begun d places n) target (landing (d .flights) places holds),
                   going-total (arrived .going) (ground f narrow rise) (arrived .new) (arrived .last) (z-free f narrow rise),
                 )
 
@@ -303,13 +322,13 @@ module _ {d : Day} {places holds prices : List ℕ} {n : ℕ} (s : Placed d plac
                 pub insert-end : {added : ℕ} → added ≡ getD dist target 0 → Inserted d places places₂ holds holds₂ prices₂ n added
                 insert-end {added} e = record {
                   placed = record {
-                    table = w .table;
+                    table = record { valid = s .table .valid; row = w .once .row; permuted = w .once .permuted };
                     falling = falling;
                     none-short = s .none-short;
                     upto = omega arith;
                     holds-row = holds-same ∙ s .holds-row;
                     prices-row = prices-same ∙ s .prices-row;
-                    sound = rw next at (reordered-sound (opened (instance d) dear) (el places) (el places₂) (w .y) (landing d places₂ holds₂) (w .permuted) (w .moved) (w .lands-are) (whole (r .rise)));
+                    sound = rw next at (reordered-sound (opened (instance d) dear) (el places) (el places₂) (w .y) (landing (d .flights) places₂ holds₂) (w .permuted) (w .moved) (w .lands-are) (whole (r .rise)));
                   };
                   adds = rw next at added-up;
                 }
@@ -317,24 +336,16 @@ module _ {d : Day} {places holds prices : List ℕ} {n : ℕ} (s : Placed d plac
                     added-up : cost-of-placed d places₂ holds₂ (suc n) ≡ cost-of-placed d places holds n + added
                     added-up = omega (
                       arith,
-                      reordered-total (opened (instance d) dear) (el places) (el places₂) (w .y) (landing d places₂ holds₂) (w .permuted) (w .moved) (w .lands-are),
+                      reordered-total (opened (instance d) dear) (el places) (el places₂) (w .y) (landing (d .flights) places₂ holds₂) (w .permuted) (w .moved) (w .lands-are),
                       adds (r .rise),
                       as-read dist target (insert-rows .0),
                     )
 
               -- ---- what is kept
 
-              pub insert-forget : CanForget dist (set turn target 99) first target
-              insert-forget = record {
-                dists = h .so-far .rows .dists;
-                turns = length-set turn target 99 ∙ h .so-far .rows .turns;
-                within = insert-within;
-                outside = λ k out. (far-out k out, v .others k (other k out) ∙ unreached k out);
-              }
+              pub insert-forget : CanForget dist first target
+              insert-forget = record { dists = h .so-far .rows .dists; within = insert-within; outside = far-out }
                 where
-                  v : Moved (el turn) (el (set turn target 99)) target 99
-                  v = set-moved turn target 99 (insert-rows .1)
-
                   far-out : (k : ℕ) → (k < first) ⊎ (target < k) → away dist k ≡ far
                   far-out k out = elim (lt? (away dist k) far) [
                     | inr beyond ↦ omega (arith, h .so-far .most k)
@@ -344,51 +355,30 @@ module _ {d : Day} {places holds prices : List ℕ} {n : ℕ} (s : Placed d plac
                     ])
                   ]
 
-                  other : (k : ℕ) → (k < first) ⊎ (target < k) → k ≢ target
-                  other k out e = elim out [ inl a ↦ omega (arith, room .from) | inr a ↦ omega arith ]
-
-                  unreached : (k : ℕ) → (k < first) ⊎ (target < k) → el turn k ≡ 0
-                  unreached k out = elim (lt? 0 (el turn k)) [
-                    | inr none ↦ omega arith
-                    | inl some ↦ absurd (elim out [
-                      | inl a ↦ omega (arith, first-at, h .so-far .reached k some)
-                      | inr a ↦ omega (arith, h .so-far .reached k some)
-                    ])
-                  ]
-
-              pub insert-add : (target < length loads) × (target < length first-in) × (n < length next-in) × (target < 98) × (n < 128) × (el loads target ≤ 128)
+              pub insert-add : (target < length loads) × (periodRow + n < length links) × (target < periodRow) × (n < mostFlights) × (el loads target ≤ mostFlights)
               insert-add = omega (
                 arith,
                 insert-within,
                 insert-room,
                 kept .loads-row,
-                kept .chained .firsts,
-                kept .chained .nexts,
+                kept .chained .row,
                 kept .loads-are target insert-within,
-                count-le n (landing d places holds) target,
+                count-le n (landing (d .flights) places holds) target,
               )
 
-              module _ {loads₂ first-in₂ next-in₂ list₂ queue₂ dist₂ turn₂ : List ℕ} (a : Added loads loads₂ first-in first-in₂ next-in next-in₂ n target)
-                  (f : Forgotten dist₂ turn₂) where
-                pub insert-kept : length list₂ ≡ length list → length queue₂ ≡ length queue → length dist₂ ≡ length dist → length turn₂ ≡ length (set turn target 99)
-                    → Kept d places₂ holds₂ loads₂ first-in₂ next-in₂ list₂ queue₂ dist₂ turn₂ via (n + 1)
-                insert-kept same-l same-q same-d same-r = record {
+              module _ {loads₂ links₂ dist₂ : List ℕ} (a : Added loads loads₂ links links₂ n target) (f : Forgotten dist₂) where
+                pub insert-kept : length dist₂ ≡ length dist → Kept d places₂ holds₂ loads₂ links₂ dist₂ via (n + 1)
+                insert-kept same-d = record {
                   loads-row = ap length (a .counted) ∙ length-set loads target (el loads target + 1) ∙ kept .loads-row;
                   loads-are = added-loads (kept .chained) insert-within (insert-room .1) stays here a (kept .loads-row) (kept .loads-are);
                   chained = added-chained (kept .chained) insert-within (insert-room .1) stays here a;
-                  listed = same-l ∙ kept .listed;
-                  queue-row = same-q ∙ kept .queue-row;
-                  rows = record {
-                    dists = same-d ∙ h .so-far .rows .dists;
-                    turns = same-r ∙ length-set turn target 99 ∙ h .so-far .rows .turns;
-                    vias = h .so-far .rows .vias;
-                  };
+                  dists = same-d ∙ h .so-far .rows .dists;
+                  vias = h .so-far .rows .vias;
                   all-far = f .all-far;
-                  no-turns = f .no-turns;
                 }
                   where
-                    stays : (o : ℕ) → o < n → landing d places₂ holds₂ o ≡ landing d places holds o
-                    stays o b = w .at-home o (omega arith) ∙ put-moved (landing d places holds) n target .others o (omega arith)
+                    stays : (o : ℕ) → o < n → landing (d .flights) places₂ holds₂ o ≡ landing (d .flights) places holds o
+                    stays o b = w .at-home o (omega arith) ∙ put-moved (landing (d .flights) places holds) n target .others o (omega arith)
 
-                    here : landing d places₂ holds₂ n ≡ target
-                    here = w .at-home n (omega arith) ∙ put-moved (landing d places holds) n target .here
+                    here : landing (d .flights) places₂ holds₂ n ≡ target
+                    here = w .at-home n (omega arith) ∙ put-moved (landing (d .flights) places holds) n target .here

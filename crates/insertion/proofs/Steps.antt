@@ -5,13 +5,16 @@ use mathlib.Core.Logic.{_⊎_, inl, inr, _≢_}
 use mathlib.Core.List.{List}
 use Prim.Native.Nat.{ℕ, zero, suc, _+_, _-_, _*_, _≤_, _<_}
 use native.Mathlib.Omega.{arith}
+use mathlib.Core.Bool.{cond}
 use lib.Dec.{eqb}
+use borrow.Author.Tests.{eq-eqb, ne-eqb}
 use lib.ListN.{getD, length, set, length-set}
 use Rattle.assignment.specs.Sum.{gate, count}
 use Rattle.assignment.specs.Assignment.{Instance}
 use Rattle.assignment.specs.Rows.{el}
 use Rattle.assignment.specs.Moves.{Moved, put}
 use Rattle.assignment.specs.Orders.{Permuted, Swapped}
+use Rattle.assignment.specs.Chains as chains
 use Rattle.assignment.specs.Insertion.{Going}
 use Rattle.assignment.proofs.Tests.{eq?, lt?, gate-eq, gate-ne}
 use Rattle.assignment.proofs.Sums.{count-suc, count-ext}
@@ -20,30 +23,44 @@ use Rattle.assignment.proofs.Chains.{chained-add}
 use Rattle.assignment.proofs.Insertion.{going-step}
 use Rattle.assignment.proofs.Permuted.{permuted-other, permuted-same, swapped}
 use Rattle.assignment.proofs.Rows.{set-moved}
-use Rattle.day.specs.Day.{Day, N, width, ofPeriod, due, land}
+use Rattle.day.specs.Day.{mostFlights, periodRow, width, column, flightCount, ofPeriod, hold}
 use Rattle.day.proofs.Costs.{period-out}
 use Rattle.closed_prices.proofs.Pricing.{period-moved}
-use Rattle.path.specs.Path.{far, away, landing, Table, Chained}
+use Rattle.path.specs.Path.{far, away, landing, Chained}
 use Rattle.path.proofs.Rows.{away-moved, as-read}
-use Rattle.path.proofs.Expanding.{stands as stands-in}
-use Rattle.insertion.specs.Insertion.{home, Added, CanFind, FirstRoom, Hop, Linked, CanWalk, Walked, CanForget, Forgotten, CanRaise, Raised, Cleared}
+use Rattle.insertion.specs.Insertion.{EachOnce, home, Added, CanFind, FirstRoom, Hop, Linked, CanWalk, Walked, CanForget, Forgotten, CanRaise, Raised, Cleared}
 
 -- ---- add_place
 
 -- place n is the newest of those in k
-module _ {x y : ℕ → ℕ} {loads loads₂ first-in first-in₂ next-in next-in₂ : List ℕ} {n k : ℕ} (c : Chained x first-in next-in n)
-    (in-day : k < 98) (in-row : n < 128) (same : (s : ℕ) → s < n → y s ≡ x s) (here : y n ≡ k)
-    (a : Added loads loads₂ first-in first-in₂ next-in next-in₂ n k) where
-  pub added-chained : Chained y first-in₂ next-in₂ (n + 1)
-  added-chained = record {
-    firsts = ap length (a .first) ∙ length-set first-in k (n + 1) ∙ c .firsts;
-    nexts = ap length (a .next) ∙ length-set next-in n (el first-in k) ∙ c .nexts;
-    chains = chained-add (c .chains) in-day same here
-        (rw (a .first) (set-moved first-in k (n + 1) (omega (arith, c .firsts))))
-        (rw (a .next) (set-moved next-in n (el first-in k) (omega (arith, c .nexts))));
-  }
+module _ {x y : ℕ → ℕ} {loads loads₂ links links₂ : List ℕ} {n k : ℕ} (c : Chained x links n)
+    (in-day : k < periodRow) (in-row : n < mostFlights) (same : (s : ℕ) → s < n → y s ≡ x s) (here : y n ≡ k) (a : Added loads loads₂ links links₂ n k) where
+  abbrev mid : List ℕ
+  mid = set links (periodRow + n) (el links k)
 
-  pub added-loads : length loads ≡ 98 → ((j : ℕ) → j < 98 → el loads j ≡ count n x j) → (j : ℕ) → j < 98 → el loads₂ j ≡ count (n + 1) y j
+  mid-length : length mid ≡ length links
+  mid-length = length-set links (periodRow + n) (el links k)
+
+  -- the place's own entry, then the period's
+  first : Moved (el links) (el mid) (periodRow + n) (el links k)
+  first = set-moved links (periodRow + n) (el links k) (omega (arith, c .row))
+
+  second : Moved (el mid) (el links₂) k (n + 1)
+  second = rw (a .linked) (set-moved mid k (n + 1) (omega (arith, mid-length, c .row)))
+
+  pub added-chained : Chained y links₂ (n + 1)
+  added-chained = record {
+    row = ap length (a .linked) ∙ length-set mid k (n + 1) ∙ mid-length ∙ c .row;
+    chains = chained-add {link₂ = λ s. el links₂ (periodRow + s)} (heads-only (c .chains)) in-day same here
+        (record { here = second .here; others = λ o e. second .others o e })
+        (record { here = second .others (periodRow + n) (omega arith) ∙ first .here ∙ sym (first .others k (omega arith)); others = λ o e. second .others (periodRow + o) (omega arith) ∙ first .others (periodRow + o) (omega arith) });
+  }
+    where
+      -- the entries of the periods are as they were
+      heads-only : chains.Chained x periodRow (el links) (λ s. el links (periodRow + s)) n → chains.Chained x periodRow (el mid) (λ s. el links (periodRow + s)) n
+      heads-only h = record { heads = λ j b. rw (first .others j (omega arith)) (h .heads j b); links = h .links }
+
+  pub added-loads : length loads ≡ periodRow → ((j : ℕ) → j < periodRow → el loads j ≡ count n x j) → (j : ℕ) → j < periodRow → el loads₂ j ≡ count (n + 1) y j
   added-loads row are j b = elim (eq? j k) [
     | inl e ↦ rw e (omega (arith, u .here, counts k, gate-eq k k 1 refl, are k in-day))
     | inr e ↦ omega (arith, u .others j e, counts j, gate-ne k j 1 (λ z. e (sym z)), are j b)
@@ -77,7 +94,7 @@ passing-start c = record { can = c; from = omega arith; to = c .to; full = λ j 
 
 module _ {capacities loads : List ℕ} {first k : ℕ} (s : Passing capacities loads first k) where
   module _ (l : k ≤ length capacities) where
-    pub passing-room : (k < length loads) × (k < 98)
+    pub passing-room : (k < length loads) × (k < periodRow)
     passing-room = omega (arith, s .can .few, s .can .rows)
 
     pub passing-found : {r : ℕ} → r ≡ ofPeriod capacities k → getD loads k 0 < r → FirstRoom capacities loads first k
@@ -97,16 +114,16 @@ module _ {capacities loads : List ℕ} {first k : ℕ} (s : Passing capacities l
 -- ---- walk
 
 -- the flight at place `who` is held until k: it lands there, and the others where they did
-module _ {d : Day} {places : List ℕ} (holds : List ℕ) {who i k : ℕ} (t : Table d places) (l : who < N d) (row : length holds ≡ N d)
-    (i-is : i ≡ el places who) (due-by : due d i ≤ k) where
+module _ {flights places : List ℕ} (holds : List ℕ) {who i k : ℕ} (t : EachOnce flights places) (l : who < flightCount flights)
+    (row : length holds ≡ flightCount flights) (i-is : i ≡ el places who) (due-by : column 1 flights i ≤ k) where
   in-row : i < length holds
   in-row = omega (arith, t .permuted .below who l)
 
-  held-here : landing d places (set holds i (k - due d i)) who ≡ k
-  held-here = rw (← i-is) (omega (arith, set-moved holds i (k - due d i) in-row .here))
+  held-here : landing flights places (set holds i (k - column 1 flights i)) who ≡ k
+  held-here = rw (← i-is) (omega (arith, set-moved holds i (k - column 1 flights i) in-row .here))
 
-  held-other : (s : ℕ) → s < N d → s ≢ who → landing d places (set holds i (k - due d i)) s ≡ landing d places holds s
-  held-other s b e = omega (arith, set-moved holds i (k - due d i) in-row .others (el places s) (λ f. permuted-other (t .permuted) s who b l e (f ∙ i-is)))
+  held-other : (s : ℕ) → s < flightCount flights → s ≢ who → landing flights places (set holds i (k - column 1 flights i)) s ≡ landing flights places holds s
+  held-other s b e = omega (arith, set-moved holds i (k - column 1 flights i) in-row .others (el places s) (λ f. permuted-other (t .permuted) s who b l e (f ∙ i-is)))
 
 -- two entries change places
 swap-moved : (row : List ℕ) (a b : ℕ) → a < length row → b < length row → a ≢ b → Swapped (el row) (el (set (set row a (el row b)) b (el row a))) a b
@@ -129,16 +146,21 @@ put-swapped f a b apart =
       others = λ s e g. w .others s g ∙ v .others s e;
     }
 
+-- how many flights are to move, from period `at` back along `via` to the new flight; as many steps as `most` are counted
+unfoldable pub hops : (most : ℕ) (x via : ℕ → ℕ) (n at : ℕ) → ℕ
+hops zero x via n at = 0
+hops (suc most) x via n at = cond (eqb (via at) n) 0 (suc (hops most x via n (x (via at))))
+
 -- the new flight stands at `place`, which is in period `at`; the flight at `from` is to move there. x is the plan by the places at the start,
 -- σ says where each flight stood then, and places nearer to the new flight's own have not changed
-pub record Walking (d : Day) (places₀ places holds₀ holds turn via : List ℕ) (n target at place from : ℕ) : Type 0 where
-  pub can : CanWalk d places₀ holds₀ turn via n target
-  pub table : Table d places
+pub record Walking (flights places₀ places holds₀ holds via : List ℕ) (n target at place from : ℕ) : Type 0 where
+  pub can : CanWalk flights places₀ holds₀ via n target
+  pub once : EachOnce flights places
   pub same-p : length places ≡ length places₀
   pub same-h : length holds ≡ length holds₀
-  pub in-day : at < 98
-  pub some : 0 < el turn at
-  pub below : el turn at ≤ el turn target
+  pub in-day : at < periodRow
+  pub some : 0 < el (can .turn) at
+  pub below : el (can .turn) at ≤ el (can .turn) target
   pub is : from ≡ el via at
   pub stands : place < suc n
   pub σ : ℕ → ℕ
@@ -146,26 +168,46 @@ pub record Walking (d : Day) (places₀ places holds₀ holds turn via : List �
   pub moved : (s : ℕ) → s < suc n → el places s ≡ el places₀ (σ s)
   pub beyond : (s : ℕ) → n < s → el places s ≡ el places₀ s
   pub new : σ place ≡ n
-  pub here : home d places₀ holds₀ n target place ≡ at
-  pub at-home : (s : ℕ) → s < suc n → s ≢ place → landing d places holds s ≡ home d places₀ holds₀ n target s
+  pub here : home flights places₀ holds₀ n target place ≡ at
+  pub at-home : (s : ℕ) → s < suc n → s ≢ place → landing flights places holds s ≡ home flights places₀ holds₀ n target s
   pub x : ℕ → ℕ
-  pub lands-are : (s : ℕ) → s < suc n → s ≢ place → x (σ s) ≡ home d places₀ holds₀ n target s
-  pub still : (s : ℕ) → s < n → el turn (home d places₀ holds₀ n target s) < el turn at → σ s ≡ s
+  pub lands-are : (s : ℕ) → s < suc n → s ≢ place → x (σ s) ≡ home flights places₀ holds₀ n target s
+  pub still : (s : ℕ) → s < n → el (can .turn) (home flights places₀ holds₀ n target s) < el (can .turn) at → σ s ≡ s
   pub keeps : (i : Instance) (q order : ℕ → ℕ) (u : ℕ) → i .n ≡ n
-      → Going i (landing d places₀ holds₀) (landing d places₀ holds₀) q order (el via) u target target
-      → Going i (landing d places₀ holds₀) x q order (el via) u target at
+      → Going i (landing flights places₀ holds₀) (landing flights places₀ holds₀) q order (el via) u target target
+      → Going i (landing flights places₀ holds₀) x q order (el via) u target at
 
-module _ {d : Day} {places holds turn via : List ℕ} {n target : ℕ} (c : CanWalk d places holds turn via n target) where
+module _ {flights places holds via : List ℕ} {n target : ℕ} (c : CanWalk flights places holds via n target) where
+  -- more steps than there were turns make no difference
+  hops-same : (f g at : ℕ) → at < periodRow → 0 < el (c .turn) at → el (c .turn) at ≤ el (c .turn) target → el (c .turn) at ≤ f → el (c .turn) at ≤ g
+      → hops f (landing flights places holds) (el via) n at ≡ hops g (landing flights places holds) (el via) n at
+  unfolding hops
+  hops-same zero g at in-day some below a b = absurd (omega arith)
+  hops-same (suc f) zero at in-day some below a b = absurd (omega arith)
+  hops-same (suc f) (suc g) at in-day some below a b = elim (c .chain at in-day some below .flight) [
+    | inl new ↦ rw (eq-eqb (el via at) n new) refl
+    | inr h ↦ ap (λ z. cond (eqb (el via at) n) 0 (suc z))
+        (hops-same f g (landing flights places holds (el via at)) (h .in-day) (h .some) (omega (arith, h .lower)) (omega (arith, h .lower)) (omega (arith, h .lower)))
+  ]
+
+  hops-less : (most at : ℕ) → el (c .turn) target ≤ suc most → el (c .turn) at ≤ el (c .turn) target → el via at ≢ n → Hop (landing flights places holds) (c .turn) via n at
+      → hops (suc most) (landing flights places holds) (el via) n (landing flights places holds (el via at)) < hops (suc most) (landing flights places holds) (el via) n at
+  unfolding hops
+  hops-less most at few below other h = rw (ne-eqb (el via at) n other) (omega (
+    arith,
+    hops-same (suc most) most (landing flights places holds (el via at)) (h .in-day) (h .some) (omega (arith, h .lower)) (omega (arith, h .lower)) (omega (arith, h .lower)),
+  ))
+
   pub walk-in : target < length via
   walk-in = omega (arith, c .within, c .vias)
 
-  placed-home : (s : ℕ) → s ≢ n → home d places holds n target s ≡ landing d places holds s
-  placed-home s e = put-moved (landing d places holds) n target .others s e
+  placed-home : (s : ℕ) → s ≢ n → home flights places holds n target s ≡ landing flights places holds s
+  placed-home s e = put-moved (landing flights places holds) n target .others s e
 
-  pub walking-start : Walking d places places holds holds turn via n target target n (getD via target 0)
+  pub walking-start : Walking flights places places holds holds via n target target n (getD via target 0)
   walking-start = record {
     can = c;
-    table = c .table;
+    once = c .once;
     same-p = refl;
     same-h = refl;
     in-day = c .within;
@@ -178,71 +220,77 @@ module _ {d : Day} {places holds turn via : List ℕ} {n target : ℕ} (c : CanW
     moved = λ s _. refl;
     beyond = λ s _. refl;
     new = refl;
-    here = put-moved (landing d places holds) n target .here;
+    here = put-moved (landing flights places holds) n target .here;
     at-home = λ s _ e. sym (placed-home s e);
-    x = landing d places holds;
+    x = landing flights places holds;
     lands-are = λ s _ e. sym (placed-home s e);
     still = λ s _ _. refl;
     keeps = λ i q order u e g. g;
   }
 
-module _ {d : Day} {places₀ places holds₀ holds turn via : List ℕ} {n target at place from : ℕ}
-    (s : Walking d places₀ places holds₀ holds turn via n target at place from) where
-  linked : Linked d places₀ (landing d places₀ holds₀) turn via n at
+module _ {flights places₀ places holds₀ holds via : List ℕ} {n target at place from : ℕ}
+    (s : Walking flights places₀ places holds₀ holds via n target at place from) where
+  linked : Linked flights places₀ (landing flights places₀ holds₀) (s .can .turn) via n at
   linked = s .can .chain at (s .in-day) (s .some) (s .below)
 
-  row : length holds ≡ N d
+  row : length holds ≡ flightCount flights
   row = s .same-h ∙ s .can .holds-row
 
-  pub walking-places : (place < length places) × (place < 128) × (place < N d)
-  walking-places = omega (arith, s .stands, s .can .upto, s .table .row, s .table .valid .flights-to)
+  pub walking-places : (place < length places) × (place < mostFlights) × (place < flightCount flights)
+  walking-places = omega (arith, s .stands, s .can .upto, s .once .row, s .once .few)
 
   -- the flight at a place, if it stood at `from` at the start, may be held until `at`
   module _ {o i : ℕ} (l : o < suc n) (was : s .σ o ≡ from) (i-is : i ≡ getD places o 0) where
-    due-by : due d i ≤ at
+    due-by : column 1 flights i ≤ at
     due-by = rw (i-is ∙ s .moved o l ∙ ap (el places₀) (was ∙ s .is)) (linked .due-by)
 
-    pub walking-hold : (i < length holds) × ((i + 1) * width ≤ length (d .flights)) × (due d i ≤ at) × (i < 128) × (at < 98)
+    pub walking-hold : (i < length holds) × ((i + 1) * width ≤ length flights) × (column 1 flights i ≤ at) × (i < mostFlights) × (at < periodRow)
     walking-hold =
-        let b = s .table .permuted .below o (omega (arith, s .can .upto)) in (
+        let b = s .once .permuted .below o (omega (arith, s .can .upto)) in (
           omega (arith, b, i-is, row),
-          stands-in (s .table) i (omega (arith, b, i-is)),
+          omega (arith, b, i-is, s .once .whole),
           due-by,
-          omega (arith, b, i-is, s .table .valid .flights-to),
+          omega (arith, b, i-is, s .once .few),
           s .in-day,
         )
 
   module _ (e : from ≢ n) where
-    hop : Hop (landing d places₀ holds₀) turn via n at
+    hop : Hop (landing flights places₀ holds₀) (s .can .turn) via n at
     hop = elim (linked .flight) [ inl new ↦ absurd (e (s .is ∙ new)) | inr h ↦ h ]
 
     in-plan : from < n
     in-plan = omega (arith, s .is, hop .who)
 
-    home-is : home d places₀ holds₀ n target from ≡ landing d places₀ holds₀ from
+    home-is : home flights places₀ holds₀ n target from ≡ landing flights places₀ holds₀ from
     home-is = placed-home (s .can) from e
 
-    lower : el turn (home d places₀ holds₀ n target from) < el turn at
+    lower : el (s .can .turn) (home flights places₀ holds₀ n target from) < el (s .can .turn) at
     lower = rw (home-is, s .is) (hop .lower)
 
     pub walking-stays : s .σ from ≡ from
     walking-stays = s .still from in-plan lower
 
     apart : place ≢ from
-    apart f = omega (arith, lower, ap (λ z. el turn (home d places₀ holds₀ n target z)) f, ap (el turn) (s .here))
+    apart f = omega (arith, lower, ap (λ z. el (s .can .turn) (home flights places₀ holds₀ n target z)) f, ap (el (s .can .turn)) (s .here))
 
-    pub walking-room : (from < length places) × (from < 128) × (from < suc n) × (from < N d)
-    walking-room = omega (arith, in-plan, s .can .upto, s .table .row, s .table .valid .flights-to)
+    pub walking-room : (from < length places) × (from < mostFlights) × (from < suc n) × (from < flightCount flights)
+    walking-room = omega (arith, in-plan, s .can .upto, s .once .row, s .once .few)
 
-    module _ {i left : ℕ} (i-is : i ≡ getD places from 0) (left-is : left ≡ land d holds i) where
-      left-at : left ≡ home d places₀ holds₀ n target from
+    module _ {i left : ℕ} (i-is : i ≡ getD places from 0) (left-is : left ≡ column 1 flights i + hold holds i) where
+      left-at : left ≡ home flights places₀ holds₀ n target from
       left-at = rw i-is at left-is ∙ s .at-home from (walking-room .2) (λ f. apart (sym f))
 
-      pub walking-left : (left < length via) × (left < 98)
+      pub walking-left : (left < length via) × (left < periodRow)
       walking-left = rw (left-at, home-is, s .is) (omega (arith, hop .in-day, s .can .vias))
 
-      pub walking-less : getD turn left 0 < getD turn at 0
+      pub walking-less : el (s .can .turn) left < el (s .can .turn) at
       walking-less = rw left-at lower
+
+      -- fewer flights are left to move
+      pub walking-falls : hops (suc periodRow) (landing flights places₀ holds₀) (el via) n left < hops (suc periodRow) (landing flights places₀ holds₀) (el via) n at
+      walking-falls =
+          let to : left ≡ landing flights places₀ holds₀ (el via at) = left-at ∙ home-is ∙ ap (landing flights places₀ holds₀) (s .is) in
+          rw to (hops-less (s .can) periodRow at (omega (arith, s .can .latest)) (s .below) (λ new. e (s .is ∙ new)) hop)
 
       swaps : Swapped (el places) (el (set (set places place (el places from)) from (el places place))) place from
       swaps = swap-moved places place from (walking-places .0) (walking-room .0) apart
@@ -266,37 +314,38 @@ module _ {d : Day} {places₀ places holds₀ holds turn via : List ℕ} {n targ
       ]
 
       at-home₂ : (o : ℕ) → o < suc n → o ≢ from
-          → landing d (set (set places place (el places from)) from (el places place)) (set holds i (at - due d i)) o ≡ home d places₀ holds₀ n target o
+          → landing flights (set (set places place (el places from)) from (el places place)) (set holds i (at - column 1 flights i)) o ≡ home flights places₀ holds₀ n target o
       at-home₂ o b f = elim (eq? o place) [
-        | inl g ↦ rw g (ap (land d (set holds i (at - due d i))) (swaps .here)
-            ∙ held-here holds (s .table) (walking-room .3) row i-is (due-by (walking-room .2) walking-stays i-is) ∙ sym (s .here))
-        | inr g ↦ ap (land d (set holds i (at - due d i))) (swaps .others o g f)
-            ∙ held-other holds (s .table) (walking-room .3) row i-is (due-by (walking-room .2) walking-stays i-is) o (omega (arith, s .can .upto)) f ∙ s .at-home o b g
+        | inl g ↦ rw g (ap (λ z. column 1 flights z + hold (set holds i (at - column 1 flights i)) z) (swaps .here)
+            ∙ held-here holds (s .once) (walking-room .3) row i-is (due-by (walking-room .2) walking-stays i-is) ∙ sym (s .here))
+        | inr g ↦ ap (λ z. column 1 flights z + hold (set holds i (at - column 1 flights i)) z) (swaps .others o g f)
+            ∙ held-other holds (s .once) (walking-room .3) row i-is (due-by (walking-room .2) walking-stays i-is) o (omega (arith, s .can .upto)) f ∙ s .at-home o b g
       ]
 
-      lands₂ : (o : ℕ) → o < suc n → o ≢ from → put (s .x) from at (σ₂ o) ≡ home d places₀ holds₀ n target o
+      lands₂ : (o : ℕ) → o < suc n → o ≢ from → put (s .x) from at (σ₂ o) ≡ home flights places₀ holds₀ n target o
       lands₂ o b f = elim (eq? o place) [
         | inl g ↦ rw g (ap (put (s .x) from at) (turns .here ∙ walking-stays) ∙ goes .here ∙ sym (s .here))
         | inr g ↦ ap (put (s .x) from at) (turns .others o g f)
             ∙ goes .others (s .σ o) (λ h. permuted-other (s .permuted) o from b (walking-room .2) f (h ∙ sym walking-stays)) ∙ s .lands-are o b g
       ]
 
-      still₂ : (o : ℕ) → o < n → el turn (home d places₀ holds₀ n target o) < el turn left → σ₂ o ≡ o
+      still₂ : (o : ℕ) → o < n → el (s .can .turn) (home flights places₀ holds₀ n target o) < el (s .can .turn) left → σ₂ o ≡ o
       still₂ o b low = turns .others o
-          (λ f. omega (arith, low, walking-less, ap (λ z. el turn (home d places₀ holds₀ n target z)) f, ap (el turn) (s .here)))
-          (λ f. omega (arith, low, ap (λ z. el turn (home d places₀ holds₀ n target z)) f, ap (el turn) left-at))
+          (λ f. omega (arith, low, walking-less, ap (λ z. el (s .can .turn) (home flights places₀ holds₀ n target z)) f, ap (el (s .can .turn)) (s .here)))
+          (λ f. omega (arith, low, ap (λ z. el (s .can .turn) (home flights places₀ holds₀ n target z)) f, ap (el (s .can .turn)) left-at))
           ∙ s .still o b (omega (arith, low, walking-less))
 
-      pub walking-step : Walking d places₀ (set (set places place (el places from)) from (el places place)) holds₀ (set holds i (at - due d i)) turn via n target left from (getD via left 0)
+      pub walking-step : Walking flights places₀ (set (set places place (el places from)) from (el places place)) holds₀ (set holds i (at - column 1 flights i)) via n target left from (getD via left 0)
       walking-step = record {
         can = s .can;
-        table = record {
-          valid = s .table .valid;
-          row = omega (arith, s .table .row, length-set (set places place (el places from)) from (el places place), length-set places place (el places from));
-          permuted = swapped (s .table .permuted) (walking-places .2) (walking-room .3) apart swaps;
+        once = record {
+          whole = s .once .whole;
+          few = s .once .few;
+          row = omega (arith, s .once .row, length-set (set places place (el places from)) from (el places place), length-set places place (el places from));
+          permuted = swapped (s .once .permuted) (walking-places .2) (walking-room .3) apart swaps;
         };
         same-p = length-set (set places place (el places from)) from (el places place) ∙ length-set places place (el places from) ∙ s .same-p;
-        same-h = length-set holds i (at - due d i) ∙ s .same-h;
+        same-h = length-set holds i (at - column 1 flights i) ∙ s .same-h;
         in-day = walking-left .1;
         some = rw (left-at, home-is, s .is) (hop .some);
         below = omega (arith, walking-less, s .below);
@@ -318,18 +367,18 @@ module _ {d : Day} {places₀ places holds₀ holds turn via : List ℕ} {n targ
       }
 
   module _ (e : from ≡ n) {i : ℕ} (i-is : i ≡ getD places place 0) where
-    pub walking-last : (i < length holds) × ((i + 1) * width ≤ length (d .flights)) × (due d i ≤ at) × (i < 128) × (at < 98)
+    pub walking-last : (i < length holds) × ((i + 1) * width ≤ length flights) × (column 1 flights i ≤ at) × (i < mostFlights) × (at < periodRow)
     walking-last = walking-hold (s .stands) (s .new ∙ sym e) i-is
 
-    home-all : (o : ℕ) → o < suc n → landing d places (set holds i (at - due d i)) o ≡ home d places₀ holds₀ n target o
+    home-all : (o : ℕ) → o < suc n → landing flights places (set holds i (at - column 1 flights i)) o ≡ home flights places₀ holds₀ n target o
     home-all o b = elim (eq? o place) [
-      | inl f ↦ rw f (held-here holds (s .table) (walking-places .2) row i-is (walking-last .2) ∙ sym (s .here))
-      | inr f ↦ held-other holds (s .table) (walking-places .2) row i-is (walking-last .2) o (omega (arith, s .can .upto)) f ∙ s .at-home o b f
+      | inl f ↦ rw f (held-here holds (s .once) (walking-places .2) row i-is (walking-last .2) ∙ sym (s .here))
+      | inr f ↦ held-other holds (s .once) (walking-places .2) row i-is (walking-last .2) o (omega (arith, s .can .upto)) f ∙ s .at-home o b f
     ]
 
-    pub walking-end : Walked d places₀ places holds₀ (set holds i (at - due d i)) via n target
+    pub walking-end : Walked flights places₀ places holds₀ (set holds i (at - column 1 flights i)) via n target
     walking-end = record {
-      table = s .table;
+      once = s .once;
       σ = s .σ;
       permuted = s .permuted;
       moved = s .moved;
@@ -346,7 +395,7 @@ module _ {d : Day} {places₀ places holds₀ holds turn via : List ℕ} {n targ
       };
     }
       where
-        plan : (o : ℕ) → o < suc n → put (s .x) n at (s .σ o) ≡ home d places₀ holds₀ n target o
+        plan : (o : ℕ) → o < suc n → put (s .x) n at (s .σ o) ≡ home flights places₀ holds₀ n target o
         plan o b = elim (eq? o place) [
           | inl f ↦ rw f (ap (put (s .x) n at) (s .new) ∙ put-moved (s .x) n at .here ∙ sym (s .here))
           | inr f ↦ put-moved (s .x) n at .others (s .σ o) (λ h. permuted-other (s .permuted) o place b (s .stands) f (h ∙ sym (s .new))) ∙ s .lands-are o b f
@@ -355,47 +404,37 @@ module _ {d : Day} {places₀ places holds₀ holds turn via : List ℕ} {n targ
 -- ---- forget
 
 -- the periods from first on and before k are far again
-pub record Forgetting (dist₀ dist turn₀ turn : List ℕ) (first target k : ℕ) : Type 0 where
-  pub can : CanForget dist₀ turn₀ first target
-  pub same-d : length dist ≡ length dist₀
-  pub same-r : length turn ≡ length turn₀
-  pub done : (j : ℕ) → first ≤ j → j < k → (away dist j ≡ far) × (el turn j ≡ 0)
-  pub outside : (j : ℕ) → (j < first) ⊎ (target < j) → (away dist j ≡ far) × (el turn j ≡ 0)
+pub record Forgetting (dist₀ dist : List ℕ) (first target k : ℕ) : Type 0 where
+  pub can : CanForget dist₀ first target
+  pub same : length dist ≡ length dist₀
+  pub done : (j : ℕ) → first ≤ j → j < k → away dist j ≡ far
+  pub outside : (j : ℕ) → (j < first) ⊎ (target < j) → away dist j ≡ far
 
-pub forgetting-start : {dist turn : List ℕ} {first target : ℕ} → CanForget dist turn first target → Forgetting dist dist turn turn first target first
-forgetting-start c = record { can = c; same-d = refl; same-r = refl; done = λ j a b. absurd (omega arith); outside = c .outside }
+pub forgetting-start : {dist : List ℕ} {first target : ℕ} → CanForget dist first target → Forgetting dist dist first target first
+forgetting-start c = record { can = c; same = refl; done = λ j a b. absurd (omega arith); outside = c .outside }
 
-module _ {dist₀ dist turn₀ turn : List ℕ} {first target k : ℕ} (s : Forgetting dist₀ dist turn₀ turn first target k) where
+module _ {dist₀ dist : List ℕ} {first target k : ℕ} (s : Forgetting dist₀ dist first target k) where
   module _ (l : k ≤ target) where
-    pub forgetting-room : (k < length dist) × (k < length turn) × (k < 98)
-    forgetting-room = omega (arith, s .same-d, s .same-r, s .can .dists, s .can .turns, s .can .within)
+    pub forgetting-room : (k < length dist) × (k < periodRow)
+    forgetting-room = omega (arith, s .same, s .can .dists, s .can .within)
 
-    pub forgetting-next : Forgetting dist₀ (set dist k far) turn₀ (set turn k 0) first target (k + 1)
-    forgetting-next = record {
-      can = s .can;
-      same-d = length-set dist k far ∙ s .same-d;
-      same-r = length-set turn k 0 ∙ s .same-r;
-      done = λ j a b. elim (eq? j k) [ inl e ↦ rw e (v .here, u .here) | inr e ↦ stay j e (s .done j a (omega arith)) ];
-      outside = λ j out. elim (eq? j k) [ inl e ↦ rw e (v .here, u .here) | inr e ↦ stay j e (s .outside j out) ];
-    }
-      where
-        v : Moved (away dist) (away (set dist k far)) k far
-        v = away-moved dist k far (forgetting-room .0)
+    pub forgetting-next : Forgetting dist₀ (set dist k far) first target (k + 1)
+    forgetting-next =
+        let v = away-moved dist k far (forgetting-room .0) in
+        record {
+          can = s .can;
+          same = length-set dist k far ∙ s .same;
+          done = λ j a b. elim (eq? j k) [ inl e ↦ rw e (v .here) | inr e ↦ v .others j e ∙ s .done j a (omega arith) ];
+          outside = λ j out. elim (eq? j k) [ inl e ↦ rw e (v .here) | inr e ↦ v .others j e ∙ s .outside j out ];
+        }
 
-        u : Moved (el turn) (el (set turn k 0)) k 0
-        u = set-moved turn k 0 (forgetting-room .1)
-
-        stay : (j : ℕ) → j ≢ k → (away dist j ≡ far) × (el turn j ≡ 0) → (away (set dist k far) j ≡ far) × (el (set turn k 0) j ≡ 0)
-        stay j e h = (v .others j e ∙ h .0, u .others j e ∙ h .1)
-
-  pub forgetting-end : target < k → Forgotten dist turn
-  forgetting-end l = record { all-far = λ j. all j .0; no-turns = λ j. all j .1 }
-    where
-      all : (j : ℕ) → (away dist j ≡ far) × (el turn j ≡ 0)
-      all j = elim (lt? j first) [
-        | inl a ↦ s .outside j (inl a)
-        | inr a ↦ elim (lt? j k) [ inl b ↦ s .done j a b | inr b ↦ s .outside j (inr (omega arith)) ]
-      ]
+  pub forgetting-end : target < k → Forgotten dist
+  forgetting-end l = record {
+    all-far = λ j. elim (lt? j first) [
+      | inl a ↦ s .outside j (inl a)
+      | inr a ↦ elim (lt? j k) [ inl b ↦ s .done j a b | inr b ↦ s .outside j (inr (omega arith)) ]
+    ];
+  }
 
 -- ---- raise
 
@@ -410,7 +449,7 @@ pub record Raising (prices₀ prices dist : List ℕ) (first target goal k : ℕ
   pub left : (j : ℕ) → k ≤ j → ofPeriod prices j ≡ ofPeriod prices₀ j
 
 module _ {prices dist : List ℕ} {first target : ℕ} (c : CanRaise prices dist first target) where
-  pub raise-room : (target < length dist) × (target < 98)
+  pub raise-room : (target < length dist) × (target < periodRow)
   raise-room = omega (arith, c .to, c .few, c .dists)
 
   pub raising-start : Raising prices prices dist first target (getD dist target 0) first
@@ -426,7 +465,7 @@ module _ {prices dist : List ℕ} {first target : ℕ} (c : CanRaise prices dist
 
 module _ {prices₀ prices dist : List ℕ} {first target goal k : ℕ} (s : Raising prices₀ prices dist first target goal k) where
   module _ (l : k < target) where
-    pub raising-room : (k < length dist) × (k - 1 < length prices) × (k < 98) × (1 ≤ k)
+    pub raising-room : (k < length dist) × (k - 1 < length prices) × (k < periodRow) × (1 ≤ k)
     raising-room = omega (arith, s .same, s .from, s .can .from, s .can .to, s .can .few, s .can .dists)
 
     read : getD dist k 0 ≡ away dist k

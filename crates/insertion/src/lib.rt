@@ -6,29 +6,29 @@
 ghost use mathlib.Core.Path.{_≡_};
 ghost use Prim.Native.Nat.{_+_, _-_, _*_, _<_, _≤_};
 ghost use lib.ListN.{length, set};
-ghost use Rattle.day.specs.Day.{day, width, column, N};
+ghost use Rattle.day.specs.Day.{lent, mostFlights, periodRow, width, column, N};
 ghost use Rattle.assignment.specs.Rows.{el};
 ghost use Rattle.insertion.specs.Insertion.{Added, CanFind, FirstRoom, CanWalk, Walked, CanRaise, Raised, CanForget, Forgotten, Placed, Kept, Inserted, Cleared, CanInsert, Planned};
 use closed_prices::price_closed;
+use day::FLIGHTS;
+use day::PERIOD_ROW;
 use day::due_of;
 use day::land_of;
 use day::of_period;
 use day::wide;
 use due_order::order_flights;
+use path::CHAIN_ROW;
 use path::FAR;
 use path::find_path;
 
-// A turn after those of all reached periods.
-const LAST: usize = 99;
-
 // Place n is the newest of those in period k: counts it, and puts it at the head of their chain.
-fn add_place(loads: &mut [usize], first_in: &mut [usize], next_in: &mut [usize], n: usize, k: usize)
-    requires { ⌜ (k < length (now loads)) × (k < length (now first_in)) × (n < length (now next_in)) × (k < 98) × (n < 128) × (el (now loads) k ≤ 128) ⌝ }
-    ensures { λ _. ⌜ Added (now (loads .entry)) (now (loads .exit)) (now (first_in .entry)) (now (first_in .exit)) (now (next_in .entry)) (now (next_in .exit)) n k ⌝ }
+fn add_place(loads: &mut [usize], links: &mut [usize], n: usize, k: usize)
+    requires { ⌜ (k < length (now loads)) × (periodRow + n < length (now links)) × (k < periodRow) × (n < mostFlights) × (el (now loads) k ≤ mostFlights) ⌝ }
+    ensures { λ _. ⌜ Added (now (loads .entry)) (now (loads .exit)) (now (links .entry)) (now (links .exit)) n k ⌝ }
 {
     loads[k] = loads[k] + 1;
-    next_in[n] = first_in[k];
-    first_in[k] = n + 1;
+    links[PERIOD_ROW + n] = links[k];
+    links[k] = n + 1;
 }
 
 // The first period from `first` on that has room; the closing period always has.
@@ -48,7 +48,7 @@ fn first_with_room(capacities: &[u32], loads: &[usize], first: usize) -> usize
 
 // Holds the flight at table place i until period k.
 fn hold_until(flights: &[u32], holds: &mut [u32], i: usize, k: usize)
-    requires { ⌜ (i < length (now holds)) × ((i + 1) * width ≤ length (now flights)) × (column 1 (now flights) i ≤ k) × (i < 128) × (k < 98) ⌝ }
+    requires { ⌜ (i < length (now holds)) × ((i + 1) * width ≤ length (now flights)) × (column 1 (now flights) i ≤ k) × (i < mostFlights) × (k < periodRow) ⌝ }
     ensures { λ _. ⌜ now (holds .exit) ≡ set (now (holds .entry)) i (k - column 1 (now (flights .entry)) i) ⌝ }
 {
     let hold = k - due_of(flights, i);
@@ -57,7 +57,7 @@ fn hold_until(flights: &[u32], holds: &mut [u32], i: usize, k: usize)
 
 // What stands at a and b changes places.
 fn swap(places: &mut [u32], a: usize, b: usize)
-    requires { ⌜ (a < length (now places)) × (b < length (now places)) × (a < 128) × (b < 128) ⌝ }
+    requires { ⌜ (a < length (now places)) × (b < length (now places)) × (a < mostFlights) × (b < mostFlights) ⌝ }
     ensures { λ _. ⌜ now (places .exit) ≡ set (set (now (places .entry)) a (el (now (places .entry)) b)) b (el (now (places .entry)) a) ⌝ }
 {
     let mine = places[a];
@@ -66,26 +66,24 @@ fn swap(places: &mut [u32], a: usize, b: usize)
 }
 
 // From the target back along `via`: each flight moves on to the place behind it, and the new flight, which starts at place n in the target,
-// changes places with it until it comes to one of its own. Turns fall on the way, so that it ends.
+// changes places with it until it comes to one of its own. Each period was reached before the next on the way, so that it ends.
 fn walk(
-    capacities: &[u32],
     flights: &[u32],
     places: &mut [u32],
     holds: &mut [u32],
-    turn: &[usize],
     via: &[usize],
     n: usize,
     target: usize,
 )
-    requires { ⌜ CanWalk (day (now capacities) (now flights)) (now places) (now holds) (now turn) (now via) n target ⌝ }
-    ensures { λ _. ⌜ Walked (day (now (capacities .entry)) (now (flights .entry))) (now (places .entry)) (now (places .exit)) (now (holds .entry)) (now (holds .exit)) (now (via .entry)) n target ⌝ }
+    requires { ⌜ CanWalk (now flights) (now places) (now holds) (now via) n target ⌝ }
+    ensures { λ _. ⌜ Walked (now (flights .entry)) (now (places .entry)) (now (places .exit)) (now (holds .entry)) (now (holds .exit)) (now (via .entry)) n target ⌝ }
 {
     let mut at = target;
     let mut place = n;
     let mut from = via[at];
     while from != n {
         let i = wide(places[from]);
-        let left = land_of(capacities, flights, holds, i);
+        let left = land_of(flights, holds, i);
         hold_until(flights, holds, i, at);
         swap(places, place, from);
         place = from;
@@ -112,15 +110,14 @@ fn raise(prices: &mut [u32], dist: &[usize], first: usize, target: usize)
     }
 }
 
-// All is far and nothing is reached again: a search touches no period but those from first to the target.
-fn forget(dist: &mut [usize], turn: &mut [usize], first: usize, target: usize)
-    requires { ⌜ CanForget (now dist) (now turn) first target ⌝ }
-    ensures { λ _. ⌜ Forgotten (now (dist .exit)) (now (turn .exit)) ⌝ }
+// All is far again: a search touches no period but those from first to the target.
+fn forget(dist: &mut [usize], first: usize, target: usize)
+    requires { ⌜ CanForget (now dist) first target ⌝ }
+    ensures { λ _. ⌜ Forgotten (now (dist .exit)) ⌝ }
 {
     let mut k = first;
     while k <= target {
         dist[k] = FAR;
-        turn[k] = 0;
         k += 1;
     }
 }
@@ -133,20 +130,16 @@ fn insert(
     holds: &mut [u32],
     prices: &mut [u32],
     loads: &mut [usize],
-    first_in: &mut [usize],
-    next_in: &mut [usize],
-    list: &mut [usize],
-    queue: &mut [usize],
+    links: &mut [usize],
     dist: &mut [usize],
-    turn: &mut [usize],
     via: &mut [usize],
     n: usize,
 ) -> usize
-    requires { ⌜ Placed (day (now capacities) (now flights)) (now places) (now holds) (now prices) n ⌝ }
-    requires { ⌜ Kept (day (now capacities) (now flights)) (now places) (now holds) (now loads) (now first_in) (now next_in) (now list) (now queue) (now dist) (now turn) (now via) n ⌝ }
-    requires { ⌜ n < N (day (now capacities) (now flights)) ⌝ }
-    ensures { λ r. ⌜ Inserted (day (now (capacities .entry)) (now (flights .entry))) (now (places .entry)) (now (places .exit)) (now (holds .entry)) (now (holds .exit)) (now (prices .exit)) n r ⌝ }
-    ensures { λ _. ⌜ Kept (day (now (capacities .entry)) (now (flights .entry))) (now (places .exit)) (now (holds .exit)) (now (loads .exit)) (now (first_in .exit)) (now (next_in .exit)) (now (list .exit)) (now (queue .exit)) (now (dist .exit)) (now (turn .exit)) (now (via .exit)) (n + 1) ⌝ }
+    requires { ⌜ Placed (lent capacities flights) (now places) (now holds) (now prices) n ⌝ }
+    requires { ⌜ Kept (lent capacities flights) (now places) (now holds) (now loads) (now links) (now dist) (now via) n ⌝ }
+    requires { ⌜ n < N (lent capacities flights) ⌝ }
+    ensures { λ r. ⌜ Inserted (lent (capacities .entry) (flights .entry)) (now (places .entry)) (now (places .exit)) (now (holds .entry)) (now (holds .exit)) (now (prices .exit)) n r ⌝ }
+    ensures { λ _. ⌜ Kept (lent (capacities .entry) (flights .entry)) (now (places .exit)) (now (holds .exit)) (now (loads .exit)) (now (links .exit)) (now (dist .exit)) (now (via .exit)) (n + 1) ⌝ }
 {
     let first = due_of(flights, wide(places[n]));
     let target = first_with_room(capacities, loads, first);
@@ -154,24 +147,18 @@ fn insert(
         capacities,
         flights,
         places,
-        holds,
-        first_in,
-        next_in,
+        links,
         prices,
-        list,
-        queue,
         dist,
-        turn,
         via,
         n,
         target,
     );
     let added = dist[target];
-    turn[target] = LAST;
-    walk(capacities, flights, places, holds, turn, via, n, target);
+    walk(flights, places, holds, via, n, target);
     raise(prices, dist, first, target);
-    forget(dist, turn, first, target);
-    add_place(loads, first_in, next_in, n, target);
+    forget(dist, first, target);
+    add_place(loads, links, n, target);
     added
 }
 
@@ -193,20 +180,16 @@ pub fn insert_all(
     holds: &mut [u32],
     prices: &mut [u32],
 ) -> usize
-    requires { ⌜ CanInsert (day (now capacities) (now flights)) (now holds) (now prices) ⌝ }
-    ensures { λ r. ⌜ Planned (day (now (capacities .entry)) (now (flights .entry))) (now (holds .exit)) (now (prices .exit)) r ⌝ }
+    requires { ⌜ CanInsert (lent capacities flights) (now holds) (now prices) ⌝ }
+    ensures { λ r. ⌜ Planned (lent (capacities .entry) (flights .entry)) (now (holds .exit)) (now (prices .exit)) r ⌝ }
 {
-    let mut places = [0; 128];
-    order_flights(capacities, flights, &mut places);
+    let mut places = [0; FLIGHTS];
+    order_flights(capacities.len(), flights, &mut places);
     clear(prices);
-    let mut loads = [0; 98];
-    let mut first_in = [0; 98];
-    let mut next_in = [0; 128];
-    let mut list = [0; 98];
-    let mut queue = [0; 98];
-    let mut dist = [FAR; 98];
-    let mut turn = [0; 98];
-    let mut via = [0; 98];
+    let mut loads = [0; PERIOD_ROW];
+    let mut links = [0; CHAIN_ROW];
+    let mut dist = [FAR; PERIOD_ROW];
+    let mut via = [0; PERIOD_ROW];
     let mut total = 0;
     let mut n = 0;
     while n < holds.len() {
@@ -217,12 +200,8 @@ pub fn insert_all(
             holds,
             prices,
             &mut loads,
-            &mut first_in,
-            &mut next_in,
-            &mut list,
-            &mut queue,
+            &mut links,
             &mut dist,
-            &mut turn,
             &mut via,
             n,
         );

@@ -2,10 +2,9 @@
 -- Assumes nothing.
 use mathlib.Core.Path.{_≡_, sym, _∙_}
 use borrow.Author.Tests.{not-true, not-false}
-use Rattle.day.specs.Day.{N}
+use borrow.Author.Needs.{needs}
 use Rattle.stretch.specs.declared.ShortStretch.the-variants.{NoneShort}
 use Rattle.full_plan.proofs.Laws.{bad-day, bad-holds, bad-prices, found-none, found-plan, can-insert}
-use borrow.Author.Needs.{needs}
 use Rattle.full_plan.proofs.full_plan.Statement.{statement}
 use Rattle.full_plan.proofs.full_plan.Tie as tie
 
@@ -19,11 +18,9 @@ flight-count-requires : tie.Need-flight-count-requires
 flight-count-requires c κs = search needs
 
 returns-2 : tie.Need-returns-2
-unfolding N
 returns-2 c = bad-holds _ _ _ (sym (c .before .before .before .is-valid .ensures) ∙ not-false _ (c .before .before .if1 .left)) (c .before .flight-count .ensures) (c .if2 .taken)
 
 returns-3 : tie.Need-returns-3
-unfolding N
 returns-3 c = bad-prices _ _ _ (sym (c .before .before .before .before .is-valid .ensures) ∙ not-false _ (c .before .before .before .if1 .left)) (c .before .before .flight-count .ensures) (c .before .if2 .left) (c .if3 .taken)
 
 find-short-requires : tie.Need-find-short-requires
@@ -36,14 +33,26 @@ enum-told : tie.Need-enum-told
 enum-told c = search needs
 
 insert-all-requires : tie.Need-insert-all-requires
-unfolding N
 insert-all-requires c κs =
-    let clear : c .before .before .before .before .find-short .result ≡ NoneShort = cc in
-    can-insert _ _ _ _ (sym (c .before .before .before .before .before .before .before .before .before .is-valid .ensures) ∙ not-false _ (c .before .before .before .before .before .before .before .before .if1 .left)) (c .before .before .before .before .before .before .before .flight-count .ensures) (c .before .before .before .before .before .before .if2 .left) (c .before .before .before .before .before .if3 .left) (rw clear at (c .before .before .before .before .find-short .ensures))
+    let at-find-short = c .before .before .before .before in
+    let at-if3 = at-find-short .before in
+    let at-if2 = at-if3 .before in
+    let at-flight-count = at-if2 .before in
+    let at-if1 = at-flight-count .before in
+    let at-is-valid = at-if1 .before in
+    let clear : at-find-short .find-short .result ≡ NoneShort = cc in
+    can-insert _ _ _ _ (sym (at-is-valid .is-valid .ensures) ∙ not-false _ (at-if1 .if1 .left)) (at-flight-count .flight-count .ensures) (at-if2 .if2 .left) (at-if3 .if3 .left) (rw clear at (at-find-short .find-short .ensures))
 
 returns-4 : tie.Need-returns-4
-unfolding N
-returns-4 c = found-none _ _ _ (sym (c .before .before .before .before .before .before .before .before .is-valid .ensures) ∙ not-false _ (c .before .before .before .before .before .before .before .if1 .left)) (c .before .before .before .before .before .before .flight-count .ensures) (c .before .before .before .before .before .if2 .left) (c .before .before .before .before .if3 .left) (rw (c .before .found .given .1) at (c .before .before .before .find-short .ensures))
+returns-4 c =
+    let at-found = c .before in
+    let at-find-short = at-found .before .before in
+    let at-if3 = at-find-short .before in
+    let at-if2 = at-if3 .before in
+    let at-flight-count = at-if2 .before in
+    let at-if1 = at-flight-count .before in
+    let at-is-valid = at-if1 .before in
+    found-none _ _ _ (sym (at-is-valid .is-valid .ensures) ∙ not-false _ (at-if1 .if1 .left)) (at-flight-count .flight-count .ensures) (at-if2 .if2 .left) (at-if3 .if3 .left) (rw (at-found .found .given .1) at (at-find-short .find-short .ensures))
 
 same-length : tie.Need-same-length
 same-length c = search needs
@@ -52,8 +61,15 @@ same-length-2 : tie.Need-same-length-2
 same-length-2 c = search needs
 
 returns-5 : tie.Need-returns-5
-unfolding N
-returns-5 c = found-plan _ _ _ (sym (c .before .before .before .before .before .before .before .before .before .before .before .before .before .before .is-valid .ensures) ∙ not-false _ (c .before .before .before .before .before .before .before .before .before .before .before .before .before .if1 .left)) (c .before .before .before .before .before .before .before .before .before .before .before .before .flight-count .ensures) (c .before .before .before .before .before .before .before .before .before .before .before .if2 .left) (c .before .before .before .before .before .before .before .before .before .before .if3 .left) (c .before .before .before .before .insert-all .ensures)
+returns-5 c =
+    let at-insert-all = c .before .before .before .before in
+    let at-find-short = at-insert-all .before .before .before .before .before in
+    let at-if3 = at-find-short .before in
+    let at-if2 = at-if3 .before in
+    let at-flight-count = at-if2 .before in
+    let at-if1 = at-flight-count .before in
+    let at-is-valid = at-if1 .before in
+    found-plan _ _ _ (sym (at-is-valid .is-valid .ensures) ∙ not-false _ (at-if1 .if1 .left)) (at-flight-count .flight-count .ensures) (at-if2 .if2 .left) (at-if3 .if3 .left) (at-insert-all .insert-all .ensures)
 
 pub full-plan-spec : {M : Type 1} → statement M
 full-plan-spec =

@@ -2,8 +2,8 @@
 use Prim.Native.Nat.{_-_}
 use native.Mathlib.Omega.{arith}
 use lib.ListN.{length, length-set}
-use Rattle.insertion.proofs.Steps.{Clearing, clearing-start, clearing-next, clearing-end}
 use borrow.Author.Needs.{needs}
+use Rattle.insertion.proofs.Steps.{Clearing, clearing-start, clearing-next, clearing-end}
 use Rattle.insertion.proofs.clear.Statement.{statement}
 use Rattle.insertion.proofs.clear.Tie as tie
 

@@ -6,10 +6,10 @@ use Rattle.insertion.proofs.forget.Statement.{statement}
 use Rattle.insertion.proofs.forget.Tie as tie
 
 abbrev Inv-loop : tie.InvT-loop
-Inv-loop dist₀ turn₀ first target k₀ dist turn k = Forgetting dist₀ dist turn₀ turn first target k
+Inv-loop dist₀ first target k₀ dist k = Forgetting dist₀ dist first target k
 
 abbrev μ-loop : tie.MeasureT-loop
-μ-loop dist₀ turn₀ first target k₀ dist turn k = (target + 1) - k
+μ-loop dist₀ first target k₀ dist k = (target + 1) - k
 
 loop-holds : tie.Need-loop-holds Inv-loop μ-loop
 loop-holds c = forgetting-start (c .pre)
@@ -19,12 +19,6 @@ mul-dist c = omega (arith, forgetting-room (c .before .loop .inv) (c .loop-test 
 
 slice-write-dist : tie.Need-slice-write-dist Inv-loop μ-loop
 slice-write-dist c = forgetting-room (c .before .loop .inv) (c .loop-test .taken) .0
-
-mul-turn : tie.Need-mul-turn Inv-loop μ-loop
-mul-turn c = omega (arith, forgetting-room (c .before .loop .inv) (c .loop-test .taken))
-
-slice-write-turn : tie.Need-slice-write-turn Inv-loop μ-loop
-slice-write-turn c = forgetting-room (c .before .loop .inv) (c .loop-test .taken) .1
 
 add-k : tie.Need-add-k Inv-loop μ-loop
 add-k c = omega (arith, forgetting-room (c .before .loop .inv) (c .loop-test .taken))
@@ -36,10 +30,7 @@ loop-again : tie.Need-loop-again Inv-loop μ-loop
 loop-again c = forgetting-next (c .before .loop .inv) (c .loop-test .taken)
 
 same-length : tie.Need-same-length Inv-loop μ-loop
-same-length c = c .before .loop .inv .same-d
-
-same-length-2 : tie.Need-same-length-2 Inv-loop μ-loop
-same-length-2 c = c .before .loop .inv .same-r
+same-length c = c .before .loop .inv .same
 
 returns : tie.Need-returns Inv-loop μ-loop
 returns c = forgetting-end (c .before .loop .inv) (c .loop-test .left)
@@ -53,11 +44,8 @@ forget-spec =
     loop-holds
     mul-dist
     slice-write-dist
-    mul-turn
-    slice-write-turn
     add-k
     loop-less
     loop-again
     same-length
-    same-length-2
     returns)

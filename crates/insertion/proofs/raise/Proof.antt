@@ -36,31 +36,55 @@ mul-price : tie.Need-mul-price Inv-loop μ-loop
 mul-price c = omega (arith, raising-room (c .before .before .before .before .before .loop .inv) (c .before .before .before .before .loop-test .taken))
 
 shared-slice-read-price : tie.Need-shared-slice-read-price Inv-loop μ-loop
-shared-slice-read-price c = raising-room (c .before .before .before .before .before .before .loop .inv) (c .before .before .before .before .before .loop-test .taken) .0
+shared-slice-read-price c =
+    let at-loop-test = c .before .before .before .before .before in
+    let at-loop = at-loop-test .before in
+    raising-room (at-loop .loop .inv) (at-loop-test .loop-test .taken) .0
 
 sub-price : tie.Need-sub-price Inv-loop μ-loop
 sub-price c = omega (arith, c .before .before .before .if1 .taken)
 
 add-price : tie.Need-add-price Inv-loop μ-loop
-add-price c = omega (arith, raising-small (c .before .before .before .before .before .before .loop .inv) (c .before .before .before .before .before .loop-test .taken) (c .before .of-period .ensures .0))
+add-price c =
+    let at-of-period = c .before in
+    let at-loop-test = at-of-period .before .before .before .before in
+    let at-loop = at-loop-test .before in
+    omega (arith, raising-small (at-loop .loop .inv) (at-loop-test .loop-test .taken) (at-of-period .of-period .ensures .0))
 
 cast-prices : tie.Need-cast-prices Inv-loop μ-loop
-cast-prices c = omega (arith, raising-small (c .before .before .before .before .before .before .loop .inv) (c .before .before .before .before .before .loop-test .taken) (c .before .of-period .ensures .0))
+cast-prices c =
+    let at-of-period = c .before in
+    let at-loop-test = at-of-period .before .before .before .before in
+    let at-loop = at-loop-test .before in
+    omega (arith, raising-small (at-loop .loop .inv) (at-loop-test .loop-test .taken) (at-of-period .of-period .ensures .0))
 
 sub-prices : tie.Need-sub-prices Inv-loop μ-loop
-sub-prices c = omega (arith, raising-room (c .before .before .before .before .before .before .loop .inv) (c .before .before .before .before .before .loop-test .taken))
+sub-prices c =
+    let at-loop-test = c .before .before .before .before .before in
+    let at-loop = at-loop-test .before in
+    omega (arith, raising-room (at-loop .loop .inv) (at-loop-test .loop-test .taken))
 
 mul-prices : tie.Need-mul-prices Inv-loop μ-loop
-mul-prices c = omega (arith, raising-room (c .before .before .before .before .before .before .loop .inv) (c .before .before .before .before .before .loop-test .taken))
+mul-prices c =
+    let at-loop-test = c .before .before .before .before .before in
+    let at-loop = at-loop-test .before in
+    omega (arith, raising-room (at-loop .loop .inv) (at-loop-test .loop-test .taken))
 
 slice-write-prices : tie.Need-slice-write-prices Inv-loop μ-loop
-slice-write-prices c = raising-room (c .before .before .before .before .before .before .loop .inv) (c .before .before .before .before .before .loop-test .taken) .1
+slice-write-prices c =
+    let at-loop-test = c .before .before .before .before .before in
+    let at-loop = at-loop-test .before in
+    raising-room (at-loop .loop .inv) (at-loop-test .loop-test .taken) .1
 
 loop-less : tie.Need-loop-less Inv-loop μ-loop
 loop-less c = omega (arith, c .before .before .before .before .before .loop-test .taken)
 
 loop-again : tie.Need-loop-again Inv-loop μ-loop
-loop-again c = raising-up (c .before .before .before .before .before .before .loop .inv) (c .before .before .before .before .before .loop-test .taken) (c .before .of-period .ensures .0)
+loop-again c =
+    let at-of-period = c .before in
+    let at-loop-test = at-of-period .before .before .before .before in
+    let at-loop = at-loop-test .before in
+    raising-up (at-loop .loop .inv) (at-loop-test .loop-test .taken) (at-of-period .of-period .ensures .0)
 
 loop-less-2 : tie.Need-loop-less-2 Inv-loop μ-loop
 loop-less-2 c = omega (arith, c .before .before .loop-test .taken)

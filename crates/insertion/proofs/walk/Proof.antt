@@ -1,27 +1,28 @@
--- Flights that land in periods of lower turn have not moved yet; the turns fall. Assumes nothing.
+-- Flights that land in periods that were reached earlier have not moved yet; fewer and fewer are left to move. Assumes nothing.
 use native.Mathlib.Omega.{arith}
 use mathlib.Core.Path.{_∙_}
-use Prim.Native.Nat.{_+_, _-_}
-use lib.ListN.{getD}
-use Rattle.day.specs.Day.{day}
-use Rattle.insertion.proofs.Steps.{Walking, walk-in, walking-start, walking-places, walking-hold, walking-stays, walking-room, walking-left, walking-less, walking-step, walking-last, walking-end}
+use Prim.Native.Nat.{suc}
+use Rattle.assignment.specs.Rows.{el}
+use Rattle.day.specs.Day.{periodRow}
+use Rattle.path.specs.Path.{landing}
+use Rattle.insertion.proofs.Steps.{hops, Walking, walk-in, walking-start, walking-places, walking-hold, walking-stays, walking-room, walking-left, walking-falls, walking-step, walking-last, walking-end}
 use Rattle.insertion.proofs.walk.Statement.{statement}
 use Rattle.insertion.proofs.walk.Tie as tie
 
 abbrev Inv-loop : tie.InvT-loop
-Inv-loop capacities flights places₀ holds₀ turn via n target at₀ place₀ from₀ places holds at place from = Walking (day capacities flights) places₀ places holds₀ holds turn via n target at place from
+Inv-loop flights places₀ holds₀ via n target at₀ place₀ from₀ places holds at place from = Walking flights places₀ places holds₀ holds via n target at place from
 
 abbrev μ-loop : tie.MeasureT-loop
-μ-loop capacities flights places₀ holds₀ turn via n target at₀ place₀ from₀ places holds at place from = getD turn at 0
+μ-loop flights places₀ holds₀ via n target at₀ place₀ from₀ places holds at place from = hops (suc periodRow) (landing flights places₀ holds₀) (el via) n at
 
 mul-from : tie.Need-mul-from Inv-loop μ-loop
-mul-from c = omega (arith, c .before .before .before .before .before .before .pre .within)
+mul-from c = omega (arith, c .before .before .before .before .pre .within)
 
 shared-slice-read-from : tie.Need-shared-slice-read-from Inv-loop μ-loop
-shared-slice-read-from c = walk-in (c .before .before .before .before .before .before .before .pre)
+shared-slice-read-from c = walk-in (c .before .before .before .before .before .pre)
 
 loop-holds : tie.Need-loop-holds Inv-loop μ-loop
-loop-holds c = walking-start (c .before .before .before .before .before .before .before .pre)
+loop-holds c = walking-start (c .before .before .before .before .before .pre)
 
 mul-wide : tie.Need-mul-wide Inv-loop μ-loop
 mul-wide c = omega (arith, walking-room (c .before .loop .inv) (c .loop-test .taken))
@@ -36,22 +37,55 @@ land-of-requires : tie.Need-land-of-requires Inv-loop μ-loop
 land-of-requires c κs = let h = walking-hold (c .before .before .before .before .loop .inv) (walking-room (c .before .before .before .before .loop .inv) (c .before .before .before .loop-test .taken) .2) (walking-stays (c .before .before .before .before .loop .inv) (c .before .before .before .loop-test .taken)) (c .before .wide .ensures) in (h .0, h .1)
 
 hold-until-requires : tie.Need-hold-until-requires Inv-loop μ-loop
-hold-until-requires c κs = walking-hold (c .before .before .before .before .before .before .loop .inv) (walking-room (c .before .before .before .before .before .before .loop .inv) (c .before .before .before .before .before .loop-test .taken) .2) (walking-stays (c .before .before .before .before .before .before .loop .inv) (c .before .before .before .before .before .loop-test .taken)) (c .before .before .before .wide .ensures)
+hold-until-requires c κs =
+    let at-wide = c .before .before .before in
+    let at-loop-test = at-wide .before .before in
+    let at-loop = at-loop-test .before in
+    walking-hold (at-loop .loop .inv) (walking-room (at-loop .loop .inv) (at-loop-test .loop-test .taken) .2) (walking-stays (at-loop .loop .inv) (at-loop-test .loop-test .taken)) (at-wide .wide .ensures)
 
 swap-requires : tie.Need-swap-requires Inv-loop μ-loop
-swap-requires c κs = (walking-places (c .before .before .before .before .before .before .before .before .before .before .loop .inv) .0, walking-room (c .before .before .before .before .before .before .before .before .before .before .loop .inv) (c .before .before .before .before .before .before .before .before .before .loop-test .taken) .0, walking-places (c .before .before .before .before .before .before .before .before .before .before .loop .inv) .1, walking-room (c .before .before .before .before .before .before .before .before .before .before .loop .inv) (c .before .before .before .before .before .before .before .before .before .loop-test .taken) .1)
+swap-requires c κs =
+    let at-land-of = c .before .before .before .before .before in
+    let at-loop-test = at-land-of .before .before .before .before in
+    let at-loop = at-loop-test .before in
+    (walking-places (at-loop .loop .inv) .0, walking-room (at-loop .loop .inv) (at-loop-test .loop-test .taken) .0, walking-places (at-loop .loop .inv) .1, walking-room (at-loop .loop .inv) (at-loop-test .loop-test .taken) .1)
 
 mul-from-2 : tie.Need-mul-from-2 Inv-loop μ-loop
-mul-from-2 c = omega (arith, walking-left (c .before .before .before .before .before .before .before .before .before .before .before .before .before .loop .inv) (c .before .before .before .before .before .before .before .before .before .before .before .before .loop-test .taken) (c .before .before .before .before .before .before .before .before .before .before .wide .ensures) (c .before .before .before .before .before .before .before .before .land-of .ensures .0))
+mul-from-2 c =
+    let at-holds = c .before .before .before .before .before in
+    let at-land-of = at-holds .before .before .before in
+    let at-wide = at-land-of .before .before in
+    let at-loop-test = at-wide .before .before in
+    let at-loop = at-loop-test .before in
+    omega (arith, walking-left (at-loop .loop .inv) (at-loop-test .loop-test .taken) (at-wide .wide .ensures) (at-land-of .land-of .ensures .0))
 
 shared-slice-read-from-2 : tie.Need-shared-slice-read-from-2 Inv-loop μ-loop
-shared-slice-read-from-2 c = walking-left (c .before .before .before .before .before .before .before .before .before .before .before .before .before .before .loop .inv) (c .before .before .before .before .before .before .before .before .before .before .before .before .before .loop-test .taken) (c .before .before .before .before .before .before .before .before .before .before .before .wide .ensures) (c .before .before .before .before .before .before .before .before .before .land-of .ensures .0) .0
+shared-slice-read-from-2 c =
+    let at-slice-known4 = c .before .before .before .before .before in
+    let at-land-of = at-slice-known4 .before .before .before .before in
+    let at-wide = at-land-of .before .before in
+    let at-loop-test = at-wide .before .before in
+    let at-loop = at-loop-test .before in
+    walking-left (at-loop .loop .inv) (at-loop-test .loop-test .taken) (at-wide .wide .ensures) (at-land-of .land-of .ensures .0) .0
 
 loop-less : tie.Need-loop-less Inv-loop μ-loop
-loop-less c = walking-less (c .before .before .before .before .before .before .before .before .before .before .before .before .before .before .loop .inv) (c .before .before .before .before .before .before .before .before .before .before .before .before .before .loop-test .taken) (c .before .before .before .before .before .before .before .before .before .before .before .wide .ensures) (c .before .before .before .before .before .before .before .before .before .land-of .ensures .0)
+loop-less c =
+    let at-slice-known4 = c .before .before .before .before .before in
+    let at-land-of = at-slice-known4 .before .before .before .before in
+    let at-wide = at-land-of .before .before in
+    let at-loop-test = at-wide .before .before in
+    let at-loop = at-loop-test .before in
+    walking-falls (at-loop .loop .inv) (at-loop-test .loop-test .taken) (at-wide .wide .ensures) (at-land-of .land-of .ensures .0)
 
 loop-again : tie.Need-loop-again Inv-loop μ-loop
-loop-again c = rw (c .before .before .before .before .before .before .before .hold-until .ensures, c .before .before .before .swap .ensures) (walking-step (c .before .before .before .before .before .before .before .before .before .before .before .before .before .before .loop .inv) (c .before .before .before .before .before .before .before .before .before .before .before .before .before .loop-test .taken) (c .before .before .before .before .before .before .before .before .before .before .before .wide .ensures) (c .before .before .before .before .before .before .before .before .before .land-of .ensures .0))
+loop-again c =
+    let at-swap = c .before .before .before in
+    let at-hold-until = at-swap .before .before .before .before in
+    let at-land-of = at-hold-until .before .before in
+    let at-wide = at-land-of .before .before in
+    let at-loop-test = at-wide .before .before in
+    let at-loop = at-loop-test .before in
+    rw (at-hold-until .hold-until .ensures, at-swap .swap .ensures) (walking-step (at-loop .loop .inv) (at-loop-test .loop-test .taken) (at-wide .wide .ensures) (at-land-of .land-of .ensures .0))
 
 mul-wide-2 : tie.Need-mul-wide-2 Inv-loop μ-loop
 mul-wide-2 c = omega (arith, walking-places (c .before .before .loop .inv))
@@ -66,13 +100,24 @@ hold-until-requires-2 : tie.Need-hold-until-requires-2 Inv-loop μ-loop
 hold-until-requires-2 c κs = walking-last (c .before .before .before .before .loop .inv) (c .before .before .before .loop-test .left) (c .wide2 .ensures)
 
 same-length : tie.Need-same-length Inv-loop μ-loop
-same-length c = c .before .before .before .before .before .before .before .loop .inv .same-p
+same-length c =
+    let at-hold-until-arg2 = c .before .before .before .before .before in
+    let at-loop = at-hold-until-arg2 .before .before in
+    at-loop .loop .inv .same-p
 
 same-length-2 : tie.Need-same-length-2 Inv-loop μ-loop
-same-length-2 c = c .before .before .hold-until2 .kept .1 .0 ∙ c .before .before .before .before .before .before .before .loop .inv .same-h
+same-length-2 c =
+    let at-hold-until2 = c .before .before in
+    let at-loop = at-hold-until2 .before .before .before .before .before in
+    at-hold-until2 .hold-until2 .kept .1 .0 ∙ at-loop .loop .inv .same-h
 
 returns : tie.Need-returns Inv-loop μ-loop
-returns c = rw (c .before .before .hold-until2 .ensures) (walking-end (c .before .before .before .before .before .before .before .loop .inv) (c .before .before .before .before .before .before .loop-test .left) (c .before .before .before .wide2 .ensures))
+returns c =
+    let at-hold-until2 = c .before .before in
+    let at-wide2 = at-hold-until2 .before in
+    let at-loop-test = at-wide2 .before .before .before in
+    let at-loop = at-loop-test .before in
+    rw (at-hold-until2 .hold-until2 .ensures) (walking-end (at-loop .loop .inv) (at-loop-test .loop-test .left) (at-wide2 .wide2 .ensures))
 
 pub walk-spec : {M : Type 1} → statement M
 walk-spec =
