@@ -90,7 +90,7 @@ module _ (sheet c f : List ℕ) {answer : Answer} {code : Code} (p : mostPeriods
 day-is : {sheet c f : List ℕ} {p n : ℕ} (h : Held sheet p n c f) → day (take (p - 0) c) (take (n * width - 0) f) ≡ day (h .capacities) (rowOf (h .flights))
 day-is {p = p} {n = n} h = rw (sub-zero p, sub-zero (n * width), h .capacities-there, h .flights-there)
 
-pub can-plan : (holds prices buffer : List ℕ) {sheet c f : List ℕ} {p n : ℕ} → Held sheet p n c f → 128 ≡ length holds → 96 ≡ length prices
+pub can-plan : (holds prices buffer : List ℕ) {sheet c f : List ℕ} {p n : ℕ} → Held sheet p n c f → mostFlights ≡ length holds → mostPeriods ≡ length prices
     → 4096 ≤ length buffer
     → (valid (day (take (p - 0) c) (take (n * width - 0) f)) ≡ true)
     × (length (take (n - 0) holds) ≡ N (day (take (p - 0) c) (take (n * width - 0) f)))
@@ -98,9 +98,12 @@ pub can-plan : (holds prices buffer : List ℕ) {sheet c f : List ℕ} {p n : �
     × (4096 ≤ length buffer)
 can-plan holds prices buffer {p = p} {n = n} h x y room =
     let a = length-take-le (n - 0) holds (omega (arith, h .few-flights)) in
-    let b = length-take-le (p - 0) prices (omega (arith, h .few-periods)) in
-    let e = ap P (day-is h) in
-    rw (day-is h) (h .good, omega (arith, a, count-row (h .capacities) (h .flights), h .count), omega (arith, b, e, h .periods), room)
+    let b = length-take-le (p - 0) prices (omega (arith, h .few-periods)) in (
+      ap valid (day-is h) ∙ h .good,
+      omega (arith, a, ap N (day-is h), count-row (h .capacities) (h .flights), h .count),
+      omega (arith, b, ap P (day-is h), h .periods),
+      room,
+    )
 
 pub prints-day : (buffer : List ℕ) {sheet c f : List ℕ} {p n r : ℕ} → Held sheet p n c f
     → (r ≤ length buffer) × PrintsDay (day (take (p - 0) c) (take (n * width - 0) f)) (take r buffer)

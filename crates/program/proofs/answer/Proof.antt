@@ -23,7 +23,11 @@ slice-aggregate-result-2 : tie.Need-slice-aggregate-result-2
 slice-aggregate-result-2 c = sym (length-take-le _ _ (c .before .before .before .before .answer-sheet .ensures .0))
 
 returns-2 : tie.Need-returns-2
-returns-2 c = (printed (c .before .before .before .before .before .before .before .if1 .left) (rw (c .before .before .before .before .before .before .read-part .ensures) at (c .before .before .before .before .answer-sheet .ensures .1)), refl)
+returns-2 c =
+    let at-answer-sheet = c .before .before .before .before in
+    let at-read-part = at-answer-sheet .before .before in
+    let at-if1 = at-read-part .before in
+    (printed (at-if1 .if1 .left) (rw (at-read-part .read-part .ensures) at (at-answer-sheet .answer-sheet .ensures .1)), refl)
 
 pub answer-spec : {M : Type 1} → statement M
 answer-spec =

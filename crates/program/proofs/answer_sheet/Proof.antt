@@ -40,7 +40,14 @@ same-length : tie.Need-same-length
 same-length c = search needs
 
 returns : tie.Need-returns
-returns c = prints-refusal (c .before .before .before .before .before .before .before .before .before .before .before .before .before .before .before .before .before .args .sheet .now) (c .before .before .before .before .before .before .before .before .before .before .before .before .before .before .capacity-row .result) (c .before .before .before .before .before .before .before .before .before .before .before .before .before .flight-row .result) (c .before .before .before .before .before .before .before .before .before .before .before .before .before .before .capacity-row .ensures) (c .before .before .before .before .before .before .before .before .before .before .before .before .before .flight-row .ensures) (c .before .before .before .before .before .before .before .before .read-sheet .ensures .0) (c .before .before .before .before .before .code-of .ensures) (c .before .before .put-refusal .last .1 .0) (c .before .before .before .before .if1 .taken) (c .before .before .put-refusal .ensures)
+returns c =
+    let at-if1 = c .before .before .before .before in
+    let at-code-of = at-if1 .before in
+    let at-read-sheet = at-code-of .before .before .before in
+    let at-flight-row = at-read-sheet .before .before .before .before .before in
+    let at-capacity-row = at-flight-row .before in
+    let at-start = at-capacity-row .before .before .before in
+    prints-refusal (at-start .args .sheet .now) (at-capacity-row .capacity-row .result) (at-flight-row .flight-row .result) (at-capacity-row .capacity-row .ensures) (at-flight-row .flight-row .ensures) (at-read-sheet .read-sheet .ensures .0) (at-code-of .code-of .ensures) (c .before .before .put-refusal .last .1 .0) (at-if1 .if1 .taken) (c .before .before .put-refusal .ensures)
 
 sub-plan-day : tie.Need-sub-plan-day
 sub-plan-day c = search needs
@@ -70,7 +77,11 @@ part-holds-start : tie.Need-part-holds-start
 part-holds-start c = search needs
 
 part-holds-end : tie.Need-part-holds-end
-part-holds-end c = omega (arith, in-day (c .before .before .before .before) .few-flights, c .before .before .before .before .before .before .before .before .before .before .before .before .hold-row .ensures)
+part-holds-end c =
+    let at-if1 = c .before .before .before .before in
+    let at-flights = at-if1 .before .before .before .before .before in
+    let at-hold-row = at-flights .before .before .before in
+    omega (arith, in-day (at-if1) .few-flights, at-hold-row .hold-row .ensures)
 
 sub-plan-day-4 : tie.Need-sub-plan-day-4
 sub-plan-day-4 c = search needs
@@ -79,16 +90,31 @@ part-prices-start : tie.Need-part-prices-start
 part-prices-start c = search needs
 
 part-prices-end : tie.Need-part-prices-end
-part-prices-end c = omega (arith, in-day (c .before .before .before .before .before) .few-periods, c .before .before .before .before .before .before .before .before .before .before .before .before .capacity-row2 .ensures)
+part-prices-end c =
+    let at-if1 = c .before .before .before .before .before in
+    let at-flights = at-if1 .before .before .before .before .before in
+    let at-capacity-row2 = at-flights .before .before in
+    omega (arith, in-day (at-if1) .few-periods, at-capacity-row2 .capacity-row2 .ensures)
 
 plan-day-requires : tie.Need-plan-day-requires
-plan-day-requires c κs = can-plan (c .before .before .before .before .before .before .before .before .before .before .before .before .before .before .before .hold-row .result) (c .before .before .before .before .before .before .before .before .before .before .before .before .before .before .capacity-row2 .result) (c .before .before .before .before .before .before .before .before .before .before .before .before .before .before .before .before .before .before .before .before .args .text .now) (in-day (c .before .before .before .before .before .before .before)) (c .before .before .before .before .before .before .before .before .before .before .before .before .before .before .before .hold-row .ensures) (c .before .before .before .before .before .before .before .before .before .before .before .before .before .before .capacity-row2 .ensures) (c .before .before .before .before .before .before .before .before .before .before .before .before .before .before .before .before .before .before .before .before .pre)
+plan-day-requires c κs =
+    let at-plan-day-arg = c .before .before .before .before .before in
+    let at-if1 = at-plan-day-arg .before .before in
+    let at-flights = at-if1 .before .before .before .before .before in
+    let at-capacity-row2 = at-flights .before .before in
+    let at-hold-row = at-capacity-row2 .before in
+    let at-start = at-hold-row .before .before .before .before .before in
+    can-plan (at-hold-row .hold-row .result) (at-capacity-row2 .capacity-row2 .result) (at-start .args .text .now) (in-day (at-if1)) (at-hold-row .hold-row .ensures) (at-capacity-row2 .capacity-row2 .ensures) (at-start .pre)
 
 same-length-2 : tie.Need-same-length-2
 same-length-2 c = search needs
 
 returns-2 : tie.Need-returns-2
-returns-2 c = prints-day (c .before .before .before .before .plan-day .last .1 .1 .1 .1 .0) (in-day (c .before .before .before .before .before .before .before .before .before .before .before .before)) (c .before .before .before .before .plan-day .ensures)
+returns-2 c =
+    let at-plan-day = c .before .before .before .before in
+    let at-flights3 = at-plan-day .before .before .before .before .before in
+    let at-if1 = at-flights3 .before .before .before in
+    prints-day (at-plan-day .plan-day .last .1 .1 .1 .1 .0) (in-day (at-if1)) (at-plan-day .plan-day .ensures)
 
 pub answer-sheet-spec : {M : Type 1} → statement M
 answer-sheet-spec =

@@ -14,8 +14,12 @@ code-of-requires c κs = search needs
 
 put-plan-requires : tie.Need-put-plan-requires
 put-plan-requires c κs =
-    let solved = accepted-call (c .before .before .before .before .before .before .before .before .before .before .before .before .before .before .before .before .pre .0) (c .before .before .before .before .before .before .before .before .before .before .before .before .before .before .before .before .pre .1) (c .before .before .before .before .before .before .before .before .before .before .before .before .before .before .before .before .pre .2) (c .before .before .before .before .before .before .before .before .full-plan .ensures) in
-    (c .before .before .before .before .before .before .before .before .before .before .before .before .before .before .before .before .pre .0, planned solved (c .before .before .before .code-of .ensures) (c .before .before .if1 .taken) .legal, c .before .before .before .before .before .before .before .before .before .before .before .before .before .before .before .before .pre .3)
+    let at-code-of = c .before .before .before in
+    let at-full-plan = at-code-of .before .before .before .before .before in
+    let at-slice-known = at-full-plan .before .before .before .before .before in
+    let at-start = at-slice-known .before .before .before in
+    let solved = accepted-call (at-start .pre .0) (at-start .pre .1) (at-start .pre .2) (at-full-plan .full-plan .ensures) in
+    (at-start .pre .0, planned solved (at-code-of .code-of .ensures) (c .before .before .if1 .taken) .legal, at-start .pre .3)
 
 same-length : tie.Need-same-length
 same-length c = search needs
@@ -28,8 +32,13 @@ same-length-3 c = search needs
 
 returns : tie.Need-returns
 returns c =
-    let solved = accepted-call (c .before .before .before .before .before .before .before .before .before .before .before .before .before .before .before .before .before .before .before .pre .0) (c .before .before .before .before .before .before .before .before .before .before .before .before .before .before .before .before .before .before .before .pre .1) (c .before .before .before .before .before .before .before .before .before .before .before .before .before .before .before .before .before .before .before .pre .2) (c .before .before .before .before .before .before .before .before .before .before .before .full-plan .ensures) in
-    prints-plan (planned solved (c .before .before .before .before .before .before .code-of .ensures) (c .before .before .before .before .before .if1 .taken)) (c .before .before .put-plan .ensures)
+    let at-if1 = c .before .before .before .before .before in
+    let at-code-of = at-if1 .before in
+    let at-full-plan = at-code-of .before .before .before .before .before in
+    let at-slice-known = at-full-plan .before .before .before .before .before in
+    let at-start = at-slice-known .before .before .before in
+    let solved = accepted-call (at-start .pre .0) (at-start .pre .1) (at-start .pre .2) (at-full-plan .full-plan .ensures) in
+    prints-plan (planned solved (at-code-of .code-of .ensures) (at-if1 .if1 .taken)) (c .before .before .put-plan .ensures)
 
 put-refusal-requires : tie.Need-put-refusal-requires
 put-refusal-requires c κs = search needs
@@ -45,8 +54,13 @@ same-length-6 c = search needs
 
 returns-2 : tie.Need-returns-2
 returns-2 c =
-    let solved = accepted-call (c .before .before .before .before .before .before .before .before .before .before .before .before .before .before .before .before .before .before .pre .0) (c .before .before .before .before .before .before .before .before .before .before .before .before .before .before .before .before .before .before .pre .1) (c .before .before .before .before .before .before .before .before .before .before .before .before .before .before .before .before .before .before .pre .2) (c .before .before .before .before .before .before .before .before .before .before .full-plan .ensures) in
-    prints-none solved (c .before .before .before .before .before .code-of .ensures) (c .before .before .before .before .if1 .left) (c .before .before .put-refusal .ensures)
+    let at-if1 = c .before .before .before .before in
+    let at-code-of = at-if1 .before in
+    let at-full-plan = at-code-of .before .before .before .before .before in
+    let at-slice-known = at-full-plan .before .before .before .before .before in
+    let at-start = at-slice-known .before .before .before in
+    let solved = accepted-call (at-start .pre .0) (at-start .pre .1) (at-start .pre .2) (at-full-plan .full-plan .ensures) in
+    prints-none solved (at-code-of .code-of .ensures) (at-if1 .if1 .left) (c .before .before .put-refusal .ensures)
 
 pub plan-day-spec : {M : Type 1} → statement M
 plan-day-spec =

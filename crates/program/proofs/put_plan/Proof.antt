@@ -17,8 +17,11 @@ same-length c = search needs
 
 returns : tie.Need-returns
 returns c =
-    let a = c .before .before .before .before .before .before .before .before .before .args in
-    plan-front (a .text .now) (day (a .capacities .now) (a .flights .now)) (a .holds .now) (c .before .before .before .before .before .before .before .before .before .pre .0) (c .before .before .before .before .before .before .before .before .before .pre .1) (c .before .before .before .before .before .before .before .before .before .pre .2) (c .before .before .before .write-plan .ensures .0) (c .before .before .before .write-plan .ensures .1) (c .code-of .ensures)
+    let at-write-plan = c .before .before .before in
+    let at-shared-slice-known = at-write-plan .before .before .before .before .before in
+    let at-start = at-shared-slice-known .before in
+    let a = at-start .args in
+    plan-front (a .text .now) (day (a .capacities .now) (a .flights .now)) (a .holds .now) (at-start .pre .0) (at-start .pre .1) (at-start .pre .2) (at-write-plan .write-plan .ensures .0) (at-write-plan .write-plan .ensures .1) (c .code-of .ensures)
 
 pub put-plan-spec : {M : Type 1} → statement M
 put-plan-spec = tie.close (tie.spec write-plan-requires code-of-requires same-length returns)

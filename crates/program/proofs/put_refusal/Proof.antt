@@ -19,7 +19,11 @@ same-length : tie.Need-same-length
 same-length c = search needs
 
 returns : tie.Need-returns
-returns c = refusal-front (c .before .before .before .before .before .before .before .args .text .now) (c .before .before .before .before .before .before .before .args .answer) (c .before .before .before .before .before .before .before .pre) (c .before .before .before .before .before .code-of .ensures) (omega arith) (omega arith) (omega arith) (c .before .before .before .write-refusal .ensures .0) (c .before .before .before .write-refusal .ensures .1) (c .code-of2 .ensures)
+returns c =
+    let at-write-refusal = c .before .before .before in
+    let at-code-of = at-write-refusal .before .before in
+    let at-start = at-code-of .before .before in
+    refusal-front (at-start .args .text .now) (at-start .args .answer) (at-start .pre) (at-code-of .code-of .ensures) (omega arith) (omega arith) (omega arith) (at-write-refusal .write-refusal .ensures .0) (at-write-refusal .write-refusal .ensures .1) (c .code-of2 .ensures)
 
 pub put-refusal-spec : {M : Type 1} → statement M
 put-refusal-spec =
