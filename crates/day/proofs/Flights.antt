@@ -11,31 +11,10 @@ use Rattle.day.specs.declared.Flight.{Flight}
 use Rattle.day.specs.Day.{width, column, flightAt}
 use Rattle.day.specs.Flights.{firstFlights, numbersOf, rowOf, withFlight}
 
--- a flight that was read has the numbers of its columns
-module _ (f : Flight) (row : List ℕ) (i : ℕ) (e : f ≡ flightAt row i) where
-  pub number-read : f .number ≡ column 0 row i
-  unfolding flightAt
-  number-read = ap (λ (g : Flight). g .number) e
-
-  pub due-read : f .due ≡ column 1 row i
-  unfolding flightAt
-  due-read = ap (λ (g : Flight). g .due) e
-
-  pub rate-read : f .rate ≡ column 2 row i
-  unfolding flightAt
-  rate-read = ap (λ (g : Flight). g .rate) e
-
-  pub after-read : f .after ≡ column 3 row i
-  unfolding flightAt
-  after-read = ap (λ (g : Flight). g .after) e
-
-  pub jump-read : f .jump ≡ column 4 row i
-  unfolding flightAt
-  jump-read = ap (λ (g : Flight). g .jump) e
-
-  pub limit-read : f .limit ≡ column 5 row i
-  unfolding flightAt
-  limit-read = ap (λ (g : Flight). g .limit) e
+-- a flight that was read has the due period of its column
+pub due-read : (f : Flight) (row : List ℕ) (i : ℕ) → f ≡ flightAt row i → f .due ≡ column 1 row i
+unfolding flightAt
+due-read f row i e = ap (λ (g : Flight). g .due) e
 
 -- ---- a flight stored
 

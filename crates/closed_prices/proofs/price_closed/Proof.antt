@@ -1,7 +1,6 @@
 -- The closed periods looked at so far have their prices. Assumes nothing.
 use native.Mathlib.Omega.{arith}
 use Prim.Native.Nat.{_-_}
-use lib.ListN.{length}
 use Rattle.day.specs.Day.{day}
 use Rattle.closed_prices.proofs.Pricing.{Closing, closing-start, closing-room, closing-pass, closing-pay, closing-small, closing-next, closing-end}
 use Rattle.closed_prices.proofs.price_closed.Statement.{statement}

@@ -6,8 +6,21 @@ use borrow.Author.Needs.{needs}
 use Rattle.program.proofs.answer_sheet.Statement.{statement}
 use Rattle.program.proofs.answer_sheet.Tie as tie
 
-in-day : (c : tie.Else1) → Held (c .before .before .before .before .before .before .before .before .before .before .before .before .before .args .sheet .now) (c .before .code-of .result .first) (c .before .code-of .result .second) (c .before .before .before .before .read-sheet .last .1 .0) (c .before .before .before .before .read-sheet .last .1 .1 .0)
-in-day c = held _ (c .before .before .before .before .before .before .before .before .before .before .capacity-row .result) (c .before .before .before .before .before .before .before .before .before .flight-row .result) (c .before .before .before .before .before .before .before .before .before .before .capacity-row .ensures) (c .before .before .before .before .before .before .before .before .before .flight-row .ensures) (c .before .before .before .before .read-sheet .ensures .0) (c .before .code-of .ensures) (c .before .before .before .before .read-sheet .ensures .1 .0) (c .before .before .before .before .read-sheet .ensures .1 .1) (c .if1 .left)
+abbrev at-read : tie.Else1 → tie.After-read-sheet
+at-read c = c .before .before .before .before
+
+abbrev at-flight-row : tie.Else1 → tie.After-flight-row
+at-flight-row c = at-read c .before .before .before .before .before
+
+abbrev at-capacity-row : tie.Else1 → tie.After-capacity-row
+at-capacity-row c = at-flight-row c .before
+
+-- the sheet's day stands in the rows
+in-day : (c : tie.Else1)
+    → Held (at-capacity-row c .before .before .before .args .sheet .now) (c .before .code-of .result .first) (c .before .code-of .result .second)
+    (at-read c .read-sheet .last .1 .0) (at-read c .read-sheet .last .1 .1 .0)
+in-day c =
+    held _ (at-capacity-row c .capacity-row .result) (at-flight-row c .flight-row .result) (at-capacity-row c .capacity-row .ensures) (at-flight-row c .flight-row .ensures) (at-read c .read-sheet .ensures .0) (c .before .code-of .ensures) (at-read c .read-sheet .ensures .1 .0) (at-read c .read-sheet .ensures .1 .1) (c .if1 .left)
 
 capacity-row-requires : tie.Need-capacity-row-requires
 capacity-row-requires c κs = search needs
