@@ -8,11 +8,10 @@ use Prim.Native.Nat.{ℕ, _+_, _-_, _*_, _%_, _≤_, _<_, zero-le}
 use native.Mathlib.Omega.{arith}
 use native.Mathlib.Nat.{mod-lt}
 use lib.ListN.{length, getD, set, length-set, replicate, length-replicate, getD-replicate}
-use lib.Seq.{getD-set-same, getD-set-other}
 use borrow.Author.Tests.{eq-eqb, ne-eqb}
-use Rattle.assignment.specs.Moves.{Moved}
 use Rattle.assignment.specs.Chains.{Newest}
 use Rattle.assignment.proofs.Tests.{eq?, lt?}
+use Rattle.assignment.proofs.Rows.{set-moved}
 use Rattle.assignment.proofs.Chains.{chained-start, chained-add}
 use Rattle.day.specs.Day.{column, width, all, isNew}
 use Rattle.day.specs.Chains.{chains, chain, Linked, Passed}
@@ -84,9 +83,6 @@ pass-start rows most = record {
   own = refl;
 }
 
-stored : (l : List ℕ) (k v : ℕ) → k < length l → Moved (λ s. getD l s 0) (λ s. getD (set l k v) s 0) k v
-stored l k v b = record { here = getD-set-same l k v 0 b; others = λ o e. getD-set-other l k o v 0 e }
-
 module _ {f nearest above : List ℕ} {n i : ℕ} (p : Passed f n nearest above i) (more : i < n) where
   pub pass-not : {t : Bool} → t ≡ isNew f i → t ≡ false → false ≡ all n (isNew f)
   pass-not e s = sym (all-not n (isNew f) i more (sym e ∙ s))
@@ -101,7 +97,7 @@ module _ {f nearest above : List ℕ} {n i : ℕ} (p : Passed f n nearest above 
       heads = simp length-set (p .linked .heads);
       places = simp length-set (p .linked .places);
       few = omega arith;
-      chained = chained-add (p .linked .chained) inside (λ s l. refl) (sym e) (stored nearest q (i + 1) (omega arith)) (stored above i (getD nearest q 0) (omega arith));
+      chained = chained-add (p .linked .chained) inside (λ s l. refl) (sym e) (set-moved nearest q (i + 1) (omega arith)) (set-moved above i (getD nearest q 0) (omega arith));
     };
     own = all-next i (isNew f) (p .own) (sym t ∙ s);
   }

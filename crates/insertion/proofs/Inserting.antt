@@ -24,7 +24,7 @@ use Rattle.assignment.proofs.Restricted.{Rising, until-near, restrict, widen, w
 use Rattle.assignment.proofs.Rows.{set-moved}
 use Rattle.day.specs.Day.{Day, width, P, N, mostFlights, periodRow, ofPeriod, takes, due, cost}
 use Rattle.day.specs.Instance.{instance, last, last-to}
-use Rattle.day.proofs.Costs.{takes-in, takes-closing, due-latest, cost-grows}
+use Rattle.day.proofs.Costs.{takes-closing, due-latest, cost-grows}
 use Rattle.day.proofs.Instance.{cost-le, instance-short}
 use Rattle.path.specs.Path.{far, away, dear, begun, scope, landing, Table, Scene, Searched, CanSearchSome, SearchedAll}
 use Rattle.path.proofs.Rows.{as-read}
@@ -106,6 +106,13 @@ module _ {d : Day} {places holds prices : List ℕ} {n : ℕ} (s : Placed d plac
               rows = kept .loads-row;
               from = omega (arith, first-at, f .due-from);
               to = omega (arith, first-at, f .due-to);
+              closing = omega (
+                arith,
+                takes-closing (d .capacities),
+                kept .loads-are (P d + 1) (omega (arith, s .table .valid .periods-to)),
+                count-le n (landing (d .flights) places holds) (P d + 1),
+                insert-room,
+              );
             }
 
         module _ {target : ℕ} (room : FirstRoom (d .capacities) loads first target) where
@@ -113,12 +120,7 @@ module _ {d : Day} {places holds prices : List ℕ} {n : ℕ} (s : Placed d plac
           insert-within = omega (arith, room .to, s .table .valid .periods-to)
 
           free : count n (landing (d .flights) places holds) target < takes (d .capacities) target
-          free = elim (lt? (P d) target) [
-            | inr in-day ↦ omega (arith, takes-in (d .capacities) target in-day, room .free in-day, kept .loads-are target insert-within)
-            | inl closing ↦
-                let e : target ≡ P d + 1 = omega (arith, room .to) in
-                rw e (omega (arith, takes-closing (d .capacities), count-le n (landing (d .flights) places holds) (P d + 1), insert-room))
-          ]
+          free = omega (arith, room .free, kept .loads-are target insert-within)
 
           pub insert-scene : Scene (scope d places n target) (landing (d .flights) places holds) (ofPeriod prices) target
           insert-scene =
@@ -142,7 +144,6 @@ module _ {d : Day} {places holds prices : List ℕ} {n : ℕ} (s : Placed d plac
                 within = omega (arith, room .to);
                 full = λ k a b. omega (
                   arith,
-                  takes-in (d .capacities) k (omega (arith, room .to)),
                   room .full k (omega (arith, first-at)) b,
                   kept .loads-are k (omega (arith, insert-within)),
                 );

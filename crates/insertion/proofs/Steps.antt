@@ -23,7 +23,7 @@ use Rattle.assignment.proofs.Chains.{chained-add}
 use Rattle.assignment.proofs.Insertion.{going-step}
 use Rattle.assignment.proofs.Permuted.{permuted-other, permuted-same, swapped}
 use Rattle.assignment.proofs.Rows.{set-moved}
-use Rattle.day.specs.Day.{mostFlights, periodRow, width, column, flightCount, ofPeriod, hold}
+use Rattle.day.specs.Day.{mostFlights, periodRow, width, column, flightCount, ofPeriod, takes, hold}
 use Rattle.day.proofs.Costs.{period-out, period-moved}
 use Rattle.path.specs.Path.{far, away, landing, Chained}
 use Rattle.path.proofs.Rows.{away-moved, as-read}
@@ -86,29 +86,34 @@ pub record Passing (capacities loads : List ℕ) (first k : ℕ) : Type 0 where
   pub can : CanFind capacities loads first
   pub from : first ≤ k
   pub to : k ≤ length capacities + 1
-  pub full : (j : ℕ) → first ≤ j → j < k → ofPeriod capacities j ≤ el loads j
+  pub full : (j : ℕ) → first ≤ j → j < k → takes capacities j ≤ el loads j
 
 pub passing-start : {capacities loads : List ℕ} {first : ℕ} → CanFind capacities loads first → Passing capacities loads first first
 passing-start c = record { can = c; from = omega arith; to = c .to; full = λ j a b. absurd (omega arith) }
 
 module _ {capacities loads : List ℕ} {first k : ℕ} (s : Passing capacities loads first k) where
-  module _ (l : k ≤ length capacities) where
-    pub passing-room : (k < length loads) × (k < periodRow)
-    passing-room = omega (arith, s .can .few, s .can .rows)
+  pub passing-room : (k < length loads) × (k < periodRow)
+  passing-room = omega (arith, s .can .few, s .can .rows, s .to)
 
-    pub passing-found : {r : ℕ} → r ≡ ofPeriod capacities k → getD loads k 0 < r → FirstRoom capacities loads first k
-    passing-found e less = record { from = s .from; to = s .to; full = s .full; free = λ _. omega arith }
+  module _ {r : ℕ} (e : r ≡ takes capacities k) where
+    pub passing-found : getD loads k 0 < r → FirstRoom capacities loads first k
+    passing-found less = record { from = s .from; to = s .to; full = s .full; free = omega arith }
 
-    pub passing-next : {r : ℕ} → r ≡ ofPeriod capacities k → r ≤ getD loads k 0 → Passing capacities loads first (k + 1)
-    passing-next e more = record {
-      can = s .can;
-      from = omega (arith, s .from);
-      to = omega arith;
-      full = λ j a b. elim (eq? j k) [ inl f ↦ rw f (omega arith) | inr f ↦ s .full j a (omega arith) ];
-    }
+    module _ (more : r ≤ getD loads k 0) where
+      -- the closing period has room
+      pub passing-in : k ≤ length capacities
+      passing-in = elim (eq? k (length capacities + 1)) [
+        | inl closing ↦ absurd (omega (arith, s .can .closing, ap (takes capacities) closing, ap (el loads) closing))
+        | inr other ↦ omega (arith, s .to)
+      ]
 
-  pub passing-end : length capacities < k → FirstRoom capacities loads first k
-  passing-end l = record { from = s .from; to = s .to; full = s .full; free = λ m. absurd (omega arith) }
+      pub passing-next : Passing capacities loads first (k + 1)
+      passing-next = record {
+        can = s .can;
+        from = omega (arith, s .from);
+        to = omega (arith, passing-in);
+        full = λ j a b. elim (eq? j k) [ inl f ↦ rw f (omega arith) | inr f ↦ s .full j a (omega arith) ];
+      }
 
 -- ---- walk
 

@@ -11,7 +11,7 @@ use Rattle.assignment.specs.Rows.{el}
 use Rattle.assignment.specs.Moves.{Moved, put}
 use Rattle.assignment.specs.Orders.{Permuted}
 use Rattle.assignment.specs.Insertion.{Sound, Going}
-use Rattle.day.specs.Day.{Day, P, N, mostPeriods, mostFlights, periodRow, width, column, flightCount, ofPeriod, due, total}
+use Rattle.day.specs.Day.{Day, P, N, mostPeriods, mostFlights, periodRow, width, column, flightCount, ofPeriod, due, total, takes}
 use Rattle.day.specs.Plan.{Accepted, Short}
 use Rattle.day.specs.Valid.{Valid}
 use Rattle.path.specs.Path.{far, away, begun, landing, Table, Chained}
@@ -63,13 +63,14 @@ pub record CanFind (capacities loads : List ℕ) (first : ℕ) : Type 0 where
   pub rows : length loads ≡ periodRow
   pub from : 1 ≤ first
   pub to : first ≤ length capacities + 1
+  pub closing : el loads (length capacities + 1) < takes capacities (length capacities + 1)
 
 -- k is the first period from `first` on that has room; the closing period always has
 pub record FirstRoom (capacities loads : List ℕ) (first k : ℕ) : Type 0 where
   pub from : first ≤ k
   pub to : k ≤ length capacities + 1
-  pub full : (j : ℕ) → first ≤ j → j < k → ofPeriod capacities j ≤ el loads j
-  pub free : k ≤ length capacities → el loads k < ofPeriod capacities k
+  pub full : (j : ℕ) → first ≤ j → j < k → takes capacities j ≤ el loads j
+  pub free : el loads k < takes capacities k
 
 -- ---- the walk back
 

@@ -12,6 +12,7 @@ ghost use Rattle.insertion.specs.Insertion.{Added, CanFind, FirstRoom, C
 use closed_prices::price_closed;
 use day::FLIGHTS;
 use day::PERIOD_ROW;
+use day::capacity_of;
 use day::due_of;
 use day::land_of;
 use day::of_period;
@@ -37,13 +38,12 @@ fn first_with_room(capacities: &[u32], loads: &[usize], first: usize) -> usize
     ensures { λ k. ⌜ FirstRoom (now (capacities .entry)) (now (loads .entry)) first k ⌝ }
 {
     let mut k = first;
-    while k <= capacities.len() {
-        if loads[k] < of_period(capacities, k) {
+    loop {
+        if loads[k] < capacity_of(capacities, k) {
             return k;
         }
         k += 1;
     }
-    k
 }
 
 // Holds the flight at table place i until period k.

@@ -5,6 +5,7 @@ ghost use lib.ListN.{length};
 ghost use Rattle.assignment.specs.Rows.{el};
 ghost use Rattle.day.specs.Day.{lent, periodRow};
 ghost use Rattle.path.specs.Path.{away, CanList, Filled, Removed, CanNear, NearestIn, CanLevel, Levelled, NextLevel, Nearer, FirstFrom, CanOffer, Offers, CanExpandSome, ExpandedAll, CanSearchSome, SearchedAll};
+use day::FLIGHTS;
 use day::Flight;
 use day::PERIOD_ROW;
 use day::due_of;
@@ -18,7 +19,7 @@ use day::wide;
 pub const FAR: usize = 4611686018427387904;
 
 // A row of chains: an entry for each period, then one for each place.
-pub const CHAIN_ROW: usize = 226;
+pub const CHAIN_ROW: usize = PERIOD_ROW + FLIGHTS;
 
 // Where an offer starts: the place of the flight that makes it, how far the period is in which it lands, and what it pays there.
 struct Origin {

@@ -1,8 +1,8 @@
--- The periods passed are full. Assumes nothing.
+-- The periods passed are full, and the closing period is not. Assumes nothing.
 use native.Mathlib.Omega.{arith}
-use lib.ListN.{length}
+use Rattle.insertion.proofs.Steps.{Passing, passing-start, passing-room, passing-found, passing-in, passing-next}
 use Prim.Native.Nat.{_+_, _-_}
-use Rattle.insertion.proofs.Steps.{Passing, passing-start, passing-room, passing-found, passing-next, passing-end}
+use lib.ListN.{length}
 use Rattle.insertion.proofs.first_with_room.Statement.{statement}
 use Rattle.insertion.proofs.first_with_room.Tie as tie
 
@@ -10,34 +10,31 @@ abbrev Inv-loop : tie.InvT-loop
 Inv-loop capacities loads first k₀ k = Passing capacities loads first k
 
 abbrev μ-loop : tie.MeasureT-loop
-μ-loop capacities loads first k₀ k = (length capacities + 1) - k
+μ-loop capacities loads first k₀ k = length capacities + 1 - k
 
 loop-holds : tie.Need-loop-holds Inv-loop μ-loop
 loop-holds c = passing-start (c .before .before .pre)
 
 mul-if1 : tie.Need-mul-if1 Inv-loop μ-loop
-mul-if1 c = omega (arith, passing-room (c .before .loop .inv) (c .loop-test .taken))
+mul-if1 c = omega (arith, passing-room (c .loop .inv))
 
 shared-slice-read-if1 : tie.Need-shared-slice-read-if1 Inv-loop μ-loop
-shared-slice-read-if1 c = passing-room (c .before .before .loop .inv) (c .before .loop-test .taken) .0
+shared-slice-read-if1 c = passing-room (c .before .loop .inv) .0
 
-of-period-requires : tie.Need-of-period-requires Inv-loop μ-loop
-of-period-requires c κs = tt
+capacity-of-requires : tie.Need-capacity-of-requires Inv-loop μ-loop
+capacity-of-requires c κs = c .before .loop .inv .can .few
 
 returns : tie.Need-returns Inv-loop μ-loop
-returns c = passing-found (c .before .before .before .before .loop .inv) (c .before .before .before .loop-test .taken) (c .before .of-period .ensures .0) (c .if1 .taken)
+returns c = passing-found (c .before .before .before .loop .inv) (c .before .capacity-of .ensures) (c .if1 .taken)
 
 add-k : tie.Need-add-k Inv-loop μ-loop
-add-k c = omega (arith, passing-room (c .before .before .before .before .loop .inv) (c .before .before .before .loop-test .taken))
+add-k c = omega (arith, passing-room (c .before .before .before .loop .inv))
 
 loop-less : tie.Need-loop-less Inv-loop μ-loop
-loop-less c = omega (arith, c .before .before .before .loop-test .taken)
+loop-less c = omega (arith, passing-in (c .before .before .before .loop .inv) (c .before .capacity-of .ensures) (c .if1 .left))
 
 loop-again : tie.Need-loop-again Inv-loop μ-loop
-loop-again c = passing-next (c .before .before .before .before .loop .inv) (c .before .before .before .loop-test .taken) (c .before .of-period .ensures .0) (c .if1 .left)
-
-returns-2 : tie.Need-returns-2 Inv-loop μ-loop
-returns-2 c = passing-end (c .before .loop .inv) (c .loop-test .left)
+loop-again c = passing-next (c .before .before .before .loop .inv) (c .before .capacity-of .ensures) (c .if1 .left)
 
 pub first-with-room-spec : {M : Type 1} → statement M
 first-with-room-spec =
@@ -48,9 +45,8 @@ first-with-room-spec =
     loop-holds
     mul-if1
     shared-slice-read-if1
-    of-period-requires
+    capacity-of-requires
     returns
     add-k
     loop-less
-    loop-again
-    returns-2)
+    loop-again)
