@@ -5,27 +5,27 @@ use mathlib.Core.Logic.{_⊎_}
 use mathlib.Core.List.{List}
 use Prim.Native.Nat.{ℕ, _+_, _-_, _≤_, _<_}
 use lib.ListN.{length}
-use Rattle.day.specs.Day.{Day, P, N, column, flightAt, flightCount, ofPeriod, holdCost, latestOf, capacity, hold, land}
+use Rattle.day.specs.Day.{Day, P, N, flightAt, flightCount, ofPeriod, holdCost, latestOf, capacity, hold, land, dueOf}
 use Rattle.day.specs.Valid.{ValidFlights}
 
 -- what the flight at table place i pays where it lands
 abbrev pub paid : (flights holds prices : List ℕ) → ℕ → ℕ
-paid flights holds prices i = holdCost (flightAt flights i) (hold holds i) + ofPeriod prices (column 1 flights i + hold holds i)
+paid flights holds prices i = holdCost (flightAt flights i) (hold holds i) + ofPeriod prices (dueOf flights i + hold holds i)
 
 -- what it costs to land in period k
 abbrev pub costIn : List ℕ → ℕ → ℕ → ℕ
-costIn flights i k = holdCost (flightAt flights i) (k - column 1 flights i)
+costIn flights i k = holdCost (flightAt flights i) (k - dueOf flights i)
 
 -- it may land in period k, one of the p periods of the day
 pub record Reaches (p : ℕ) (flights : List ℕ) (i k : ℕ) : Type 0 where
-  pub from : column 1 flights i ≤ k
+  pub from : dueOf flights i ≤ k
   pub limited : k ≤ latestOf p (flightAt flights i)
 
 -- the flights of a day of p periods that passes the check, and what they pay
 pub record CanPay (p : ℕ) (flights holds prices : List ℕ) (k : ℕ) : Type 0 where
   pub valid : ValidFlights p flights
   pub holds-row : length holds ≡ flightCount flights
-  pub few : (i : ℕ) → i < flightCount flights → column 1 flights i + hold holds i ≤ p + 1
+  pub few : (i : ℕ) → i < flightCount flights → dueOf flights i + hold holds i ≤ p + 1
   pub low : (i : ℕ) → i < flightCount flights → paid flights holds prices i ≤ 4294967295
   pub period : k ≤ p
 

@@ -13,7 +13,7 @@ use Rattle.assignment.specs.Chains.{Newest}
 use Rattle.assignment.proofs.Tests.{eq?, lt?}
 use Rattle.assignment.proofs.Rows.{set-moved}
 use Rattle.assignment.proofs.Chains.{chained-start, chained-add}
-use Rattle.day.specs.Day.{column, width, all, isNew}
+use Rattle.day.specs.Day.{mostFlights, column, width, all, isNew}
 use Rattle.day.specs.Chains.{chains, chain, Linked, Passed}
 use Rattle.day.proofs.Tests.{all-next, all-from, all-not}
 
@@ -68,7 +68,7 @@ module _ {f nearest above : List ℕ} {i x : ℕ} where
 
 -- ---- the pass
 
-pub pass-start : {f : List ℕ} {n : ℕ} → n * width ≤ length f → n ≤ 128 → Passed f n (replicate chains 0) (replicate 128 0) 0
+pub pass-start : {f : List ℕ} {n : ℕ} → n * width ≤ length f → n ≤ mostFlights → Passed f n (replicate chains 0) (replicate mostFlights 0) 0
 unfolding all
 pass-start rows most = record {
   rows = rows;
@@ -76,7 +76,7 @@ pass-start rows most = record {
   upto = zero-le;
   linked = record {
     heads = length-replicate {A = ℕ} chains 0;
-    places = length-replicate {A = ℕ} 128 0;
+    places = length-replicate {A = ℕ} mostFlights 0;
     few = zero-le;
     chained = chained-start (λ q l. getD-replicate {A = ℕ} chains q 0 0 l);
   };

@@ -6,14 +6,14 @@ use mathlib.Core.List.{List}
 use Prim.Native.Nat.{ℕ, _*_, _%_, _≤_}
 use lib.ListN.{length, getD}
 use Rattle.assignment.specs.Chains.{Chained}
-use Rattle.day.specs.Day.{column, width, mostFlights, all, isNew}
+use Rattle.day.specs.Day.{numberOf, width, mostFlights, all, isNew}
 
 -- how many chains there are; a flight stands in that of its number's residue
 abbrev pub chains : ℕ
 chains = 256
 
 abbrev pub chain : List ℕ → ℕ → ℕ
-chain flights i = column 0 flights i % chains
+chain flights i = numberOf flights i % chains
 
 -- the rows chain the flights above table place i
 pub record Linked (flights nearest above : List ℕ) (i : ℕ) : Type 0 where

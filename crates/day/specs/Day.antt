@@ -43,15 +43,34 @@ width = 6
 abbrev pub column : ℕ → List ℕ → ℕ → ℕ
 column j flights i = getD flights (i * width + j) 0
 
+-- columns of the flight at table place i of a row; the names below that take a day are these of its flights
+abbrev pub numberOf : List ℕ → ℕ → ℕ
+numberOf = column 0
+
+abbrev pub dueOf : List ℕ → ℕ → ℕ
+dueOf = column 1
+
+abbrev pub rateOf : List ℕ → ℕ → ℕ
+rateOf = column 2
+
+abbrev pub afterOf : List ℕ → ℕ → ℕ
+afterOf = column 3
+
+abbrev pub jumpOf : List ℕ → ℕ → ℕ
+jumpOf = column 4
+
+abbrev pub limitOf : List ℕ → ℕ → ℕ
+limitOf = column 5
+
 -- the flight at table place i of a row, "six numbers a flight in sheet order"
 unfoldable pub flightAt : List ℕ → ℕ → Flight
 flightAt flights i = record {
-  number = column 0 flights i;
-  due = column 1 flights i;
-  rate = column 2 flights i;
-  after = column 3 flights i;
-  jump = column 4 flights i;
-  limit = column 5 flights i;
+  number = numberOf flights i;
+  due = dueOf flights i;
+  rate = rateOf flights i;
+  after = afterOf flights i;
+  jump = jumpOf flights i;
+  limit = limitOf flights i;
 }
 
 -- N, the number of flights; "table place counts flights from 0"
@@ -63,22 +82,22 @@ N d = flightCount (d .flights)
 
 -- the numbers of the flight at table place i
 abbrev pub number : Day → ℕ → ℕ
-number d = column 0 (d .flights)
+number d = numberOf (d .flights)
 
 abbrev pub due : Day → ℕ → ℕ
-due d = column 1 (d .flights)
+due d = dueOf (d .flights)
 
 abbrev pub rate : Day → ℕ → ℕ
-rate d = column 2 (d .flights)
+rate d = rateOf (d .flights)
 
 abbrev pub after : Day → ℕ → ℕ
-after d = column 3 (d .flights)
+after d = afterOf (d .flights)
 
 abbrev pub jump : Day → ℕ → ℕ
-jump d = column 4 (d .flights)
+jump d = jumpOf (d .flights)
 
 abbrev pub limit : Day → ℕ → ℕ
-limit d = column 5 (d .flights)
+limit d = limitOf (d .flights)
 
 -- "255 for a missing limit"
 abbrev pub missing : ℕ → Bool
@@ -122,7 +141,7 @@ abbrev pub hold : List ℕ → ℕ → ℕ
 hold holds i = getD holds i 0
 
 abbrev pub landOf : (flights holds : List ℕ) → ℕ → ℕ
-landOf flights holds i = column 1 flights i + hold holds i
+landOf flights holds i = dueOf flights i + hold holds i
 
 abbrev pub land : Day → List ℕ → ℕ → ℕ
 land d = landOf (d .flights)
@@ -160,7 +179,7 @@ inRange p flights i = flightFits p (flightAt flights i)
 -- the flight's number stands at no lower table place
 unfoldable pub isNew : List ℕ → ℕ → Bool
 unfolding all
-isNew flights i = all i (λ j. not (eqb (column 0 flights j) (column 0 flights i)))
+isNew flights i = all i (λ j. not (eqb (numberOf flights j) (numberOf flights i)))
 
 -- no "length or value against the table above, or a repeated flight number": what refusal 6 tests
 unfoldable pub valid : Day → Bool

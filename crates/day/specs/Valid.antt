@@ -6,19 +6,19 @@ use mathlib.Core.Logic.{_⊎_, _≢_}
 use Prim.Native.Nat.{ℕ, _*_, _≤_, _<_}
 use mathlib.Core.List.{List}
 use lib.ListN.{length, getD}
-use Rattle.day.specs.Day.{Day, P, N, mostPeriods, mostFlights, flightCount, number, column, width}
+use Rattle.day.specs.Day.{Day, P, N, mostPeriods, mostFlights, flightCount, number, width, afterOf, dueOf, jumpOf, limitOf, numberOf, rateOf}
 
 -- the numbers of the flight at table place i of a row, on a day of p periods
 pub record InRange (p : ℕ) (flights : List ℕ) (i : ℕ) : Type 0 where
-  pub number-from : 1 ≤ column 0 flights i
-  pub number-to : column 0 flights i ≤ 9999
-  pub due-from : 1 ≤ column 1 flights i
-  pub due-to : column 1 flights i ≤ p
-  pub rate-from : 1 ≤ column 2 flights i
-  pub rate-to : column 2 flights i ≤ 10000
-  pub after-to : column 3 flights i ≤ 96
-  pub jump-to : column 4 flights i ≤ 1000000
-  pub limit-to : (column 5 flights i ≤ 96) ⊎ (column 5 flights i ≡ 255)
+  pub number-from : 1 ≤ numberOf flights i
+  pub number-to : numberOf flights i ≤ 9999
+  pub due-from : 1 ≤ dueOf flights i
+  pub due-to : dueOf flights i ≤ p
+  pub rate-from : 1 ≤ rateOf flights i
+  pub rate-to : rateOf flights i ≤ 10000
+  pub after-to : afterOf flights i ≤ 96
+  pub jump-to : jumpOf flights i ≤ 1000000
+  pub limit-to : (limitOf flights i ≤ 96) ⊎ (limitOf flights i ≡ 255)
 
 -- the row of flights of such a day, for whoever reads no more of it
 pub record ValidFlights (p : ℕ) (flights : List ℕ) : Type 0 where

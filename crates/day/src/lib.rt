@@ -4,7 +4,7 @@ ghost use mathlib.Core.Bool.{true, false, _&&_, _||_};
 ghost use Prim.Native.Nat.{_+_, _*_, _/_, _%_, _^_, _<_, _≤_};
 ghost use lib.ListN.{getD, length};
 ghost use lib.Dec.{leb};
-ghost use Rattle.day.specs.Day.{lent, mostPeriods, mostFlights, column, width, flightAt, flightCount, ofPeriod, takes, holdCost, landOf, latestOf, all, inside, missing, flightFits, inRange, isNew, valid};
+ghost use Rattle.day.specs.Day.{lent, mostPeriods, mostFlights, column, numberOf, dueOf, rateOf, limitOf, width, flightAt, flightCount, ofPeriod, takes, holdCost, landOf, latestOf, all, inside, missing, flightFits, inRange, isNew, valid};
 ghost use Rattle.day.specs.Flights.{withFlight};
 ghost use Rattle.day.specs.Chains.{chains, Linked, Passed};
 
@@ -61,28 +61,28 @@ fn field(flights: &[u32], i: usize, j: usize) -> usize
 // One number of the flight at table place i, for whoever needs no other.
 pub fn number_of(flights: &[u32], i: usize) -> usize
     requires { ⌜ (i + 1) * width ≤ length (now flights) ⌝ }
-    ensures { λ r. ⌜ (r ≡ column 0 (now (flights .entry)) i) × (r < 2 ^ 32) ⌝ }
+    ensures { λ r. ⌜ (r ≡ numberOf (now (flights .entry)) i) × (r < 2 ^ 32) ⌝ }
 {
     field(flights, i, 0)
 }
 
 pub fn due_of(flights: &[u32], i: usize) -> usize
     requires { ⌜ (i + 1) * width ≤ length (now flights) ⌝ }
-    ensures { λ r. ⌜ (r ≡ column 1 (now (flights .entry)) i) × (r < 2 ^ 32) ⌝ }
+    ensures { λ r. ⌜ (r ≡ dueOf (now (flights .entry)) i) × (r < 2 ^ 32) ⌝ }
 {
     field(flights, i, 1)
 }
 
 pub fn rate_of(flights: &[u32], i: usize) -> usize
     requires { ⌜ (i + 1) * width ≤ length (now flights) ⌝ }
-    ensures { λ r. ⌜ (r ≡ column 2 (now (flights .entry)) i) × (r < 2 ^ 32) ⌝ }
+    ensures { λ r. ⌜ (r ≡ rateOf (now (flights .entry)) i) × (r < 2 ^ 32) ⌝ }
 {
     field(flights, i, 2)
 }
 
 pub fn limit_of(flights: &[u32], i: usize) -> usize
     requires { ⌜ (i + 1) * width ≤ length (now flights) ⌝ }
-    ensures { λ r. ⌜ (r ≡ column 5 (now (flights .entry)) i) × (r < 2 ^ 32) ⌝ }
+    ensures { λ r. ⌜ (r ≡ limitOf (now (flights .entry)) i) × (r < 2 ^ 32) ⌝ }
 {
     field(flights, i, 5)
 }
@@ -247,7 +247,7 @@ const CHAINS: usize = 256;
 // The chain in which the flight at table place i stands.
 fn chain_of(flights: &[u32], i: usize) -> usize
     requires { ⌜ (i + 1) * width ≤ length (now flights) ⌝ }
-    ensures { λ r. ⌜ (r ≡ column 0 (now (flights .entry)) i % chains) × (r < chains) ⌝ }
+    ensures { λ r. ⌜ (r ≡ numberOf (now (flights .entry)) i % chains) × (r < chains) ⌝ }
 {
     number_of(flights, i) % CHAINS
 }

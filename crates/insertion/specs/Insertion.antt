@@ -11,7 +11,7 @@ use Rattle.assignment.specs.Rows.{el}
 use Rattle.assignment.specs.Moves.{Moved, put}
 use Rattle.assignment.specs.Orders.{Permuted}
 use Rattle.assignment.specs.Insertion.{Sound, Going}
-use Rattle.day.specs.Day.{Day, P, N, mostPeriods, mostFlights, periodRow, width, column, flightCount, ofPeriod, due, total, takes}
+use Rattle.day.specs.Day.{Day, P, N, mostPeriods, mostFlights, periodRow, width, flightCount, ofPeriod, due, total, takes, dueOf}
 use Rattle.day.specs.Plan.{Accepted, Short}
 use Rattle.day.specs.Valid.{Valid}
 use Rattle.path.specs.Path.{far, away, begun, landing, Table, Chained}
@@ -90,7 +90,7 @@ pub record Hop (x : ℕ → ℕ) (turn via : List ℕ) (n k : ℕ) : Type 0 wher
 
 -- period k is for the new flight or for one of the plan, and the flight is due by k
 pub record Linked (flights places : List ℕ) (x : ℕ → ℕ) (turn via : List ℕ) (n k : ℕ) : Type 0 where
-  pub due-by : column 1 flights (el places (el via k)) ≤ k
+  pub due-by : dueOf flights (el places (el via k)) ≤ k
   pub flight : (el via k ≡ n) ⊎ Hop x turn via n k
 
 -- the periods were reached in some turns, the target after all others

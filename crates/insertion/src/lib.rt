@@ -6,7 +6,7 @@
 ghost use mathlib.Core.Path.{_≡_};
 ghost use Prim.Native.Nat.{_+_, _-_, _*_, _<_, _≤_};
 ghost use lib.ListN.{length, set};
-ghost use Rattle.day.specs.Day.{lent, mostFlights, periodRow, width, column, N};
+ghost use Rattle.day.specs.Day.{lent, mostFlights, periodRow, width, N, dueOf};
 ghost use Rattle.assignment.specs.Rows.{el};
 ghost use Rattle.insertion.specs.Insertion.{Added, CanFind, FirstRoom, CanWalk, Walked, CanRaise, Raised, CanForget, Forgotten, Placed, Kept, Inserted, Cleared, CanInsert, Planned};
 use closed_prices::price_closed;
@@ -48,8 +48,8 @@ fn first_with_room(capacities: &[u32], loads: &[usize], first: usize) -> usize
 
 // Holds the flight at table place i until period k.
 fn hold_until(flights: &[u32], holds: &mut [u32], i: usize, k: usize)
-    requires { ⌜ (i < length (now holds)) × ((i + 1) * width ≤ length (now flights)) × (column 1 (now flights) i ≤ k) × (i < mostFlights) × (k < periodRow) ⌝ }
-    ensures { λ _. ⌜ now (holds .exit) ≡ set (now (holds .entry)) i (k - column 1 (now (flights .entry)) i) ⌝ }
+    requires { ⌜ (i < length (now holds)) × ((i + 1) * width ≤ length (now flights)) × (dueOf (now flights) i ≤ k) × (i < mostFlights) × (k < periodRow) ⌝ }
+    ensures { λ _. ⌜ now (holds .exit) ≡ set (now (holds .entry)) i (k - dueOf (now (flights .entry)) i) ⌝ }
 {
     let hold = k - due_of(flights, i);
     holds[i] = hold as u32;

@@ -56,7 +56,7 @@ module _ {d : Day} {h loads : List ℕ} {i : ℕ} (s : Walked d h loads i) where
       pub walk-in : k < periodRow
       walk-in = omega (arith, not-long d i k short, v .periods-to)
 
-      pub walk-fits : getD loads k 0 ≤ 128
+      pub walk-fits : getD loads k 0 ≤ mostFlights
       walk-fits = omega (arith, s .counted k walk-in, count-le i (land d h) k, s .upto, v .flights-to)
 
       here : getD loads k 0 + 1 ≡ count (suc i) (land d h) (land d h i)

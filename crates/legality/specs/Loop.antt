@@ -6,7 +6,7 @@ use mathlib.Core.List.{List}
 use Prim.Native.Nat.{ℕ, _*_, _≤_, _<_}
 use lib.ListN.{length, getD}
 use Rattle.assignment.specs.Sum.{sum, count}
-use Rattle.day.specs.Day.{Day, N, mostFlights, periodRow, width, column, flightCount, flightAt, holdCost, land, hold, valid}
+use Rattle.day.specs.Day.{Day, N, mostFlights, periodRow, width, flightCount, flightAt, holdCost, land, hold, valid, jumpOf, rateOf}
 use Rattle.day.specs.Plan.{breaks}
 
 -- the flights before table place i break nothing, and their landings are counted
@@ -23,8 +23,8 @@ pub record CanSum (flights holds : List ℕ) : Type 0 where
   pub each : length holds ≡ flightCount flights
   pub whole : length flights ≡ flightCount flights * width
   pub few : flightCount flights ≤ mostFlights
-  pub rates : (i : ℕ) → i < flightCount flights → column 2 flights i ≤ 10000
-  pub jumps : (i : ℕ) → i < flightCount flights → column 4 flights i ≤ 1000000
+  pub rates : (i : ℕ) → i < flightCount flights → rateOf flights i ≤ 10000
+  pub jumps : (i : ℕ) → i < flightCount flights → jumpOf flights i ≤ 1000000
 
 -- the costs of the flights before table place i are summed
 pub record Summed (flights holds : List ℕ) (s i : ℕ) : Type 0 where

@@ -3,7 +3,7 @@ ghost use mathlib.Core.Path.{_≡_};
 ghost use mathlib.Core.Bool.{true};
 ghost use Prim.Native.Nat.{_+_, _*_, _<_, _≤_};
 ghost use lib.ListN.{length};
-ghost use Rattle.day.specs.Day.{lent, mostPeriods, mostFlights, width, flightCount, N, totalOf, valid};
+ghost use Rattle.day.specs.Day.{lent, mostPeriods, mostFlights, width, N, totalOf, valid};
 ghost use Rattle.day.specs.Plan.{tooLong, overCapacity, firstBreak};
 ghost use Rattle.legality.specs.Check.{planCheck};
 ghost use Rattle.legality.specs.Loop.{Walked, CanSum};

@@ -14,7 +14,7 @@ use Rattle.assignment.specs.Instances.{grown, ordered, restricted, opened}
 use Rattle.assignment.specs.Search.{Near, Took, Kept}
 use Rattle.assignment.specs.Insertion.{Sound}
 use Rattle.day.specs.declared.Flight.{Flight}
-use Rattle.day.specs.Day.{Day, N, day, mostFlights, periodRow, column, ofPeriod, due, holdCost, latestOf, hold}
+use Rattle.day.specs.Day.{Day, N, day, mostFlights, periodRow, ofPeriod, due, holdCost, latestOf, hold, dueOf}
 use Rattle.day.specs.Valid.{Valid}
 use Rattle.day.specs.Instance.{instance}
 use Rattle.path.specs.declared.Origin.{Origin}
@@ -48,7 +48,7 @@ scope d places n target = restricted (begun d places n) target
 
 -- where the flight at place s lands
 abbrev pub landing : (flights places holds : List ℕ) → ℕ → ℕ
-landing flights places holds s = column 1 flights (el places s) + hold holds (el places s)
+landing flights places holds s = dueOf flights (el places s) + hold holds (el places s)
 
 -- a day that passes the check, and a row in which each of its table places stands once
 pub record Table (d : Day) (places : List ℕ) : Type 0 where

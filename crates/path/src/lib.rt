@@ -8,7 +8,6 @@ ghost use Rattle.path.specs.Path.{away, CanList, Filled, Removed, CanNea
 use day::FLIGHTS;
 use day::Flight;
 use day::PERIOD_ROW;
-use day::due_of;
 use day::flight_at;
 use day::hold_cost;
 use day::latest_of;

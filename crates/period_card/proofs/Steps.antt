@@ -10,7 +10,7 @@ use lib.Bits.{bitOr}
 use lib.Count.{ones}
 use borrow.Author.Tests.{lt-ltb, le-ltb, le-leb, lt-leb}
 use Rattle.answers.specs.declared.Answer.the-variants.{Done, BadDay, JumpOrLimit, NoSuchPeriod}
-use Rattle.day.specs.Day.{Day, P, N, width, valid}
+use Rattle.day.specs.Day.{Day, P, N, width, valid, mostPeriods, mostFlights}
 use Rattle.day.specs.Plan.{firstJumpOrLimit}
 use Rattle.day.proofs.Valid.{valid-means}
 use Rattle.quick_plan.specs.Quick.{eligible}
@@ -40,7 +40,7 @@ module _ {d : Day} {h : List ℕ} {j i low high : ℕ} (s : Marked d h j i low h
   pub marked-there : i < length h → (i + 1) * width ≤ length (d .flights)
   marked-there l = there d i (omega (arith, s .rows))
 
-  pub marked-small : (length h ≤ 128) × (P d ≤ 96)
+  pub marked-small : (length h ≤ mostFlights) × (P d ≤ mostPeriods)
   marked-small = let v = valid-means (s .is-valid) in (omega (arith, s .rows, v .flights-to), v .periods-to)
 
   module _ (l : i < length h) {r : Bool} (er : r ≡ waiting d h j i) where
@@ -96,7 +96,7 @@ card-is d {h = h} {j = j} v a b eh es =
 
 -- ---- the call
 
-pub few-flights : (d : Day) {n : ℕ} → valid d ≡ true → n ≡ N d → n ≤ 128
+pub few-flights : (d : Day) {n : ℕ} → valid d ≡ true → n ≡ N d → n ≤ mostFlights
 few-flights d v size = omega (arith, valid-means v .flights-to)
 
 module _ (d : Day) (j : ℕ) where

@@ -5,7 +5,7 @@ use mathlib.Core.List.{List, [], _∷_, _++_}
 use Rattle.answers.specs.declared.Answer.{Answer}
 use Rattle.text.specs.Digits.{ended, line, lineEnd}
 use Rattle.text.specs.Writing.{textAnswer, textAfter}
-use Rattle.day.specs.Day.{Day, column, flightAt, flightCount, holdCost, hold, landOf, totalOf}
+use Rattle.day.specs.Day.{Day, numberOf, dueOf, flightAt, flightCount, holdCost, hold, landOf, totalOf}
 use Rattle.legality.specs.Check.{planCheck, onPlan}
 
 -- "flight,due,lands,hold,cost" and the end byte
@@ -20,7 +20,7 @@ totalName = 116 ∷ 111 ∷ 116 ∷ 97 ∷ 108 ∷ 10 ∷ []
 -- the line of the flight at table place i; "lands is the landing period"
 unfoldable pub planLine : (flights holds : List ℕ) → ℕ → List ℕ
 planLine flights holds i =
-    line (column 0 flights i ∷ column 1 flights i ∷ landOf flights holds i ∷ hold holds i ∷ []) (holdCost (flightAt flights i) (hold holds i))
+    line (numberOf flights i ∷ dueOf flights i ∷ landOf flights holds i ∷ hold holds i ∷ []) (holdCost (flightAt flights i) (hold holds i))
 
 -- "Flights stand in table order": the lines of n flights from table place i on
 unfoldable pub planLines : (flights holds : List ℕ) → ℕ → ℕ → List ℕ

@@ -4,7 +4,7 @@ ghost use mathlib.Core.List.{[], _∷_};
 ghost use Prim.Native.Nat.{_+_, _*_, _≤_, _<_};
 ghost use lib.ListN.{length};
 ghost use Rattle.text.specs.Writing.{Put, textAnswer, textAfter};
-ghost use Rattle.day.specs.Day.{lent, mostFlights, width, column, flightAt, flightCount, holdCost, hold, landOf, totalOf};
+ghost use Rattle.day.specs.Day.{lent, mostFlights, width, numberOf, dueOf, flightAt, flightCount, holdCost, hold, landOf, totalOf};
 ghost use Rattle.plan_text.specs.PlanText.{planNames, totalName, planLine, planLines, planText, planTextAnswer, planTextAfter};
 use answers::Answer;
 use day::cost_of;
@@ -33,7 +33,7 @@ const NAMES_LEN: usize = 33;
 // The numbers of a flight's line but for its cost.
 fn values_of(flights: &[u32], holds: &[u32], i: usize) -> [usize; 4]
     requires { ⌜ (i < length (now holds)) × ((i + 1) * width ≤ length (now flights)) ⌝ }
-    ensures { λ r. ⌜ r ≡ column 0 (now (flights .entry)) i ∷ column 1 (now (flights .entry)) i ∷ landOf (now (flights .entry)) (now (holds .entry)) i ∷ hold (now (holds .entry)) i ∷ [] ⌝ }
+    ensures { λ r. ⌜ r ≡ numberOf (now (flights .entry)) i ∷ dueOf (now (flights .entry)) i ∷ landOf (now (flights .entry)) (now (holds .entry)) i ∷ hold (now (holds .entry)) i ∷ [] ⌝ }
 {
     [
         number_of(flights, i),

@@ -3,7 +3,7 @@ ghost use mathlib.Core.Path.{_≡_};
 ghost use mathlib.Core.Bool.{true, false};
 ghost use Prim.Native.Nat.{ℕ, _*_, _<_, _≤_};
 ghost use lib.ListN.{length};
-ghost use Rattle.day.specs.Day.{lent, N, width, flightCount, landOf, valid};
+ghost use Rattle.day.specs.Day.{lent, N, width, landOf, valid};
 ghost use Rattle.assignment.specs.Sum.{count};
 ghost use Rattle.day.specs.Plan.{Legal, Cheapest, Accepted};
 ghost use Rattle.price_check.specs.Decides.{Decides, Unsold, Best};

@@ -6,7 +6,7 @@ use Prim.Native.Nat.{ℕ, zero, suc, _+_, _-_}
 use lib.Dec.{ltb, eqb}
 use Rattle.assignment.specs.Sum.{gate, sum}
 use Rattle.assignment.specs.Rows.{row}
-use Rattle.day.specs.Day.{Day, P, N, column, due, capacity}
+use Rattle.day.specs.Day.{Day, P, N, dueOf, rateOf, due, capacity}
 
 -- a is less than b, or they are equal and the next test decides
 abbrev pub less : ℕ → ℕ → Bool → Bool
@@ -14,7 +14,7 @@ less a b next = ltb a b || eqb a b && next
 
 -- flight k goes before flight i: its rate is higher; "Ties: earlier due, then lower table place."
 unfoldable pub aheadOf : List ℕ → ℕ → ℕ → Bool
-aheadOf flights k i = less (column 2 flights i) (column 2 flights k) (less (column 1 flights k) (column 1 flights i) (ltb k i))
+aheadOf flights k i = less (rateOf flights i) (rateOf flights k) (less (dueOf flights k) (dueOf flights i) (ltb k i))
 
 abbrev pub ahead : Day → ℕ → ℕ → Bool
 ahead d = aheadOf (d .flights)
