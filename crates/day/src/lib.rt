@@ -136,10 +136,13 @@ pub fn capacity_of(capacities: &[u32], k: usize) -> usize
     requires { ⌜ length (now capacities) ≤ mostPeriods ⌝ }
     ensures { λ r. ⌜ r ≡ takes (now (capacities .entry)) k ⌝ }
 {
+    if k <= capacities.len() {
+        return of_period(capacities, k);
+    }
     if k == capacities.len() + 1 {
         return ANY_NUMBER;
     }
-    of_period(capacities, k)
+    0
 }
 
 // The period in which the flight at table place i lands.

@@ -1,21 +1,24 @@
--- The closing period, or what the row has. Assumes nothing.
+-- What the row has, the closing period, or nothing beyond it. Assumes nothing.
+use Rattle.day.proofs.Costs.{period-out, takes-other, takes-in, takes-closing}
 use mathlib.Core.Path.{sym, _∙_}
-use Rattle.day.proofs.Costs.{takes-other, takes-closing}
 use borrow.Author.Needs.{needs}
 use Rattle.day.proofs.capacity_of.Statement.{statement}
 use Rattle.day.proofs.capacity_of.Tie as tie
 
-add-if1 : tie.Need-add-if1
-add-if1 c = search needs
-
-returns : tie.Need-returns
-returns c = rw (c .if1 .taken) (sym (takes-closing (c .before .before .args .capacities .now)))
-
 of-period-requires : tie.Need-of-period-requires
 of-period-requires c κs = search needs
 
+returns : tie.Need-returns
+returns c = let a = c .before .before .before .args in c .of-period .ensures .0 ∙ sym (takes-in (a .capacities .now) (a .k) (c .before .if1 .taken))
+
+add-if2 : tie.Need-add-if2
+add-if2 c = search needs
+
 returns-2 : tie.Need-returns-2
-returns-2 c = c .of-period .ensures .0 ∙ sym (takes-other (c .before .before .before .args .capacities .now) (c .before .before .before .args .k) (c .before .if1 .left))
+returns-2 c = rw (c .if2 .taken) (sym (takes-closing (c .before .before .before .args .capacities .now)))
+
+returns-3 : tie.Need-returns-3
+returns-3 c = let a = c .before .before .before .args in sym (takes-other (a .capacities .now) (a .k) (c .if2 .left) ∙ period-out (a .capacities .now) (a .k) (c .before .if1 .left))
 
 pub capacity-of-spec : {M : Type 1} → statement M
-capacity-of-spec = tie.close (tie.spec add-if1 returns of-period-requires returns-2)
+capacity-of-spec = tie.close (tie.spec of-period-requires returns add-if2 returns-2 returns-3)
