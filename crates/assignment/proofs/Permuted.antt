@@ -41,6 +41,9 @@ two (suc n) t s l less f = elim (eq? t n) [
   | inr e ↦ omega (arith, two n t s (omega arith) less f)
 ]
 
+pub permuted-ext : {n : ℕ} {π ρ : ℕ → ℕ} → ((s : ℕ) → s < n → ρ s ≡ π s) → Permuted n π → Permuted n ρ
+permuted-ext {n} {π} {ρ} e q = record { below = λ s l. rw (e s l) (q .below s l); once = λ i l. count-ext n π ρ e i ∙ q .once i l }
+
 module _ {n : ℕ} {π : ℕ → ℕ} (q : Permuted n π) where
   pub permuted-stands : (i : ℕ) → i < n → Stands n π i
   permuted-stands i l = stands n π i (omega (arith, q .once i l))

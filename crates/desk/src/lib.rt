@@ -11,7 +11,7 @@ ghost use Rattle.quick_plan.specs.Calls.{quickPlan};
 ghost use Rattle.period_card.specs.PeriodCard.{periodCard};
 ghost use Rattle.price_check.specs.Decides.{Decides};
 ghost use Rattle.choice.specs.Choice.{choice};
-ghost use Rattle.board.specs.Board.{boardAnswer, BoardAfter};
+ghost use Rattle.board.specs.Board.{boardAnswer, boardAfter};
 ghost use Rattle.plan_text.specs.PlanText.{planTextAnswer, planTextAfter};
 ghost use Rattle.desk.specs.Desk.{rowNumber, cardCode, Exported};
 use answers::Code;
@@ -138,7 +138,7 @@ pub extern "C" fn hold_desk_board(
     board: &mut [u32],
 ) -> Code
     ensures { λ r. ⌜ r ≡ codeOf (boardAnswer (lent (capacities .entry) (flights .entry)) (now (holds .entry)) (now (board .entry))) ⌝ }
-    ensures { λ _. ⌜ BoardAfter (lent (capacities .entry) (flights .entry)) (now (holds .entry)) (now (board .entry)) (now (board .exit)) ⌝ }
+    ensures { λ _. ⌜ now (board .exit) ≡ boardAfter (lent (capacities .entry) (flights .entry)) (now (holds .entry)) (now (board .entry)) ⌝ }
 {
     code_of(board::make_board(capacities, flights, holds, board))
 }
