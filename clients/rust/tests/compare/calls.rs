@@ -261,13 +261,26 @@ impl Run {
             return places.expect_kept();
         }
         assert_eq!(got, answer(0, 0, 0));
-        let row = places.row().to_vec();
-        places.expect(0, &row);
-        let mut sorted = row.clone();
-        sorted.sort();
-        assert_eq!(sorted, (0..holds.len() as u32).collect::<Vec<_>>(), "every table place once");
         let day = day.unwrap();
-        assert!(row.iter().map(|&i| day.flights[i as usize].due + holds[i as usize]).is_sorted(), "periods rising");
+        let stands = |&i: &u32| (day.flights[i as usize].due + holds[i as usize], day.flights[i as usize].due, i);
+        let mut want: Vec<u32> = (0..holds.len() as u32).collect();
+        want.sort_by_key(stands);
+        places.expect(0, &want);
+        self.reach_board(&day, &want.iter().map(stands).collect::<Vec<_>>());
+    }
+
+    /// What a board has side by side: flights that land together, by due period, by table place or both.
+    fn reach_board(&mut self, day: &Day, board: &[(u32, u32, u32)]) {
+        for pair in board.windows(2).filter(|pair| pair[0].0 == pair[1].0) {
+            let together = match (pair[0].1 == pair[1].1, pair[0].2 < pair[1].2) {
+                (true, _) => "due together",
+                (false, true) => "due in table order",
+                (false, false) => "due against table order",
+            };
+            let period = if pair[0].0 > day.periods() { "closing" } else { "numbered" };
+            let size = if board.len() == FLIGHTS { " of 128 flights" } else { "" };
+            self.reach(format!("board{size}, {together} in a {period} period"));
+        }
     }
 
     fn reach_sizes(&mut self, call: &str, day: &Day, total: u64) {

@@ -107,7 +107,17 @@ const EVERY_REFUSAL: [&str; 42] = [
     "choice, the first's cost Equal",
 ];
 
-const SIZES: [&str; 9] = [
+/// Flights that land together, in each way that the board's order tells apart.
+const BOARDS: [&str; 6] = [
+    "board, due together in a numbered period",
+    "board, due in table order in a numbered period",
+    "board, due against table order in a numbered period",
+    "board, due together in a closing period",
+    "board, due in table order in a closing period",
+    "board, due against table order in a closing period",
+];
+
+const SIZES: [&str; 15] = [
     "full plan of 96 periods and 128 flights",
     "full plan of more than 64 flights, some held, some period open",
     "full plan above 250,000,000",
@@ -117,6 +127,12 @@ const SIZES: [&str; 9] = [
     "card with marks in the low word true, in the high word true",
     "card with marks in the low word false, in the high word true",
     "full plan [9]",
+    "board of 128 flights, due together in a numbered period",
+    "board of 128 flights, due in table order in a numbered period",
+    "board of 128 flights, due against table order in a numbered period",
+    "board of 128 flights, due together in a closing period",
+    "board of 128 flights, due in table order in a closing period",
+    "board of 128 flights, due against table order in a closing period",
 ];
 
 #[rustfmt::skip]
@@ -134,6 +150,7 @@ fn small_days() {
         every_call_of_a_day(&mut run, &day);
     }
     must_reach(&run, 20, &EVERY_REFUSAL);
+    must_reach(&run, 20, &BOARDS);
 }
 
 #[test]
