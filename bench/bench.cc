@@ -86,6 +86,7 @@ static void measure_all(Desk &desk, int repeats, Figures &row)
     row["quick/full"] = times_of(desk, &Desk::quick, repeats).front() / row["full us"];
     row["read/full"] = times_of(desk, &Desk::read, repeats).front() / row["full us"];
     row["write/full"] = times_of(desk, &Desk::write, repeats).front() / row["full us"];
+    row["board/full"] = times_of(desk, &Desk::board, repeats).front() / row["full us"];
 }
 
 using Measure = void (*)(Desk &, int, Figures &);
@@ -230,7 +231,7 @@ int main(int argc, char **argv)
     std::vector<Desk> desks, growing = growing_days();
     for (Day &day : load(argv[1])) desks.emplace_back(day);
     std::printf("The full plan as a share of the solvers' time, %d rounds of %d repeats; each figure is the median over the rounds of the class median:\n\n", rounds, repeats);
-    print_classes(desks, measure(desks, repeats, rounds, measure_all), {"full us", "simplex", "simplex+build", "capacity", "capacity+build", "cost", "cost+build", "quick/full", "read/full", "write/full"});
+    print_classes(desks, measure(desks, repeats, rounds, measure_all), {"full us", "simplex", "simplex+build", "capacity", "capacity+build", "cost", "cost+build", "quick/full", "read/full", "write/full", "board/full"});
     std::printf("\nGrowth, ten tight days of each size:\n\n");
     print_classes(growing, measure(growing, repeats, rounds, measure_plan), {"full us", "simplex", "simplex+build"});
     std::printf("\nThe longest time of a single call, over all days of the folder:\n\n");

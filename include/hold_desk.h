@@ -141,8 +141,9 @@ uint32_t hold_desk_choice(const uint32_t *capacities, size_t capacities_len,
                           const uint32_t *first, size_t first_len,
                           const uint32_t *second, size_t second_len);
 
-/* Fills a row of N with the table places grouped by landing period, periods rising. The order within a period is left open.
- * Accepted: 0 with 0, 0. Refusals 6, 7 (hold row first), 10. */
+/* Fills a row of N with the table places in the order of the board: by landing period, earliest first; flights that land
+ * together by due period, earliest first; flights that are also due together by table place. Every table place stands in it
+ * once. Accepted: 0 with 0, 0. Refusals 6, 7 (hold row first), 10. */
 hold_desk_answer hold_desk_board(const uint32_t *capacities, size_t capacities_len,
                                  const uint32_t *flights, size_t flights_len,
                                  const uint32_t *holds, size_t holds_len,

@@ -172,6 +172,19 @@ static void full(void)
     expect("price_check of a bad day", !hold_desk_price_check(CAPACITIES, P, FLIGHTS, ENTRIES - 1, HOLDS, N, right, P));
 }
 
+/* Four flights that land in the closing period, due in 2, 1, 2 and 1: by due period, then by table place. */
+static void board_order(void)
+{
+    const uint32_t closed[] = { 0, 0 }, holds[] = { 1, 2, 1, 2 }, want[] = { 1, 3, 0, 2 };
+    const uint32_t flights[] = {
+        4, 2, 1, 0, 0, HOLD_DESK_NO_LIMIT, 3, 1, 1, 0, 0, HOLD_DESK_NO_LIMIT,
+        2, 2, 1, 0, 0, HOLD_DESK_NO_LIMIT, 1, 1, 1, 0, 0, HOLD_DESK_NO_LIMIT,
+    };
+    uint32_t board[4];
+    expect_answer("board of a closed day", hold_desk_board(closed, 2, flights, 4 * HOLD_DESK_FLIGHT_WIDTH, holds, 4, board, 4), HOLD_DESK_ACCEPTED, 0, 0);
+    expect_row("board's order", board, want, 4);
+}
+
 static void rows(void)
 {
     uint32_t board[N];
@@ -190,6 +203,7 @@ static void rows(void)
     expect_marked("board's refusals change the row", board, 0, N);
     expect_answer("board", hold_desk_board(CAPACITIES, P, FLIGHTS, ENTRIES, HOLDS, N, board, N), HOLD_DESK_ACCEPTED, 0, 0);
     expect_row("board's places", board, want, N);
+    board_order();
 }
 
 /* Days of full size: the largest total, and the longest plan's text. */

@@ -1,4 +1,5 @@
-/* Reads a day sheet on standard input, plans the day and prints the board: one line for each landing, period by period. */
+/* Reads a day sheet on standard input, plans the day and prints the board: one line for each landing, by landing period, then by
+ * due period, then in sheet order. */
 #include "../../include/hold_desk.h"
 #include <stdio.h>
 

@@ -1,6 +1,7 @@
 """The planning core of a hold desk, called from Python: a shared object made from the archive target/staticlib/libdesk.a.
 
-Run as a program it reads a day sheet on standard input, plans the day and prints the board.
+Run as a program it reads a day sheet on standard input, plans the day and prints the board: one line for each landing, by landing
+period, then by due period, then in sheet order.
 """
 import ctypes
 import pathlib

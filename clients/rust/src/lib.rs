@@ -74,6 +74,7 @@ pub fn choice(capacities: &[u32], flights: &[u32], first: &[u32], second: &[u32]
     unsafe { raw::hold_desk_choice(capacities.as_ptr(), capacities.len(), flights.as_ptr(), flights.len(), first.as_ptr(), first.len(), second.as_ptr(), second.len()) }
 }
 
+/// Fills the row with the table places, by landing period, then by due period, then by table place.
 pub fn board(capacities: &[u32], flights: &[u32], holds: &[u32], board: &mut [u32]) -> Answer {
     unsafe { raw::hold_desk_board(capacities.as_ptr(), capacities.len(), flights.as_ptr(), flights.len(), holds.as_ptr(), holds.len(), board.as_mut_ptr(), board.len()) }
 }

@@ -1,4 +1,5 @@
-//! Reads a day sheet on standard input, plans the day and prints the board: one line for each landing, period by period.
+//! Reads a day sheet on standard input, plans the day and prints the board: one line for each landing, by landing period, then
+//! by due period, then in sheet order.
 use hold_desk_client::{board, full_plan, read_sheet, Answer, DUE, FLIGHT_ROW, FLIGHT_WIDTH, MOST_PERIODS, NUMBER};
 use std::io::Read;
 use std::process::ExitCode;
