@@ -277,9 +277,9 @@ impl Run {
                 (false, true) => "due in table order",
                 (false, false) => "due against table order",
             };
-            let period = if pair[0].0 > day.periods() { "closing" } else { "numbered" };
+            let period = if pair[0].0 > day.periods() { "the closing" } else { "a numbered" };
             let size = if board.len() == FLIGHTS { " of 128 flights" } else { "" };
-            self.reach(format!("board{size}, {together} in a {period} period"));
+            self.reach(format!("board{size}, {together} in {period} period"));
         }
     }
 

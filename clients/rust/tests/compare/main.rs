@@ -112,9 +112,9 @@ const BOARDS: [&str; 6] = [
     "board, due together in a numbered period",
     "board, due in table order in a numbered period",
     "board, due against table order in a numbered period",
-    "board, due together in a closing period",
-    "board, due in table order in a closing period",
-    "board, due against table order in a closing period",
+    "board, due together in the closing period",
+    "board, due in table order in the closing period",
+    "board, due against table order in the closing period",
 ];
 
 const SIZES: [&str; 15] = [
@@ -130,9 +130,9 @@ const SIZES: [&str; 15] = [
     "board of 128 flights, due together in a numbered period",
     "board of 128 flights, due in table order in a numbered period",
     "board of 128 flights, due against table order in a numbered period",
-    "board of 128 flights, due together in a closing period",
-    "board of 128 flights, due in table order in a closing period",
-    "board of 128 flights, due against table order in a closing period",
+    "board of 128 flights, due together in the closing period",
+    "board of 128 flights, due in table order in the closing period",
+    "board of 128 flights, due against table order in the closing period",
 ];
 
 #[rustfmt::skip]
