@@ -148,7 +148,8 @@ static void print_class(const std::vector<Desk> &desks, const Rounds &rounds, co
 {
     for (auto &column : columns) {
         std::vector<double> medians = class_medians(rounds, members, column);
-        std::printf(" %.2f |", median(medians));
+        double figure = median(medians);
+        std::printf(figure < 0.01 ? " %.3f |" : " %.2f |", figure);
         if (column != "simplex") continue;
         size_t worst = *std::max_element(members.begin(), members.end(), [&](size_t a, size_t b) { return day_median(rounds, a, column) < day_median(rounds, b, column); });
         std::printf(" %.2f to %.2f | %.2f | %s |", medians.front(), medians.back(), day_median(rounds, worst, column), desks[worst].day.name.c_str());
