@@ -24,5 +24,10 @@ row-at (suc n) g i d l = elim (eq? i n) [
   | inr o ↦ List·getD-append (row n g) (g n ∷ []) d i (omega (arith, row-length n g)) ∙ row-at n g i d (omega arith)
 ]
 
+pub row-ext {ℓ} : {A : Type ℓ} (n : ℕ) (g h : ℕ → A) → ((i : ℕ) → i < n → g i ≡ h i) → row n g ≡ row n h
+unfolding row
+row-ext zero g h e = refl
+row-ext (suc n) g h e = rw (row-ext n g h (λ i l. e i (omega arith)), e n (omega arith))
+
 pub set-moved : (l : List ℕ) (i v : ℕ) → i < length l → Moved (el l) (el (set l i v)) i v
 set-moved l i v b = record { here = getD-set-same l i v 0 b; others = λ o e. getD-set-other l i o v 0 e }

@@ -1,4 +1,4 @@
--- Cases A to K of document 01: every row of their table is correct, worked out by its tests.
+-- Cases A to K of document 01 and the days of #102: every row of their table is correct, worked out by its tests.
 -- Assumes nothing.
 use mathlib.Core.Path.{refl}
 use native.Mathlib.Omega.{arith}
@@ -8,7 +8,7 @@ use Rattle.day.specs.Day.{flightAt, flightCount, holdCost, latestOf, totalOf, a
 use Rattle.day.specs.Plan.{mustLand, room, tooLong, overCapacity, breaks, firstOf, firstBreak}
 use Rattle.quick_plan.specs.Quick.{aheadOf}
 use Rattle.quick_plan.specs.Loop.{pick, bestTo, waiting, top, landAll, rowTo}
-use Rattle.cases.specs.Cases.{dayA, dayB, dayD, dayE, dayF, dayG, dayH, dayI, dayJ, dayK, holdsJ, Correct, table}
+use Rattle.cases.specs.Cases.{dayA, dayB, dayD, dayE, dayF, dayG, dayH, dayI, dayJ, dayK, dayLate, dayLates, holdsJ, Correct, table}
 use Rattle.cases.proofs.Check.{accepts, gets-yes, cheaperAt, gets-no, least-total, picks, no-plan, landIn, oneOf, quick-holds, two-land}
 
 -- one row, and those below it
@@ -17,7 +17,7 @@ _and_ : {A B : Type 0} → A → B → A × B
 a and b = (a, b)
 
 pub cases : Correct table
-unfolding dayA dayB dayD dayE dayF dayG dayH dayI dayJ dayK sum count flightAt flightCount holdCost latestOf totalOf all flightFits isNew valid mustLand room tooLong overCapacity breaks firstOf firstBreak aheadOf row pick bestTo waiting top landAll rowTo accepts cheaperAt picks landIn oneOf
+unfolding dayA dayB dayD dayE dayF dayG dayH dayI dayJ dayK dayLate dayLates sum count flightAt flightCount holdCost latestOf totalOf all flightFits isNew valid mustLand room tooLong overCapacity breaks firstOf firstBreak aheadOf row pick bestTo waiting top landAll rowTo accepts cheaperAt picks landIn oneOf
 cases =
     -- A
     (refl, least-total _ _ _ refl refl refl)
@@ -44,5 +44,10 @@ cases =
     and (refl, quick-holds dayJ _ refl refl)
     and (refl, two-land dayJ holdsJ refl refl 5 (omega arith) refl)
     -- K
+    and (refl, least-total _ _ _ refl refl refl)
+    -- #102
+    and (refl, refl)
+    and (refl, least-total _ _ _ refl refl refl)
+    and (refl, least-total _ _ _ refl refl refl)
     and (refl, least-total _ _ _ refl refl refl)
     and tt

@@ -1,4 +1,4 @@
--- Cases A to K of document 01 as one table: each row is a day, and what the document says of it.
+-- Cases A to K of document 01 and the days of #102 as one table: each row is a day, and what the document says of it.
 -- Assumes nothing.
 use mathlib.Core.Path.{_≡_}
 use mathlib.Core.Bool.{true, _||_}
@@ -55,10 +55,14 @@ Correct ((d, said) ∷ rest) = ((valid d ≡ true) × Says d said) × Correct re
 
 -- ---- the days; what document 01 leaves open in them (a capacity, a rate, a flight number) is chosen
 
--- a flight's six numbers, in sheet order
+-- a flight's seven numbers, in sheet order
+abbrev pub lateFlight : ℕ → ℕ → ℕ → ℕ → ℕ → ℕ → ℕ → List ℕ
+lateFlight number due rate after jump limit late =
+    numbersOf (record { number = number; due = due; rate = rate; after = after; jump = jump; limit = limit; late = late })
+
+-- "cases B to K are read with late 0" (#102)
 abbrev pub flight : ℕ → ℕ → ℕ → ℕ → ℕ → ℕ → List ℕ
-flight number due rate after jump limit =
-    numbersOf (record { number = number; due = due; rate = rate; after = after; jump = jump; limit = limit })
+flight number due rate after jump limit = lateFlight number due rate after jump limit 0
 
 -- "255 for a missing limit"
 abbrev pub noLimit : ℕ
@@ -114,6 +118,14 @@ dayJ = report noLimit
 unfoldable pub dayK : Day
 dayK = report 2
 
+-- #102: late + hold is greater than after at hold 0 already
+unfoldable pub dayLate : Day
+dayLate = day (1 ∷ []) (lateFlight 1 1 2 1 50 noLimit 2)
+
+-- #102: one period of capacity 1, and two flights that differ in number and late alone
+unfoldable pub dayLates : ℕ → ℕ → Day
+dayLates first second = day (1 ∷ []) (lateFlight 1 1 1 1 5 noLimit first ++ lateFlight 2 1 1 1 5 noLimit second)
+
 -- ---- the table
 
 -- the holds of the plan that document 01 writes out for B, and those of the quick plan of J
@@ -151,4 +163,10 @@ table =
     ∷ (dayJ, twoLand 6 7 10)
     -- K: "total 50"
     ∷ (dayK, leastTotal 50 (0 ∷ 2 ∷ 0 ∷ 0 ∷ 0 ∷ 2 ∷ 2 ∷ 1 ∷ 0 ∷ 2 ∷ []) (0 ∷ 0 ∷ 25 ∷ 20 ∷ 15 ∷ 5 ∷ 0 ∷ []))
+    -- #102: "a flight with hold 0 may cost something"
+    ∷ (dayLate, holdCosts 0 0 50)
+    ∷ (dayLate, leastTotal 50 (0 ∷ []) (0 ∷ []))
+    -- #102: of two flights that differ in late alone the later one lands in period 1
+    ∷ (dayLates 0 1, leastTotal 1 (1 ∷ 0 ∷ []) (1 ∷ []))
+    ∷ (dayLates 1 0, leastTotal 1 (0 ∷ 1 ∷ []) (1 ∷ []))
     ∷ []

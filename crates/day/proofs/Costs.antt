@@ -9,12 +9,12 @@ use native.Mathlib.Omega.{arith}
 use lib.Dec.{ltb}
 use lib.ListN.{length, getD, set, List·getD-eq-default}
 use lib.Seq.{getD-set-same, getD-set-other}
-use borrow.Author.Tests.{lt-ltb, le-ltb, eq-eqb, ne-eqb}
+use borrow.Author.Tests.{eq-eqb, ne-eqb}
 use Rattle.assignment.specs.Sum.{gate}
 use Rattle.assignment.specs.Moves.{Moved}
-use Rattle.assignment.proofs.Tests.{eq?, lt?, gate-lt, gate-ge, gate-eq, gate-ne}
+use Rattle.assignment.proofs.Tests.{eq?, lt?, gate-le, gate-lt, gate-ge, gate-eq, gate-ne}
 use Rattle.day.specs.declared.Flight.{Flight}
-use Rattle.day.specs.Day.{Day, P, due, rate, after, jump, limit, ofPeriod, takes, flightAt, holdCost, cost, latestOf, latest}
+use Rattle.day.specs.Day.{Day, P, due, rate, after, jump, late, limit, ofPeriod, takes, flightAt, holdCost, cost, latestOf, latest}
 
 -- ---- rows by period
 
@@ -52,14 +52,15 @@ module _ (capacities : List ℕ) where
 
 -- ---- costs
 
-module _ (d : Day) (i h : ℕ) where
-  pub cost-over : after d i < h → cost d i h ≡ rate d i * h + jump d i
-  unfolding holdCost flightAt
-  cost-over l = rw (lt-ltb (after d i) h l)
+-- a hold costs at most one jump more than its periods
+pub cost-most : (d : Day) (i h : ℕ) → cost d i h ≤ rate d i * h + jump d i
+unfolding holdCost flightAt
+cost-most d i h = omega (arith, gate-le (ltb (after d i) (late d i + h)) (jump d i) (jump d i) (λ _. omega arith))
 
-  pub cost-under : h ≤ after d i → cost d i h ≡ rate d i * h
-  unfolding holdCost flightAt
-  cost-under l = rw (le-ltb (after d i) h l) (omega arith)
+-- and without a jump just its periods, however late the flight is
+pub cost-plain : (d : Day) (i h : ℕ) → jump d i ≡ 0 → cost d i h ≡ rate d i * h
+unfolding holdCost flightAt
+cost-plain d i h none = omega (arith, cost-most d i h)
 
 -- a longer hold costs no less
 jump-rises : (a s t v : ℕ) → s ≤ t → gate (ltb a s) v ≤ gate (ltb a t) v
@@ -70,13 +71,13 @@ jump-rises a s t v l = elim (lt? a s) [
 
 pub hold-rises : (f : Flight) (s t : ℕ) → s ≤ t → holdCost f s ≤ holdCost f t
 unfolding holdCost
-hold-rises f s t l = omega (arith, mul-le-mul-left (f .rate) l, jump-rises (f .after) s t (f .jump) l)
+hold-rises f s t l = omega (arith, mul-le-mul-left (f .rate) l, jump-rises (f .after) (f .late + s) (f .late + t) (f .jump) (omega arith))
 
 -- and costs more, where the rate is not 0
 module _ (d : Day) (i s t : ℕ) where
   pub cost-grows : 1 ≤ rate d i → s < t → cost d i s < cost d i t
   unfolding holdCost flightAt
-  cost-grows pos l = omega (arith, mul-le-mul-left (rate d i) l, jump-rises (after d i) s t (jump d i) (omega arith))
+  cost-grows pos l = omega (arith, mul-le-mul-left (rate d i) l, jump-rises (after d i) (late d i + s) (late d i + t) (jump d i) (omega arith))
 
 -- a product of two numbers of 32 bits, and one more such number, fit 64 bits
 pub product-fits : (a b c : ℕ) → a < 4294967296 → b < 4294967296 → c < 4294967296 → a * b + c < 18446744073709551616

@@ -4,9 +4,11 @@ use Prim.Native.Nat.{ℕ, zero, suc, _≤_, _<_, _+_, _*_}
 use native.Mathlib.Omega.{arith}
 use native.Mathlib.Numerals.{add-one}
 use mathlib.Core.Path.{_≡_, refl, ap, _∙_}
-use mathlib.Core.List.{List, [], _∷_, _++_, append-assoc}
+use mathlib.Core.List.{List, [], _∷_, _++_, append-assoc, append-nil}
 use lib.ListN.{length, getD, take, drop, set, length-append, length-drop, List·getD-append}
+use lib.Dec.{lit<}
 use lib.Seq.{getD-drop, getD-take, sets-eq, getD-append-add, length-take-le, take-suc}
+use Rattle.assignment.specs.Rows.{row as entries}
 use Rattle.day.specs.declared.Flight.{Flight}
 use Rattle.day.specs.Day.{width, column, flightAt}
 use Rattle.day.specs.Flights.{firstFlights, numbersOf, rowOf, withFlight}
@@ -18,24 +20,30 @@ due-read f row i e = ap (λ (g : Flight). g .due) e
 
 -- ---- a flight stored
 
--- rows with the same entries have the same flights
-flights-same : (n : ℕ) (a b : List ℕ) → ((i : ℕ) → i < n * width → getD a i 0 ≡ getD b i 0) → firstFlights n a ≡ firstFlights n b
-unfolding firstFlights flightAt
-flights-same zero a b same = refl
-flights-same (suc n) a b same =
+-- places of the same numbers, column by column, have the same flight
+same-columns : (a b : List ℕ) (i k : ℕ) → ((j : ℕ) → j < width → column j a i ≡ column j b k) → flightAt a i ≡ flightAt b k
+unfolding flightAt
+same-columns a b i k same =
     rw (
-      flights-same n a b (λ i l. same i (omega arith)),
-      same (n * width + 0) (omega arith),
-      same (n * width + 1) (omega arith),
-      same (n * width + 2) (omega arith),
-      same (n * width + 3) (omega arith),
-      same (n * width + 4) (omega arith),
-      same (n * width + 5) (omega arith),
+      same 0 (lit< tt),
+      same 1 (lit< tt),
+      same 2 (lit< tt),
+      same 3 (lit< tt),
+      same 4 (lit< tt),
+      same 5 (lit< tt),
+      same 6 (lit< tt),
     )
 
+-- rows with the same entries have the same flights
+flights-same : (n : ℕ) (a b : List ℕ) → ((i : ℕ) → i < n * width → getD a i 0 ≡ getD b i 0) → firstFlights n a ≡ firstFlights n b
+unfolding firstFlights
+flights-same zero a b same = refl
+flights-same (suc n) a b same =
+    rw (flights-same n a b (λ i l. same i (omega arith)), same-columns a b n n (λ j l. same (n * width + j) (omega arith)))
+
 module _ (row : List ℕ) (n : ℕ) (f : Flight) (h : n * width + width ≤ length row) where
-  -- six stores
-  pub stored : set (set (set (set (set (set row (n * width) (f .number)) (n * width + 1) (f .due)) (n * width + 2) (f .rate)) (n * width + 3) (f .after)) (n * width + 4) (f .jump)) (n * width + 5) (f .limit)
+  -- a store for each column
+  pub stored : set (set (set (set (set (set (set row (n * width) (f .number)) (n * width + 1) (f .due)) (n * width + 2) (f .rate)) (n * width + 3) (f .after)) (n * width + 4) (f .jump)) (n * width + 5) (f .limit)) (n * width + 6) (f .late)
       ≡ withFlight row n f
   unfolding withFlight
   stored =
@@ -44,7 +52,8 @@ module _ (row : List ℕ) (n : ℕ) (f : Flight) (h : n * width + width ≤ leng
       let e3 : n * width + 3 ≡ suc (suc (suc (n * width))) = omega arith in
       let e4 : n * width + 4 ≡ suc (suc (suc (suc (n * width)))) = omega arith in
       let e5 : n * width + 5 ≡ suc (suc (suc (suc (suc (n * width))))) = omega arith in
-      rw (e1, e2, e3, e4, e5) (sets-eq (numbersOf f) row (n * width) h ∙ append-assoc (take (n * width) row) (numbersOf f) (drop (n * width + width) row))
+      let e6 : n * width + 6 ≡ suc (suc (suc (suc (suc (suc (n * width)))))) = omega arith in
+      rw (e1, e2, e3, e4, e5, e6) (sets-eq (numbersOf f) row (n * width) h ∙ append-assoc (take (n * width) row) (numbersOf f) (drop (n * width + width) row))
 
   front-length : length (take (n * width) row) ≡ n * width
   front-length = length-take-le (n * width) row (omega arith)
@@ -55,7 +64,7 @@ module _ (row : List ℕ) (n : ℕ) (f : Flight) (h : n * width + width ≤ leng
 
   with-flight : flightAt (withFlight row n f) n ≡ f
   unfolding flightAt
-  with-flight = rw (with-at 0, with-at 1, with-at 2, with-at 3, with-at 4, with-at 5)
+  with-flight = same-columns (withFlight row n f) (numbersOf f ++ drop (n * width + width) row) n 0 (λ j l. let e : 0 * width + j ≡ j = omega arith in rw e (with-at j))
 
   with-below : (i : ℕ) → i < n * width → getD (withFlight row n f) i 0 ≡ getD row i 0
   unfolding withFlight
@@ -76,36 +85,21 @@ unfolding rowOf
 row-snoc [] f = refl
 row-snoc (g ∷ fs) f = rw (row-snoc fs f)
 
+-- k entries more of a list's front
+take-more : (l : List ℕ) (at k : ℕ) → at + k ≤ length l → take (at + k) l ≡ take at l ++ entries k (λ j. getD l (at + j) 0)
+unfolding entries
+take-more l at zero h = let e : at + 0 ≡ at = omega arith in rw (e, append-nil)
+take-more l at (suc k) h =
+    let e : at + suc k ≡ suc (at + k) = omega arith in
+    rw (e, take-suc l (at + k) 0 (omega arith), take-more l at k (omega arith)) (append-assoc (take at l) _ _)
+
 -- the flights of a row make up its front
 pub row-front : (n : ℕ) (row : List ℕ) → n * width ≤ length row → rowOf (firstFlights n row) ≡ take (n * width) row
-unfolding firstFlights rowOf flightAt
+unfolding firstFlights rowOf flightAt entries
 row-front zero row h = refl
 row-front (suc n) row h =
-    let e : suc n * width ≡ suc (suc (suc (suc (suc (suc (n * width)))))) = omega arith in
-    let e0 : n * width + 0 ≡ n * width = omega arith in
-    let e1 : n * width + 1 ≡ suc (n * width) = omega arith in
-    let e2 : n * width + 2 ≡ suc (suc (n * width)) = omega arith in
-    let e3 : n * width + 3 ≡ suc (suc (suc (n * width))) = omega arith in
-    let e4 : n * width + 4 ≡ suc (suc (suc (suc (n * width)))) = omega arith in
-    let e5 : n * width + 5 ≡ suc (suc (suc (suc (suc (n * width))))) = omega arith in
-    rw (
-      row-snoc (firstFlights n row) (flightAt row n),
-      row-front n row (omega arith),
-      e,
-      take-suc row (suc (suc (suc (suc (suc (n * width)))))) 0 (omega arith),
-      take-suc row (suc (suc (suc (suc (n * width))))) 0 (omega arith),
-      take-suc row (suc (suc (suc (n * width)))) 0 (omega arith),
-      take-suc row (suc (suc (n * width))) 0 (omega arith),
-      take-suc row (suc (n * width)) 0 (omega arith),
-      take-suc row (n * width) 0 (omega arith),
-      e0,
-      e1,
-      e2,
-      e3,
-      e4,
-      e5,
-    )
-    (simp append-assoc)
+    let e : suc n * width ≡ n * width + width = omega arith in
+    rw (e, row-snoc (firstFlights n row) (flightAt row n), row-front n row (omega arith), take-more row (n * width) width (omega arith))
 
 pub length-flights : (n : ℕ) (row : List ℕ) → length (firstFlights n row) ≡ n
 unfolding firstFlights
@@ -114,31 +108,12 @@ length-flights (suc n) row = simp (length-append, length-flights n row) (omega a
 
 -- the flights of a row that was made of flights
 
-flight-later : (row : List ℕ) (n : ℕ) → flightAt row (suc n) ≡ flightAt (drop 6 row) n
-unfolding flightAt
+flight-later : (row : List ℕ) (n : ℕ) → flightAt row (suc n) ≡ flightAt (drop width row) n
 flight-later row n =
-    let e0 : suc n * width + 0 ≡ 6 + (n * width + 0) = omega arith in
-    let e1 : suc n * width + 1 ≡ 6 + (n * width + 1) = omega arith in
-    let e2 : suc n * width + 2 ≡ 6 + (n * width + 2) = omega arith in
-    let e3 : suc n * width + 3 ≡ 6 + (n * width + 3) = omega arith in
-    let e4 : suc n * width + 4 ≡ 6 + (n * width + 4) = omega arith in
-    let e5 : suc n * width + 5 ≡ 6 + (n * width + 5) = omega arith in
-    rw (
-      getD-drop 6 row (n * width + 0) 0,
-      getD-drop 6 row (n * width + 1) 0,
-      getD-drop 6 row (n * width + 2) 0,
-      getD-drop 6 row (n * width + 3) 0,
-      getD-drop 6 row (n * width + 4) 0,
-      getD-drop 6 row (n * width + 5) 0,
-      e1,
-      e2,
-      e3,
-      e4,
-      e5,
-      e0,
-    )
+    same-columns row (drop width row) (suc n) n
+    (λ j l. let e : suc n * width + j ≡ width + (n * width + j) = omega arith in rw (e, getD-drop width row (n * width + j) 0))
 
-flights-first : (n : ℕ) (row : List ℕ) → firstFlights (suc n) row ≡ flightAt row 0 ∷ firstFlights n (drop 6 row)
+flights-first : (n : ℕ) (row : List ℕ) → firstFlights (suc n) row ≡ flightAt row 0 ∷ firstFlights n (drop width row)
 unfolding firstFlights
 flights-first zero row = refl
 flights-first (suc n) row = rw (flights-first n row, flight-later row n)

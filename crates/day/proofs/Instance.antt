@@ -16,10 +16,10 @@ use Rattle.assignment.proofs.Tests.{lt?, eq?, gate-ne}
 use Rattle.assignment.proofs.Sums.{sum-ext, sum-zero, sum-most, count-le}
 use Rattle.assignment.proofs.Duality as duality
 use Rattle.assignment.proofs.Stretch as stretch
-use Rattle.day.specs.Day.{Day, P, N, due, rate, after, ofPeriod, capacity, takes, cost, latest, Window, hold, land, totalOf, total}
+use Rattle.day.specs.Day.{Day, P, N, due, rate, ofPeriod, capacity, takes, cost, latest, Window, hold, land, totalOf, total}
 use Rattle.day.specs.Plan.{Legal, Cheapest, Accepted, mustLand, room, Short}
 use borrow.Author.Tests.{le-leb, lt-leb}
-use Rattle.day.proofs.Costs.{takes-in, takes-closing, period-out, cost-over, cost-under}
+use Rattle.day.proofs.Costs.{takes-in, takes-closing, period-out, cost-most}
 use Rattle.day.specs.Valid.{Valid}
 use Rattle.day.specs.Instance.{last, last-to, instance}
 
@@ -148,10 +148,7 @@ module _ {d : Day} (v : Valid d) where
   pub cost-le : (i h : ℕ) → i < N d → h ≤ 96 → cost d i h ≤ 1960000
   cost-le i h l few =
       let r = mul-le-mul {n₁ = rate d i} {m₁ = h} {n₂ = 10000} {m₂ = 96} (v .flight i l .rate-to) few in
-      elim (lt? (after d i) h) [
-        | inl over ↦ omega (arith, cost-over d i h over, v .flight i l .jump-to)
-        | inr under ↦ omega (arith, cost-under d i h under)
-      ]
+      omega (arith, cost-most d i h, v .flight i l .jump-to)
 
   -- "The total is the sum over flights, never above 250,880,000."
   pub total-le : {h : List ℕ} → Legal d h → total d h ≤ 250880000

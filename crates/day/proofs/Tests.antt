@@ -55,6 +55,12 @@ first-le (suc n) f = elim (f 0) as (λ t. cond t 0 (suc (firstOf n (λ i. f (suc
   | false ↦ omega (arith, first-le n (λ i. f (suc i)))
 ]
 
+-- it is the same for tests that agree
+pub first-same : (n : ℕ) (f g : ℕ → Bool) → ((i : ℕ) → i < n → f i ≡ g i) → firstOf n f ≡ firstOf n g
+unfolding firstOf
+first-same zero f g h = refl
+first-same (suc n) f g h = rw (h 0 (omega arith), first-same n (λ i. f (suc i)) (λ i. g (suc i)) (λ i l. h (suc i) (omega arith)))
+
 -- where the first is none, none passes
 pub none-passes : (n : ℕ) (f : ℕ → Bool) → firstOf n f ≡ n → (i : ℕ) → i < n → f i ≡ false
 unfolding firstOf

@@ -8,7 +8,7 @@ use lib.ListN.{length, getD}
 use lib.Dec.{leb}
 use borrow.Author.Tests.{le-leb, lt-leb, eq-eqb, ne-eqb, leb-true, eqb-true, eqb-false, not-true}
 use Rattle.assignment.proofs.Tests.{and-true, true-and, and-assoc}
-use Rattle.day.specs.Day.{Day, P, N, mostPeriods, mostFlights, number, due, rate, after, jump, limit, missing, all, inside, flightAt, flightFits, inRange, isNew, valid, width}
+use Rattle.day.specs.Day.{Day, P, N, mostPeriods, mostFlights, number, due, rate, after, jump, late, limit, missing, all, inside, flightAt, flightFits, inRange, isNew, valid, width}
 use Rattle.day.specs.Valid.{InRange, ValidFlights, Valid}
 use Rattle.day.proofs.Tests.{all-at, all-from}
 
@@ -49,7 +49,8 @@ or-true false b e = inr e
 range-means : (d : Day) (i : ℕ) → inRange (P d) (d .flights) i ≡ true → InRange (P d) (d .flights) i
 unfolding flightFits flightAt
 range-means d i e =
-    let limits = and-true e in
+    let lates = and-true e in
+    let limits = and-true (lates .0) in
     let jumps = and-true (limits .0) in
     let afters = and-true (jumps .0) in
     let rates = and-true (afters .0) in
@@ -70,6 +71,7 @@ range-means d i e =
         | inl t ↦ inl (leb-true (limit d i) 96 t)
         | inr t ↦ inr (eqb-true (limit d i) 255 t)
       ];
+      late-to = leb-true (late d i) 255 (lates .1);
     }
 
 pub valid-means : {d : Day} → valid d ≡ true → Valid d
@@ -115,7 +117,8 @@ range-from d i r =
       | inl l ↦ rw (le-leb (limit d i) 96 l)
       | inr e ↦ or-right (leb (limit d i) 96) (missing (limit d i)) (eq-eqb (limit d i) 255 e)
     ] in
-    true-and (true-and (true-and (true-and (true-and number-in due-in) rate-in) after-in) jump-in) limit-in
+    let late-in = le-leb (late d i) 255 (r .late-to) in
+    true-and (true-and (true-and (true-and (true-and (true-and number-in due-in) rate-in) after-in) jump-in) limit-in) late-in
 
 -- no lower table place has the flight's number
 new-from : (d : Day) (i : ℕ) → ((j : ℕ) → j < i → number d j ≢ number d i) → isNew (d .flights) i ≡ true

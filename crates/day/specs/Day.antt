@@ -1,4 +1,5 @@
--- The day of document 01, "The day": two rows of numbers, and what a flight's six numbers, its cost and its window are.
+-- The day of document 01, "The day", with the column of #102: two rows of numbers, and what a flight's seven numbers, its cost and its
+-- window are.
 -- Assumes nothing.
 use mathlib.Core.Bool.{Bool, true, cond, not, _&&_, _||_}
 use mathlib.Core.List.{List, _∷_}
@@ -20,7 +21,7 @@ mostFlights = 128
 abbrev pub periodRow : ℕ
 periodRow = mostPeriods + 2
 
--- "In memory a day is two lent rows": P capacities, and six numbers a flight in sheet order
+-- "In memory a day is two lent rows": P capacities, and "seven numbers" a flight (#102) in sheet order
 pub record Day : Type 0 where
   pub capacities : List ℕ
   pub flights : List ℕ
@@ -36,9 +37,9 @@ lent capacities flights = day (now capacities) (now flights)
 abbrev pub P : Day → ℕ
 P d = length (d .capacities)
 
--- a flight takes six numbers of its row; column j of the flight at table place i
+-- "A flight takes seven numbers in memory" (#102); column j of the flight at table place i
 abbrev pub width : ℕ
-width = 6
+width = 7
 
 abbrev pub column : ℕ → List ℕ → ℕ → ℕ
 column j flights i = getD flights (i * width + j) 0
@@ -62,7 +63,10 @@ jumpOf = column 4
 abbrev pub limitOf : List ℕ → ℕ → ℕ
 limitOf = column 5
 
--- the flight at table place i of a row, "six numbers a flight in sheet order"
+abbrev pub lateOf : List ℕ → ℕ → ℕ
+lateOf = column 6
+
+-- the flight at table place i of a row: its seven numbers, "in sheet order"
 unfoldable pub flightAt : List ℕ → ℕ → Flight
 flightAt flights i = record {
   number = numberOf flights i;
@@ -71,6 +75,7 @@ flightAt flights i = record {
   after = afterOf flights i;
   jump = jumpOf flights i;
   limit = limitOf flights i;
+  late = lateOf flights i;
 }
 
 -- N, the number of flights; "table place counts flights from 0"
@@ -99,6 +104,9 @@ jump d = jumpOf (d .flights)
 abbrev pub limit : Day → ℕ → ℕ
 limit d = limitOf (d .flights)
 
+abbrev pub late : Day → ℕ → ℕ
+late d = lateOf (d .flights)
+
 -- "255 for a missing limit"
 abbrev pub missing : ℕ → Bool
 missing l = eqb l 255
@@ -115,9 +123,9 @@ capacity d k = ofPeriod (d .capacities) k
 unfoldable pub takes : List ℕ → ℕ → ℕ
 takes capacities k = ofPeriod capacities k + gate (eqb k (length capacities + 1)) 256
 
--- "Its cost is rate × h, plus jump if h is greater than after."
+-- "Its cost is rate × h, plus jump", "charged when late + hold is greater than after" (#102)
 unfoldable pub holdCost : Flight → ℕ → ℕ
-holdCost f h = f .rate * h + gate (ltb (f .after) h) (f .jump)
+holdCost f h = f .rate * h + gate (ltb (f .after) (f .late + h)) (f .jump)
 
 -- what a hold of h costs the flight at table place i
 abbrev pub cost : Day → ℕ → ℕ → ℕ
@@ -166,11 +174,11 @@ all (suc n) f = all n f && f n
 abbrev pub inside : ℕ → ℕ → ℕ → Bool
 inside a b x = leb a x && leb x b
 
--- the table's ranges of a flight's six numbers, on a day of p periods
+-- the table's ranges of a flight's seven numbers, on a day of p periods
 unfoldable pub flightFits : ℕ → Flight → Bool
 flightFits p f =
     inside 1 9999 (f .number) && inside 1 p (f .due) && inside 1 10000 (f .rate) && leb (f .after) 96 && leb (f .jump) 1000000
-    && (leb (f .limit) 96 || missing (f .limit))
+    && (leb (f .limit) 96 || missing (f .limit)) && leb (f .late) 255
 
 -- of the flight at table place i, on a day of p periods
 abbrev pub inRange : ℕ → List ℕ → ℕ → Bool

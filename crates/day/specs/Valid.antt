@@ -6,7 +6,7 @@ use mathlib.Core.Logic.{_⊎_, _≢_}
 use Prim.Native.Nat.{ℕ, _*_, _≤_, _<_}
 use mathlib.Core.List.{List}
 use lib.ListN.{length, getD}
-use Rattle.day.specs.Day.{Day, P, N, mostPeriods, mostFlights, flightCount, number, width, afterOf, dueOf, jumpOf, limitOf, numberOf, rateOf}
+use Rattle.day.specs.Day.{Day, P, N, mostPeriods, mostFlights, flightCount, number, width, afterOf, dueOf, jumpOf, lateOf, limitOf, numberOf, rateOf}
 
 -- the numbers of the flight at table place i of a row, on a day of p periods
 pub record InRange (p : ℕ) (flights : List ℕ) (i : ℕ) : Type 0 where
@@ -19,6 +19,7 @@ pub record InRange (p : ℕ) (flights : List ℕ) (i : ℕ) : Type 0 where
   pub after-to : afterOf flights i ≤ 96
   pub jump-to : jumpOf flights i ≤ 1000000
   pub limit-to : (limitOf flights i ≤ 96) ⊎ (limitOf flights i ≡ 255)
+  pub late-to : lateOf flights i ≤ 255
 
 -- the row of flights of such a day, for whoever reads no more of it
 pub record ValidFlights (p : ℕ) (flights : List ℕ) : Type 0 where

@@ -14,7 +14,7 @@ pub const PERIODS: usize = 96;
 pub const FLIGHTS: usize = 128;
 
 // How many numbers a flight takes in its row, and the most numbers of a row of flights.
-pub const WIDTH: usize = 6;
+pub const WIDTH: usize = 7;
 
 pub const FLIGHT_ROW: usize = FLIGHTS * WIDTH;
 
@@ -35,6 +35,7 @@ pub struct Flight {
     pub after: u32,
     pub jump: u32,
     pub limit: u32,
+    pub late: u32,
 }
 
 pub fn wide(x: u32) -> usize
@@ -100,6 +101,7 @@ pub fn flight_at(flights: &[u32], i: usize) -> Flight
         after: flights[at + 3],
         jump: flights[at + 4],
         limit: flights[at + 5],
+        late: flights[at + 6],
     }
 }
 
@@ -115,6 +117,7 @@ pub fn put_flight(flights: &mut [u32], i: usize, f: Flight)
     flights[at + 3] = f.after;
     flights[at + 4] = f.jump;
     flights[at + 5] = f.limit;
+    flights[at + 6] = f.late;
 }
 
 // What a row of an entry for each period has for period k: 0 for a period that it has not.
@@ -153,13 +156,14 @@ pub fn land_of(flights: &[u32], holds: &[u32], i: usize) -> usize
     due_of(flights, i) + wide(holds[i])
 }
 
-// What a hold costs a flight. Its numbers and the hold are of 32 bits, so that the sum fits.
+// What a hold costs a flight: the jump counts the delay that it brings along. Its numbers and the hold are of 32 bits, so that the sum
+// fits.
 pub fn hold_cost(f: Flight, hold: usize) -> usize
     requires { ⌜ hold < 2 ^ 32 ⌝ }
     ensures { λ r. ⌜ r ≡ holdCost f hold ⌝ }
 {
     let run = wide(f.rate) * hold;
-    if wide(f.after) < hold {
+    if wide(f.after) < wide(f.late) + hold {
         return run + wide(f.jump);
     }
     run
@@ -212,7 +216,7 @@ pub fn flight_fits(periods: usize, f: Flight) -> bool
     );
     let rated = both(named, is_inside(1, 10000, wide(f.rate)));
     let priced = both(both(rated, f.after <= 96), f.jump <= 1000000);
-    both(priced, limit_fits(f.limit))
+    both(both(priced, limit_fits(f.limit)), f.late <= 255)
 }
 
 fn capacities_fit(capacities: &[u32]) -> bool

@@ -17,7 +17,7 @@ use Rattle.assignment.proofs.Tests.{lt?, eq?, gate-eq, gate-ne}
 use Rattle.assignment.proofs.Sums.{count-suc, count-zero, count-le}
 use Rattle.day.specs.Day.{Day, day, P, N, periodRow, mostFlights, column, flightCount, flightAt, takes, latest, land, hold, holdCost, totalOf, total, valid, width}
 use Rattle.day.specs.Plan.{tooLong, overCapacity, breaks, firstBreak}
-use Rattle.day.proofs.Costs.{takes-in, takes-closing, cost-over, cost-under}
+use Rattle.day.proofs.Costs.{takes-in, takes-closing, cost-most}
 use Rattle.day.proofs.Tests.{first-at, first-none}
 use Rattle.day.specs.Valid.{Valid}
 use Rattle.day.proofs.Valid.{valid-means}
@@ -137,10 +137,7 @@ module _ {f h : List ℕ} {s i : ℕ} (m : Summed f h s i) where
     cost-fits =
         let low : i < flightCount f = omega (arith, m .can .each) in
         let p = mul-le-mul {n₁ = column 2 f i} {m₁ = hold h i} {n₂ = 10000} {m₂ = 4294967296} (m .can .rates i low) (omega arith) in
-        elim (lt? (column 3 f i) (hold h i)) [
-          | inl over ↦ omega (arith, cost-is, cost-over (day [] f) i (hold h i) over, m .can .jumps i low)
-          | inr under ↦ omega (arith, cost-is, cost-under (day [] f) i (hold h i) under)
-        ]
+        omega (arith, cost-is, cost-most (day [] f) i (hold h i), m .can .jumps i low)
 
     pub sum-next : Summed f h (s + c) (i + 1)
     unfolding sum

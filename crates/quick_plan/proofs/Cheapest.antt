@@ -14,8 +14,9 @@ use borrow.Author.Tests.{lt-ltb, le-ltb, le-leb, lt-leb, eq-eqb, ne-eqb}
 use Rattle.assignment.specs.Sum.{gate, sum, count}
 use Rattle.assignment.proofs.Tests.{and-T, lt?, eq?}
 use Rattle.assignment.proofs.Sums.{sum-ext, sum-le, sum-add, sum-zero, sum-member}
-use Rattle.day.specs.Day.{Day, P, N, due, rate, after, jump, capacity, flightAt, holdCost, land, totalOf, total, valid}
+use Rattle.day.specs.Day.{Day, P, N, due, rate, capacity, cost, hold, land, totalOf, total, valid}
 use Rattle.day.specs.Plan.{Legal, Cheapest, firstJumpOrLimit}
+use Rattle.day.proofs.Costs.{cost-plain}
 use Rattle.day.proofs.Valid.{valid-means}
 use Rattle.quick_plan.specs.Quick.{eligible, operates, quick}
 use Rattle.quick_plan.proofs.Applies.{no-jump}
@@ -208,13 +209,10 @@ module _ (d : Day) (v : valid d ≡ true) (applies : firstJumpOrLimit (d .flight
       )
 
   plain-total : (h : List ℕ) → total d h ≡ sum (N d) (λ i. rate d i * (land d h i - due d i))
-  unfolding totalOf holdCost flightAt
-  plain-total h = sum-ext (N d) (λ i. rate d i * getD h i 0 + gate (ltb (after d i) (getD h i 0)) (jump d i)) (λ i. rate d i * (land d h i - due d i)) (λ i l.
-      rw (no-jump d applies i l) (go (rate d i) (ltb (after d i) (getD h i 0)) (getD h i 0) (land d h i - due d i) (omega arith)))
-    where
-      go : (r : ℕ) (b : Bool) (x z : ℕ) → x ≡ z → r * x + gate b 0 ≡ r * z
-      go r true x z e = rw e (omega arith)
-      go r false x z e = rw e (omega arith)
+  unfolding totalOf
+  plain-total h = sum-ext (N d) (λ i. cost d i (hold h i)) (λ i. rate d i * (land d h i - due d i)) (λ i l.
+      let e : land d h i - due d i ≡ hold h i = omega arith in
+      rw e (cost-plain d i (hold h i) (no-jump d applies i l)))
 
   pub quick-least : total d (quick d) ≤ total d y
   quick-least =

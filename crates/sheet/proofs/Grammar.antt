@@ -8,13 +8,13 @@ use mathlib.Core.List.{List, [], _∷_, _++_, append-assoc, append-nil}
 use mathlib.Core.Bool.{Bool, true, false, not, cond, _&&_}
 use lib.ListN.{length, getD, drop, length-append, length-drop, drop-of-length-le, take-append-drop}
 use lib.Seq.{drop-drop, drop-append-seam}
-use lib.Dec.{ltb, leb, eqb, lit≤}
+use lib.Dec.{ltb, leb, eqb, lit≤, lit<}
 use borrow.Author.Tests.{leb-true, eq-eqb, ne-eqb, eqb-true, eqb-false, le-ltb, not-true}
 use Rattle.answers.specs.declared.Answer.{Answer}
 use Rattle.answers.specs.declared.Answer.the-variants.{NumberUsed}
-use Rattle.text.specs.Digits.{separated}
+use Rattle.text.specs.Digits.{ended, separated}
 use Rattle.text.specs.Fixed.{startsWith}
-use Rattle.text.proofs.Digits.{length-ended, ended-short}
+use Rattle.text.proofs.Digits.{length-ended, ended-short, count-le}
 use Rattle.text.proofs.Reading.{past, stand}
 use Rattle.text.proofs.Lines.{separated-short, line-first}
 use Rattle.text.proofs.Writing.{length-line}
@@ -210,7 +210,7 @@ read-good s C F e = sheet-back s C F e .good
 
 -- the sheet of a good day is read as that day
 
-pub length-names : length flightNames ≡ 33
+pub length-names : length flightNames ≡ 38
 unfolding flightNames
 length-names = refl
 
@@ -218,27 +218,27 @@ pub length-top : length periodNames ≡ 16
 unfolding periodNames
 length-top = refl
 
-limit-short : (l : ℕ) → limitFits l ≡ true → length (limitText l) ≤ 8
+limit-short : (l : ℕ) → limitFits l ≡ true → length (limitText l) ≤ 3
 limit-short l h = elim (limit-cases l h) [
-  | inl k ↦ rw (text-number l (present l k)) (ended-short 10 l (omega arith))
+  | inl k ↦ rw (text-number l (present l k)) (omega (arith, length-ended 44 l, count-le l 2 (lit< tt) (omega arith)))
   | inr e ↦ rw (text-missing l e) (lit≤ tt)
 ]
 
-pub flight-length : (f : Flight) → length (flightText f) ≡ length (separated (beforeLimit f)) + length (limitText (f .limit))
+pub flight-length : (f : Flight) → length (flightText f) ≡ length (separated (beforeLimit f)) + length (limitText (f .limit)) + length (ended 10 (f .late))
 unfolding flightText
-flight-length f = length-append (separated (beforeLimit f)) (limitText (f .limit))
+flight-length f = simp length-append (omega arith)
 
 flight-pos : (f : Flight) → 0 < length (flightText f)
 unfolding separated
 flight-pos f = rw (flight-length f, length-append) (omega (arith, length-ended 44 (f .number)))
 
-flights-short : (p : ℕ) (fs : List Flight) → p ≤ mostPeriods → flightsFit p fs ≡ true → length (flightsText fs) ≤ 48 * length fs
+flights-short : (p : ℕ) (fs : List Flight) → p ≤ mostPeriods → flightsFit p fs ≡ true → length (flightsText fs) ≤ 47 * length fs
 unfolding flightsText flightsFit
 flights-short p [] h e = omega arith
 flights-short p (f ∷ fs) h e =
     let a = and-true {a = flightFits p f} e in
     let s = fits-small p f h (a .0) in
-    simp length-append (omega (arith, flights-short p fs h (a .1), flight-length f, separated-short mostDigits (beforeLimit f) (s .numbers), limit-short (f .limit) (s .limit)))
+    simp length-append (omega (arith, flights-short p fs h (a .1), flight-length f, separated-short mostDigits (beforeLimit f) (s .numbers), limit-short (f .limit) (s .limit), length-ended 10 (f .late), s .late))
 
 periods-short : (j : ℕ) (cs : List ℕ) → j + length cs ≤ 1000 → capsFit cs ≡ true → length (periodsText j cs) ≤ 16 * length cs
 unfolding periodsText periodText capsFit

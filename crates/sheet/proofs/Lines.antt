@@ -18,7 +18,7 @@ use Rattle.text.specs.declared.Number.the-variants.{Value, Bad}
 use Rattle.text.specs.declared.Place.the-variants.{Behind, NoPlace}
 use Rattle.text.proofs.Digits.{first-digit, count-le}
 use Rattle.text.specs.Standing.{Stands, FieldsHere, LineHere}
-use Rattle.text.proofs.Reading.{join, parted, picked, at-place, there, field-read, field-write, open-up, end-no-digit}
+use Rattle.text.proofs.Reading.{within, join, parted, picked, at-place, there, field-read, field-write, open-up, end-no-digit, comma-no-digit}
 use Rattle.text.proofs.Lines.{separated-read, separated-write, line-read, line-write, all-read, none-read, row-read, line-row}
 use Rattle.day.specs.declared.Flight.{Flight}
 use Rattle.day.specs.Day.{mostPeriods, flightFits}
@@ -28,7 +28,7 @@ use Rattle.sheet.specs.declared.PeriodLine.the-variants.{Period, NoPerio
 use Rattle.sheet.specs.declared.FlightLine.the-variants.{Row, NoRow}
 use Rattle.sheet.specs.Text.{limitText, periodText, beforeLimit, flightText}
 use Rattle.sheet.specs.Good.{limitFits, Small}
-use Rattle.sheet.specs.Lines.{mostDigits, periodOf, periodLine, limitRead, withLimit, limitField, flightWith, rowWith, thenLimit, flightLine}
+use Rattle.sheet.specs.Lines.{mostDigits, periodOf, periodLine, limitRead, withLimit, limitField, flightWith, rowWith, thenLate, thenLimit, flightLine}
 
 -- the limit
 
@@ -40,11 +40,11 @@ limit-cases l = go (leb l 96) (eqb l 255) refl refl
     go false true p q e = inr (eqb-true l 255 q)
     go false false p q e = let z : _≡_ {A = ℕ} 0 1 = cc in absurd (omega arith)
 
-pub text-missing : (l : ℕ) → l ≡ 255 → limitText l ≡ 45 ∷ 10 ∷ []
+pub text-missing : (l : ℕ) → l ≡ 255 → limitText l ≡ 45 ∷ 44 ∷ []
 unfolding limitText
 text-missing l e = rw e
 
-pub text-number : (l : ℕ) → (l ≡ 255 → ⊥) → limitText l ≡ ended 10 l
+pub text-number : (l : ℕ) → (l ≡ 255 → ⊥) → limitText l ≡ ended 44 l
 unfolding limitText
 text-number l e = rw (ne-eqb l 255 e)
 
@@ -60,10 +60,10 @@ written-fits n = go (leb n 96) refl
     go true p e = (leb-true n 96 p, refl)
     go false p e = let z : _≡_ {A = ℕ} 0 1 = cc in absurd (omega arith)
 
-from-number : (s : List ℕ) (at l next : ℕ) → withLimit (field mostDigits 10 s at) ≡ Value l next → limitFits l ≡ true → Stands (limitText l) s at next
-from-number s at l next e h = go (field mostDigits 10 s at) refl e
+from-number : (s : List ℕ) (at l next : ℕ) → withLimit (field mostDigits 44 s at) ≡ Value l next → limitFits l ≡ true → Stands (limitText l) s at next
+from-number s at l next e h = go (field mostDigits 44 s at) refl e
   where
-    go : (p : Number) → field mostDigits 10 s at ≡ p → withLimit p ≡ Value l next → Stands (limitText l) s at next
+    go : (p : Number) → field mostDigits 44 s at ≡ p → withLimit p ≡ Value l next → Stands (limitText l) s at next
     go Bad q r = let z : _≡_ {A = ℕ} 0 1 = cc in absurd (omega arith)
     go (Value n m) q r =
         let a : limitRead n ≡ l = cc in
@@ -73,14 +73,14 @@ from-number s at l next e h = go (field mostDigits 10 s at) refl e
         let k : l ≤ 96 = omega (arith, w .0) in
         rw (text-number l (present l k)) (rw (c, b) at (field-read (lit< tt) q .stands))
 
-from-dash : (s : List ℕ) (at l next : ℕ) → getD s at 0 ≡ 45 → cond (eqb (getD s (at + 1) 0) 10) (Value 255 (at + 2)) Bad ≡ Value l next
+from-dash : (s : List ℕ) (at l next : ℕ) → getD s at 0 ≡ 45 → cond (eqb (getD s (at + 1) 0) 44) (Value 255 (at + 2)) Bad ≡ Value l next
     → Stands (limitText l) s at next
 from-dash s at l next e r =
-    let p = picked (eqb (getD s (at + 1) 0) 10) 255 (at + 2) l next r in
-    let g : getD s (at + 1) 0 ≡ 10 = eqb-true _ _ (p .0) in
+    let p = picked (eqb (getD s (at + 1) 0) 44) 255 (at + 2) l next r in
+    let g : getD s (at + 1) 0 ≡ 44 = eqb-true _ _ (p .0) in
     let t : at + 1 < length s = there s (at + 1) (omega arith) in
     let k : suc (at + 1) ≡ at + 2 = omega arith in
-    let d : drop (at + 1) s ≡ 10 ∷ drop (at + 2) s = drop-cons s (at + 1) 0 t ∙ rw (g, k) in
+    let d : drop (at + 1) s ≡ 44 ∷ drop (at + 2) s = drop-cons s (at + 1) 0 t ∙ rw (g, k) in
     let t2 : at < length s = omega arith in
     let d2 : drop at s ≡ 45 ∷ drop (at + 1) s = rw add-one (drop-cons s at 0 t2 ∙ rw e) in
     rw (text-missing l (sym (p .1))) (record { text = d2 ∙ rw (d, p .2); place = omega (arith, p .2) })
@@ -90,10 +90,27 @@ unfolding limitField
 limit-read s at l next = go (eqb (getD s at 0) 45) refl
   where
     go : (b : Bool) → eqb (getD s at 0) 45 ≡ b
-        → cond b (cond (eqb (getD s (at + 1) 0) 10) (Value 255 (at + 2)) Bad) (withLimit (field mostDigits 10 s at)) ≡ Value l next
+        → cond b (cond (eqb (getD s (at + 1) 0) 44) (Value 255 (at + 2)) Bad) (withLimit (field mostDigits 44 s at)) ≡ Value l next
         → limitFits l ≡ true → Stands (limitText l) s at next
     go true q r h = from-dash s at l next (eqb-true _ _ q) r
     go false q r h = from-number s at l next r h
+
+-- a limit, whatever its number, ends inside the text
+pub limit-within : (s : List ℕ) (at l next : ℕ) → at ≤ length s → limitField s at ≡ Value l next → next ≤ length s
+unfolding limitField
+limit-within s at l next h = go (eqb (getD s at 0) 45) refl
+  where
+    number : (p : Number) → field mostDigits 44 s at ≡ p → withLimit p ≡ Value l next → next ≤ length s
+    number Bad q e = let z : _≡_ {A = ℕ} 0 1 = cc in absurd (omega arith)
+    number (Value n m) q e = let b : m ≡ next = cc in omega (arith, within (field-read (lit< tt) q .stands) h)
+
+    go : (b : Bool) → eqb (getD s at 0) 45 ≡ b
+        → cond b (cond (eqb (getD s (at + 1) 0) 44) (Value 255 (at + 2)) Bad) (withLimit (field mostDigits 44 s at)) ≡ Value l next → next ≤ length s
+    go false q e = number (field mostDigits 44 s at) refl e
+    go true q e =
+        let p = picked (eqb (getD s (at + 1) 0) 44) 255 (at + 2) l next e in
+        let g : getD s (at + 1) 0 ≡ 44 = eqb-true _ _ (p .0) in
+        omega (arith, there s (at + 1) (omega arith), p .2)
 
 limit-write : (s : List ℕ) (at l next : ℕ) → limitFits l ≡ true → Stands (limitText l) s at next → limitField s at ≡ Value l next
 unfolding limitField limitRead
@@ -105,16 +122,16 @@ limit-write s at l next h t = elim (limit-cases l h) [
     here : (xs : List ℕ) → drop at s ≡ xs → getD s at 0 ≡ getD xs 0 0
     here xs q = let z : at + 0 ≡ at = omega arith in rw z at (at-place s at 0 xs q)
 
-    number : l ≤ 96 → Stands (ended 10 l) s at next
-        → cond (eqb (getD s at 0) 45) (cond (eqb (getD s (at + 1) 0) 10) (Value 255 (at + 2)) Bad) (withLimit (field mostDigits 10 s at)) ≡ Value l next
+    number : l ≤ 96 → Stands (ended 44 l) s at next
+        → cond (eqb (getD s at 0) 45) (cond (eqb (getD s (at + 1) 0) 44) (Value 255 (at + 2)) Bad) (withLimit (field mostDigits 44 s at)) ≡ Value l next
     number k t =
-        let f = field-write {most = mostDigits} end-no-digit (record { short = count-le l 7 (lit< tt) (omega arith); stands = t }) in
-        let g = here _ (t .text ∙ open-up 10 l (drop next s)) in
-        let d = first-digit l (10 ∷ drop next s) in
+        let f = field-write {most = mostDigits} comma-no-digit (record { short = count-le l 7 (lit< tt) (omega arith); stands = t }) in
+        let g = here _ (t .text ∙ open-up 44 l (drop next s)) in
+        let d = first-digit l (44 ∷ drop next s) in
         rw (ne-eqb (getD s at 0) 45 (λ e. omega arith), f, le-leb l 96 k)
 
-    dash : Stands (45 ∷ 10 ∷ []) s at next
-        → cond (eqb (getD s at 0) 45) (cond (eqb (getD s (at + 1) 0) 10) (Value 255 (at + 2)) Bad) (withLimit (field mostDigits 10 s at)) ≡ Value 255 next
+    dash : Stands (45 ∷ 44 ∷ []) s at next
+        → cond (eqb (getD s at 0) 45) (cond (eqb (getD s (at + 1) 0) 44) (Value 255 (at + 2)) Bad) (withLimit (field mostDigits 44 s at)) ≡ Value 255 next
     dash t = rw (here _ (t .text), at-place s at 1 _ (t .text), t .place)
 
 -- lines, read
@@ -136,35 +153,42 @@ period-read s at j c next = go (lineAt 1 mostDigits s at) refl
     go noLine q e = let z : _≡_ {A = ℕ} 0 1 = cc in absurd (omega arith)
     go (values ns l x) q e = one ns l x (line-read q) e
 
--- five numbers and a limit are those of their flight
-five : (ns : List ℕ) (l : ℕ) → length ns ≡ 5 → beforeLimit (flightWith ns l) ≡ ns
-five [] l h = absurd (omega arith)
-five (a ∷ []) l h = absurd (omega arith)
-five (a ∷ b ∷ []) l h = absurd (omega arith)
-five (a ∷ b ∷ c ∷ []) l h = absurd (omega arith)
-five (a ∷ b ∷ c ∷ d ∷ []) l h = absurd (omega arith)
-five (a ∷ b ∷ c ∷ d ∷ e ∷ []) l h = refl
-five (a ∷ b ∷ c ∷ d ∷ e ∷ f ∷ ns) l h = absurd (omega arith)
+-- five numbers are those before the limit of their flight
+five : (ns : List ℕ) (l t : ℕ) → length ns ≡ 5 → beforeLimit (flightWith ns l t) ≡ ns
+five [] l t h = absurd (omega arith)
+five (a ∷ []) l t h = absurd (omega arith)
+five (a ∷ b ∷ []) l t h = absurd (omega arith)
+five (a ∷ b ∷ c ∷ []) l t h = absurd (omega arith)
+five (a ∷ b ∷ c ∷ d ∷ []) l t h = absurd (omega arith)
+five (a ∷ b ∷ c ∷ d ∷ e ∷ []) l t h = refl
+five (a ∷ b ∷ c ∷ d ∷ e ∷ f ∷ ns) l t h = absurd (omega arith)
 
 pub flight-read : (s : List ℕ) (at : ℕ) (f : Flight) (next : ℕ) → flightLine s at ≡ Row f next → limitFits (f .limit) ≡ true
     → Stands (flightText f) s at next
 unfolding flightLine flightText
 flight-read s at f next e h = go (separatedAt 5 mostDigits s at) refl e
   where
-    ends : (ns : List ℕ) (x : ℕ) → FieldsHere 5 mostDigits s at ns x → (p : Number) → limitField s x ≡ p → rowWith ns p ≡ Row f next
-        → Stands (separated (beforeLimit f) ++ limitText (f .limit)) s at next
-    ends ns x t Bad q e = let z : _≡_ {A = ℕ} 0 1 = cc in absurd (omega arith)
-    ends ns x t (Value l y) q e =
-        let g : flightWith ns l ≡ f = cc in
-        let r : y ≡ next = cc in
+    lates : (ns : List ℕ) (l x y : ℕ) → FieldsHere 5 mostDigits s at ns x → limitField s x ≡ Value l y
+        → (p : Number) → field mostDigits 10 s y ≡ p → rowWith ns l p ≡ Row f next
+        → Stands (separated (beforeLimit f) ++ (limitText (f .limit) ++ ended 10 (f .late))) s at next
+    lates ns l x y n q Bad r e = let z : _≡_ {A = ℕ} 0 1 = cc in absurd (omega arith)
+    lates ns l x y n q (Value t w) r e =
+        let g : flightWith ns l t ≡ f = cc in
+        let z : w ≡ next = cc in
         let k : limitFits l ≡ true = ap (λ (f : Flight). limitFits (f .limit)) g ∙ h in
-        let b : separated (beforeLimit (flightWith ns l)) ≡ separated ns = ap separated (five ns l (t .count)) in
-        rw (← g, ← r, b) (join (t .stands) (limit-read s x l y q k))
+        let b : separated (beforeLimit (flightWith ns l t)) ≡ separated ns = ap separated (five ns l t (n .count)) in
+        rw (← g, ← z, b) (join (n .stands) (join (limit-read s x l y q k) (field-read (lit< tt) r .stands)))
 
-    go : (x : Numbers) → separatedAt 5 mostDigits s at ≡ x → thenLimit x (limitField s) ≡ Row f next
-        → Stands (separated (beforeLimit f) ++ limitText (f .limit)) s at next
+    limits : (ns : List ℕ) (x : ℕ) → FieldsHere 5 mostDigits s at ns x → (p : Number) → limitField s x ≡ p
+        → thenLate ns p (field mostDigits 10 s) ≡ Row f next
+        → Stands (separated (beforeLimit f) ++ (limitText (f .limit) ++ ended 10 (f .late))) s at next
+    limits ns x n Bad q e = let z : _≡_ {A = ℕ} 0 1 = cc in absurd (omega arith)
+    limits ns x n (Value l y) q e = lates ns l x y n q (field mostDigits 10 s y) refl e
+
+    go : (x : Numbers) → separatedAt 5 mostDigits s at ≡ x → thenLimit x (limitField s) (field mostDigits 10 s) ≡ Row f next
+        → Stands (separated (beforeLimit f) ++ (limitText (f .limit) ++ ended 10 (f .late))) s at next
     go (upto ns) q e = let z : _≡_ {A = ℕ} 0 1 = cc in absurd (omega arith)
-    go (whole ns x) q e = ends ns x (separated-read q) (limitField s x) refl e
+    go (whole ns x) q e = limits ns x (separated-read q) (limitField s x) refl e
 
 -- lines, written
 
@@ -179,7 +203,8 @@ period-write s at j c next hj hc t =
 pub fits-small : (p : ℕ) (f : Flight) → p ≤ mostPeriods → flightFits p f ≡ true → Small f
 unfolding flightFits
 fits-small p f h e =
-    let l = and-true e in
+    let t = and-true e in
+    let l = and-true (t .0) in
     let j = and-true (l .0) in
     let a = and-true (j .0) in
     let r = and-true (a .0) in
@@ -195,42 +220,47 @@ fits-small p f h e =
         (short (f .due) (omega arith), (short (f .rate) (omega arith), (short (f .after) (omega arith), (short (f .jump) (omega arith), tt)))),
       );
       limit = l .1;
+      late = count-le (f .late) 3 (lit< tt) (omega (arith, leb-true (f .late) 255 (t .1)));
     }
 
 pub flight-write : (s : List ℕ) (at : ℕ) (f : Flight) (next : ℕ) → Small f → Stands (flightText f) s at next → flightLine s at ≡ Row f next
 unfolding flightLine flightText
 flight-write s at f next h t =
-    let p = parted t in
-    let a = separated-write {k = 5} {most = mostDigits} (record { count = refl; short = h .numbers; stands = p .0 }) in
-    rw (a, limit-write s (at + length (separated (beforeLimit f))) (f .limit) next (h .limit) (p .1))
+    let numbers = parted t in
+    let rest = parted (numbers .1) in
+    let a = separated-write {k = 5} {most = mostDigits} (record { count = refl; short = h .numbers; stands = numbers .0 }) in
+    let x = at + length (separated (beforeLimit f)) in
+    let b = limit-write s x (f .limit) (x + length (limitText (f .limit))) (h .limit) (rest .0) in
+    let c = field-write {most = mostDigits} end-no-digit (record { short = omega (arith, h .late); stands = rest .1 }) in
+    rw (a, b, c)
 
 -- one law for each way
 
 module _ (s : List ℕ) (at : ℕ) where
   pub dash-end : getD s at 0 ≡ 45 → length s ≤ at + 1 → Bad ≡ limitField s at
   unfolding limitField
-  dash-end d g = let q = List·getD-eq-default s 0 {n = at + 1} g in rw (eq-eqb (getD s at 0) 45 d, ne-eqb (getD s (at + 1) 0) 10 (λ z. omega arith))
+  dash-end d g = let q = List·getD-eq-default s 0 {n = at + 1} g in rw (eq-eqb (getD s at 0) 45 d, ne-eqb (getD s (at + 1) 0) 44 (λ z. omega arith))
 
-  pub dash-hit : getD s at 0 ≡ 45 → getD s (at + 1) 0 ≡ 10 → Value 255 (at + 2) ≡ limitField s at
+  pub dash-hit : getD s at 0 ≡ 45 → getD s (at + 1) 0 ≡ 44 → Value 255 (at + 2) ≡ limitField s at
   unfolding limitField
-  dash-hit d g = rw (eq-eqb (getD s at 0) 45 d, eq-eqb (getD s (at + 1) 0) 10 g)
+  dash-hit d g = rw (eq-eqb (getD s at 0) 45 d, eq-eqb (getD s (at + 1) 0) 44 g)
 
-  pub dash-miss : getD s at 0 ≡ 45 → (getD s (at + 1) 0 ≡ 10 → ⊥) → Bad ≡ limitField s at
+  pub dash-miss : getD s at 0 ≡ 45 → (getD s (at + 1) 0 ≡ 44 → ⊥) → Bad ≡ limitField s at
   unfolding limitField
-  dash-miss d g = rw (eq-eqb (getD s at 0) 45 d, ne-eqb (getD s (at + 1) 0) 10 g)
+  dash-miss d g = rw (eq-eqb (getD s at 0) 45 d, ne-eqb (getD s (at + 1) 0) 44 g)
 
   pub no-dash : length s ≤ at → getD s at 0 ≡ 45 → ⊥
   no-dash h d = let q = List·getD-eq-default s 0 {n = at} h in omega arith
 
-  pub limit-bad : (getD s at 0 ≡ 45 → ⊥) → field mostDigits 10 s at ≡ Bad → Bad ≡ limitField s at
+  pub limit-bad : (getD s at 0 ≡ 45 → ⊥) → field mostDigits 44 s at ≡ Bad → Bad ≡ limitField s at
   unfolding limitField
   limit-bad d f = rw (ne-eqb (getD s at 0) 45 d, f)
 
-  pub limit-low : (getD s at 0 ≡ 45 → ⊥) → (n next : ℕ) → field mostDigits 10 s at ≡ Value n next → n ≤ 96 → Value n next ≡ limitField s at
+  pub limit-low : (getD s at 0 ≡ 45 → ⊥) → (n next : ℕ) → field mostDigits 44 s at ≡ Value n next → n ≤ 96 → Value n next ≡ limitField s at
   unfolding limitField limitRead
   limit-low d n next f h = rw (ne-eqb (getD s at 0) 45 d, f, le-leb n 96 h)
 
-  pub limit-high : (getD s at 0 ≡ 45 → ⊥) → (n next : ℕ) → field mostDigits 10 s at ≡ Value n next → 96 < n → Value 256 next ≡ limitField s at
+  pub limit-high : (getD s at 0 ≡ 45 → ⊥) → (n next : ℕ) → field mostDigits 44 s at ≡ Value n next → 96 < n → Value 256 next ≡ limitField s at
   unfolding limitField limitRead
   limit-high d n next f h = rw (ne-eqb (getD s at 0) 45 d, f, lt-leb n 96 h)
 
@@ -257,8 +287,14 @@ module _ (s : List ℕ) (at : ℕ) where
     unfolding flightLine
     flight-no-limit p = rw (all-read (separatedAt 5 mostDigits s at) x e, p)
 
-    -- the numbers stand in a row of five entries
-    pub flight-yes : (row₀ row : List ℕ) (limit next : ℕ) → length row₀ ≡ 5 → row ≡ rowAfter (separatedAt 5 mostDigits s at) row₀
-        → limitField s x ≡ Value limit next → Row (flightWith row limit) next ≡ flightLine s at
-    unfolding flightLine
-    flight-yes row₀ row limit next l w p = sym (ap (λ (y : Numbers). thenLimit y (limitField s)) (row-read 5 mostDigits s at row₀ x l e) ∙ rw (p, w))
+    module _ (limit y : ℕ) (p : limitField s x ≡ Value limit y) where
+      pub flight-no-late : field mostDigits 10 s y ≡ Bad → NoRow ≡ flightLine s at
+      unfolding flightLine
+      flight-no-late q = rw (all-read (separatedAt 5 mostDigits s at) x e, p, q)
+
+      -- the numbers stand in a row of five entries
+      pub flight-yes : (row₀ row : List ℕ) (late next : ℕ) → length row₀ ≡ 5 → row ≡ rowAfter (separatedAt 5 mostDigits s at) row₀
+          → field mostDigits 10 s y ≡ Value late next → Row (flightWith row limit late) next ≡ flightLine s at
+      unfolding flightLine
+      flight-yes row₀ row late next l w q =
+          sym (ap (λ (z : Numbers). thenLimit z (limitField s) (field mostDigits 10 s)) (row-read 5 mostDigits s at row₀ x l e) ∙ rw (p, q, w))

@@ -6,6 +6,7 @@ use mathlib.Core.List.{List, [], _∷_, _++_}
 use mathlib.Core.Bool.{Bool, true, not, _&&_, _||_}
 use lib.Dec.{leb}
 use lib.ListN.{length}
+use Rattle.text.specs.Digits.{digits}
 use Rattle.text.specs.Standing.{AllShort}
 use Rattle.day.specs.declared.Flight.{Flight}
 use Rattle.day.specs.Day.{mostPeriods, mostFlights, missing, flightFits}
@@ -40,3 +41,4 @@ limitFits l = leb l 96 || missing l
 pub record Small (f : Flight) : Type 0 where
   pub numbers : AllShort mostDigits (beforeLimit f)
   pub limit : limitFits (f .limit) ≡ true
+  pub late : length (digits (f .late)) ≤ 3

@@ -5,7 +5,7 @@ use mathlib.Core.List.{List, [], _∷_}
 use mathlib.Core.Bool.{Bool, false, cond, _||_}
 use lib.Dec.{leb, eqb}
 use lib.ListN.{getD}
-use Rattle.text.specs.Digits.{lineEnd}
+use Rattle.text.specs.Digits.{comma, lineEnd}
 use Rattle.text.specs.Reading.{field, Numbers, whole, upto, separatedAt, Line, values, noLine, lineAt}
 use Rattle.text.specs.declared.Number.{Number}
 use Rattle.text.specs.declared.Number.the-variants.{Value, Bad}
@@ -35,33 +35,38 @@ abbrev pub withLimit : Number → Number
 withLimit (Value n next) = Value (limitRead n) next
 withLimit Bad = Bad
 
--- the last field: "A missing limit is the single byte `-`" (45), else a number
+-- the limit's field: "A missing limit is the single byte `-`" (45), else a number
 unfoldable pub limitField : List ℕ → ℕ → Number
 limitField s at =
-    cond (eqb (getD s at 0) 45) (cond (eqb (getD s (at + 1) 0) lineEnd) (Value 255 (at + 2)) Bad) (withLimit (field mostDigits lineEnd s at))
+    cond (eqb (getD s at 0) 45) (cond (eqb (getD s (at + 1) 0) comma) (Value 255 (at + 2)) Bad) (withLimit (field mostDigits comma s at))
 
--- the flight of the five numbers before the limit, and the limit
-abbrev pub flightWith : List ℕ → ℕ → Flight
-flightWith numbers limit = record {
+-- the flight of the five numbers before the limit, the limit and the late
+abbrev pub flightWith : List ℕ → ℕ → ℕ → Flight
+flightWith numbers limit late = record {
   number = getD numbers 0 0;
   due = getD numbers 1 0;
   rate = getD numbers 2 0;
   after = getD numbers 3 0;
   jump = getD numbers 4 0;
   limit = limit;
+  late = late;
 }
 
-abbrev pub rowWith : List ℕ → Number → FlightLine
-rowWith numbers (Value limit next) = Row (flightWith numbers limit) next
-rowWith numbers Bad = NoRow
+abbrev pub rowWith : List ℕ → ℕ → Number → FlightLine
+rowWith numbers limit (Value late next) = Row (flightWith numbers limit late) next
+rowWith numbers limit Bad = NoRow
 
-abbrev pub thenLimit : Numbers → (ℕ → Number) → FlightLine
-thenLimit (whole numbers next) limit = rowWith numbers (limit next)
-thenLimit (upto numbers) limit = NoRow
+abbrev pub thenLate : List ℕ → Number → (ℕ → Number) → FlightLine
+thenLate numbers (Value limit next) late = rowWith numbers limit (late next)
+thenLate numbers Bad late = NoRow
+
+abbrev pub thenLimit : Numbers → (limit late : ℕ → Number) → FlightLine
+thenLimit (whole numbers next) limit late = thenLate numbers (limit next) late
+thenLimit (upto numbers) limit late = NoRow
 
 -- a flight line: its flight and the place behind it
 unfoldable pub flightLine : List ℕ → ℕ → FlightLine
-flightLine s at = thenLimit (separatedAt 5 mostDigits s at) (limitField s)
+flightLine s at = thenLimit (separatedAt 5 mostDigits s at) (limitField s) (field mostDigits lineEnd s)
 
 -- "flight number used above"
 unfoldable pub used : ℕ → List Flight → Bool

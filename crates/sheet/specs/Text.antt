@@ -3,7 +3,7 @@
 use Prim.Native.Nat.{ℕ, suc}
 use mathlib.Core.Bool.{cond}
 use mathlib.Core.List.{List, [], _∷_, _++_}
-use Rattle.text.specs.Digits.{ended, separated, line, lineEnd}
+use Rattle.text.specs.Digits.{ended, separated, line, comma, lineEnd}
 use Rattle.day.specs.Day.{Day, missing}
 use Rattle.day.specs.declared.Flight.{Flight}
 use Rattle.day.specs.Flights.{flightsOf}
@@ -12,21 +12,22 @@ use Rattle.day.specs.Flights.{flightsOf}
 unfoldable pub periodNames : List ℕ
 periodNames = 112 ∷ 101 ∷ 114 ∷ 105 ∷ 111 ∷ 100 ∷ 44 ∷ 99 ∷ 97 ∷ 112 ∷ 97 ∷ 99 ∷ 105 ∷ 116 ∷ 121 ∷ 10 ∷ []
 
--- "flight,due,rate,after,jump,limit" and the end byte
+-- "flight,due,rate,after,jump,limit,late" and the end byte: "the names line ends in `limit,late`" (#102)
 unfoldable pub flightNames : List ℕ
 flightNames =
-    102 ∷ 108 ∷ 105 ∷ 103 ∷ 104 ∷ 116 ∷ 44 ∷ 100 ∷ 117 ∷ 101 ∷ 44 ∷ 114 ∷ 97 ∷ 116 ∷ 101 ∷ 44 ∷ 97 ∷ 102 ∷ 116 ∷ 101 ∷ 114 ∷ 44 ∷ 106 ∷ 117 ∷ 109 ∷ 112 ∷ 44 ∷ 108 ∷ 105 ∷ 109 ∷ 105 ∷ 116 ∷ 10 ∷ []
+    102 ∷ 108 ∷ 105 ∷ 103 ∷ 104 ∷ 116 ∷ 44 ∷ 100 ∷ 117 ∷ 101 ∷ 44 ∷ 114 ∷ 97 ∷ 116 ∷ 101 ∷ 44 ∷ 97 ∷ 102 ∷ 116 ∷ 101 ∷ 114 ∷ 44 ∷ 106 ∷ 117 ∷ 109 ∷ 112 ∷ 44 ∷ 108 ∷ 105 ∷ 109 ∷ 105 ∷ 116 ∷ 44 ∷ 108 ∷ 97 ∷ 116 ∷ 101 ∷ 10 ∷ []
 
 -- "A missing limit is the single byte `-`" (45)
 unfoldable pub limitText : ℕ → List ℕ
-limitText l = cond (missing l) (45 ∷ lineEnd ∷ []) (ended lineEnd l)
+limitText l = cond (missing l) (45 ∷ comma ∷ []) (ended comma l)
 
 -- the numbers of a flight line before its limit
 abbrev pub beforeLimit : Flight → List ℕ
 beforeLimit f = f .number ∷ f .due ∷ f .rate ∷ f .after ∷ f .jump ∷ []
 
+-- the "last column `late`" (#102) is never missing
 unfoldable pub flightText : Flight → List ℕ
-flightText f = separated (beforeLimit f) ++ limitText (f .limit)
+flightText f = separated (beforeLimit f) ++ (limitText (f .limit) ++ ended lineEnd (f .late))
 
 unfoldable pub periodText : ℕ → ℕ → List ℕ
 periodText j c = line (j ∷ []) c

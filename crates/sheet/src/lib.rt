@@ -27,6 +27,6 @@ pub const PERIOD_NAMES_LEN: usize = 16;
 pub const PERIOD_NAMES: [u8; PERIOD_NAMES_LEN] = *b"period,capacity\n";
 
 // The second names line.
-pub const FLIGHT_NAMES_LEN: usize = 33;
+pub const FLIGHT_NAMES_LEN: usize = 38;
 
-pub const FLIGHT_NAMES: [u8; FLIGHT_NAMES_LEN] = *b"flight,due,rate,after,jump,limit\n";
+pub const FLIGHT_NAMES: [u8; FLIGHT_NAMES_LEN] = *b"flight,due,rate,after,jump,limit,late\n";

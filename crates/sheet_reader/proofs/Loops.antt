@@ -57,7 +57,7 @@ module _ {s caps : List ℕ} {n at : ℕ} (r : PeriodsRead s caps n at) where
 
     pub some-period : (n ≡ 0 → ⊥)
         → (length caps ≡ mostPeriods)
-        × ((readPeriods mostPeriods s (length periodNames) [] ≡ readFlights mostFlights s (at + 33) (take n caps) []) × ((n ≤ mostPeriods) × (at + 33 ≤ length s)))
+        × ((readPeriods mostPeriods s (length periodNames) [] ≡ readFlights mostFlights s (at + 38) (take n caps) []) × ((n ≤ mostPeriods) × (at + 38 ≤ length s)))
     unfolding named
     some-period z =
         let w = front-length s at flightNames _ (names-front s flightNames at e) in

@@ -29,6 +29,7 @@ use sheet::FlightLine;
 use sheet::PERIOD_NAMES;
 use sheet::PERIOD_NAMES_LEN;
 use sheet::PeriodLine;
+use text::COMMA;
 use text::LINE_END;
 use text::Number;
 use text::Place;
@@ -37,7 +38,7 @@ use text::fixed_at;
 use text::line_at;
 use text::separated_at;
 
-// The last field of a flight line: a dash for a missing limit, or a number.
+// The limit of a flight line: a dash for a missing one, or a number.
 fn limit_at(s: &[u8], at: usize) -> Number
     requires { ⌜ at ≤ length (now s) ⌝ }
     ensures { λ r. ⌜ r ≡ limitField (now (s .entry)) at ⌝ }
@@ -47,7 +48,7 @@ fn limit_at(s: &[u8], at: usize) -> Number
             if s.len() - at <= 1 {
                 return Number::Bad;
             }
-            if s[at + 1] == LINE_END {
+            if s[at + 1] == COMMA {
                 return Number::Value {
                     n: MISSING,
                     next: at + 2,
@@ -56,7 +57,7 @@ fn limit_at(s: &[u8], at: usize) -> Number
             return Number::Bad;
         }
     }
-    let p = field_at(s, at, DIGITS, LINE_END);
+    let p = field_at(s, at, DIGITS, COMMA);
     let Number::Value { n, next } = p else {
         return Number::Bad;
     };
@@ -88,11 +89,19 @@ fn flight_line(s: &[u8], at: usize) -> FlightLine
 {
     let mut numbers = [0u32; 5];
     let p = separated_at(s, at, DIGITS, &mut numbers);
-    let Place::Behind { next: last } = p else {
+    let Place::Behind { next: behind } = p else {
         return FlightLine::NoRow;
     };
-    let l = limit_at(s, last);
-    let Number::Value { n: limit, next } = l else {
+    let l = limit_at(s, behind);
+    let Number::Value {
+        n: limit,
+        next: last,
+    } = l
+    else {
+        return FlightLine::NoRow;
+    };
+    let t = field_at(s, last, DIGITS, LINE_END);
+    let Number::Value { n: late, next } = t else {
         return FlightLine::NoRow;
     };
     FlightLine::Row {
@@ -103,6 +112,7 @@ fn flight_line(s: &[u8], at: usize) -> FlightLine
             after: numbers[3],
             jump: numbers[4],
             limit,
+            late,
         },
         next,
     }

@@ -9,7 +9,7 @@ use mathlib.Core.Bool.{true, false}
 use lib.ListN.{length, getD, take, drop, set, length-append, take-append-drop}
 use lib.Seq.{take-suc, length-take-le}
 use Rattle.answers.specs.declared.Answer.the-variants.{Written, BadDay, BadLength}
-use Rattle.text.specs.Digits.{separated}
+use Rattle.text.specs.Digits.{ended, separated}
 use Rattle.text.specs.Writing.{Put}
 use Rattle.text.proofs.Writing.{placed-zero, then, not-fits, it-fits}
 use Rattle.day.specs.declared.Flight.{Flight}
@@ -17,25 +17,27 @@ use Rattle.day.specs.Day.{Day, N, flightAt, valid}
 use Rattle.day.specs.Flights.{firstFlights, flightsOf}
 use Rattle.sheet.specs.Text.{periodNames, flightNames, limitText, periodText, beforeLimit, flightText, periodsText, flightsText, sheetText, sheetOf}
 use Rattle.sheet.proofs.Lines.{text-missing}
-use Rattle.sheet.proofs.Grammar.{periods-snoc, flights-snoc, length-top, length-names}
+use Rattle.sheet.proofs.Grammar.{periods-snoc, flights-snoc, length-top, length-names, flight-length}
 use Rattle.sheet_writer.specs.Write.{writeAnswer, writeAfter}
 
 -- the limit's field
 
-pub put-dash : (o : List ℕ) (l : ℕ) → l ≡ 255 → length (limitText l) ≤ length o → Put o 0 (limitText l) 2 (set (set o 0 45) 1 10)
+pub put-dash : (o : List ℕ) (l : ℕ) → l ≡ 255 → length (limitText l) ≤ length o → Put o 0 (limitText l) 2 (set (set o 0 45) 1 44)
 put-dash o l e h = rw (text-missing l e) (go o (rw (text-missing l e) at h))
   where
-    go : (o : List ℕ) → 2 ≤ length o → Put o 0 (45 ∷ 10 ∷ []) 2 (set (set o 0 45) 1 10)
+    go : (o : List ℕ) → 2 ≤ length o → Put o 0 (45 ∷ 44 ∷ []) 2 (set (set o 0 45) 1 44)
     go [] h = absurd (omega arith)
     go (x ∷ []) h = absurd (omega arith)
-    go (x ∷ y ∷ o) h = record { place = refl; bytes = sym (placed-zero (x ∷ y ∷ o) (45 ∷ 10 ∷ [])) }
+    go (x ∷ y ∷ o) h = record { place = refl; bytes = sym (placed-zero (x ∷ y ∷ o) (45 ∷ 44 ∷ [])) }
 
 -- one line
 
-pub flight-put : {o o1 o2 : List ℕ} {a r : ℕ} (f : Flight) → length (flightText f) ≤ length o → Put o 0 (separated (beforeLimit f)) a o1
-    → Put o1 a (limitText (f .limit)) r o2 → Put o 0 (flightText f) r o2
+pub flight-put : {o o1 o2 o3 : List ℕ} {a b r : ℕ} (f : Flight) → length (flightText f) ≤ length o → Put o 0 (separated (beforeLimit f)) a o1
+    → Put o1 a (limitText (f .limit)) b o2 → Put o2 b (ended 10 (f .late)) r o3 → Put o 0 (flightText f) r o3
 unfolding flightText
-flight-put f h d e = then (omega (arith, length-append (separated (beforeLimit f)) (limitText (f .limit)))) d e
+flight-put f h p q t =
+    let l = flight-length f in
+    rw append-assoc at (then (simp length-append (omega arith)) (then (omega arith) p q) t)
 
 -- one line more
 
@@ -85,7 +87,7 @@ no-flights row = refl
 
 -- the whole
 
-length-sheet : (caps : List ℕ) (fs : List Flight) → length (sheetText caps fs) ≡ length (periodsText 1 caps) + length (flightsText fs) + 49
+length-sheet : (caps : List ℕ) (fs : List Flight) → length (sheetText caps fs) ≡ length (periodsText 1 caps) + length (flightsText fs) + 54
 unfolding sheetText
 length-sheet caps fs = simp length-append (omega (arith, length-top, length-names))
 
@@ -124,7 +126,7 @@ module _ (d : Day) (buffer : List ℕ) (place : ℕ) where
 
 -- what the writer's lines sum up to
 pub needed-is : (d : Day) {p f : ℕ} → p ≡ length (periodsText 1 (d .capacities)) → f ≡ length (flightsText (firstFlights (N d) (d .flights)))
-    → p + f + 49 ≡ length (sheetOf d)
+    → p + f + 54 ≡ length (sheetOf d)
 unfolding sheetOf flightsOf
 needed-is d e g = omega (arith, length-sheet (d .capacities) (firstFlights (N d) (d .flights)), e, g)
 

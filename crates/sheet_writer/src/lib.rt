@@ -19,6 +19,7 @@ use sheet::FLIGHT_NAMES;
 use sheet::FLIGHT_NAMES_LEN;
 use sheet::PERIOD_NAMES;
 use sheet::PERIOD_NAMES_LEN;
+use text::COMMA;
 use text::LINE_END;
 use text::line_len;
 use text::number_len;
@@ -26,23 +27,24 @@ use text::put_fixed;
 use text::put_fixed_at;
 use text::put_line_at;
 use text::put_number;
+use text::put_number_at;
 use text::put_separated;
 use text::separated_len;
 
 // Both names lines together.
 const NAMES_LEN: usize = PERIOD_NAMES_LEN + FLIGHT_NAMES_LEN;
 
-// The last field of a flight line, at the front of out.
+// The limit of a flight line, at the front of out.
 fn put_limit(out: &mut [u8], limit: u32) -> usize
     requires { ⌜ length (limitText limit) ≤ length (now out) ⌝ }
     ensures { λ r. ⌜ Put (now (out .entry)) 0 (limitText limit) r (now (out .exit)) ⌝ }
 {
     if limit == MISSING {
         out[0] = DASH;
-        out[1] = LINE_END;
+        out[1] = COMMA;
         return 2;
     }
-    put_number(out, wide(limit), LINE_END)
+    put_number(out, wide(limit), COMMA)
 }
 
 fn limit_len(limit: u32) -> usize
@@ -67,8 +69,8 @@ fn values_of(f: Flight) -> [usize; 5]
     ]
 }
 
-// The limit's field from `at` on: the part that starts there is lent on.
-fn put_last(out: &mut [u8], at: usize, limit: u32) -> usize
+// The limit from `at` on: the part that starts there is lent on.
+fn put_limit_at(out: &mut [u8], at: usize, limit: u32) -> usize
     requires { ⌜ at + length (limitText limit) ≤ length (now out) ⌝ }
     ensures { λ r. ⌜ Put (now (out .entry)) at (limitText limit) r (now (out .exit)) ⌝ }
 {
@@ -83,14 +85,15 @@ fn put_flight(out: &mut [u8], f: Flight) -> usize
 {
     let values = values_of(f);
     let at = put_separated(out, &values);
-    put_last(out, at, f.limit)
+    let last = put_limit_at(out, at, f.limit);
+    put_number_at(out, last, wide(f.late), LINE_END)
 }
 
 fn flight_len(f: Flight) -> usize
-    ensures { λ r. ⌜ (r ≡ length (flightText f)) × (r ≤ 126) ⌝ }
+    ensures { λ r. ⌜ (r ≡ length (flightText f)) × (r ≤ 147) ⌝ }
 {
     let values = values_of(f);
-    separated_len(&values) + limit_len(f.limit)
+    separated_len(&values) + limit_len(f.limit) + number_len(wide(f.late))
 }
 
 // A flight line from `at` on.
@@ -159,7 +162,7 @@ fn put_flights(out: &mut [u8], start: usize, flights: &[u32], n: usize) -> usize
 
 fn flights_len(flights: &[u32], n: usize) -> usize
     requires { ⌜ (n ≤ mostFlights) × (n * width ≤ length (now flights)) ⌝ }
-    ensures { λ r. ⌜ (r ≡ length (flightsText (firstFlights n (now (flights .entry))))) × (r ≤ 16128) ⌝ }
+    ensures { λ r. ⌜ (r ≡ length (flightsText (firstFlights n (now (flights .entry))))) × (r ≤ 18816) ⌝ }
 {
     let mut sum: usize = 0;
     let mut i: usize = 0;

@@ -8,7 +8,7 @@ ghost use Rattle.text.specs.Fixed.{startsWith, refusalNames, refusalText
 ghost use Rattle.text.specs.Writing.{Put, textAnswer, textAfter};
 use answers::Answer;
 
-const COMMA: u8 = b',';
+pub const COMMA: u8 = b',';
 
 pub const LINE_END: u8 = 10;
 

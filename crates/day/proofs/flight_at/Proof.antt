@@ -1,4 +1,4 @@
--- The six entries of the row. Assumes nothing.
+-- An entry of the row for each column. Assumes nothing.
 use native.Mathlib.Omega.{arith}
 use Prim.Native.Nat.{_+_, _*_}
 use mathlib.Core.Path.{_≡_}
@@ -61,11 +61,20 @@ mul-t24 c = search needs
 shared-slice-read-t26 : tie.Need-shared-slice-read-t26
 shared-slice-read-t26 c = search needs
 
+add-t27 : tie.Need-add-t27
+add-t27 c = search needs
+
+mul-t28 : tie.Need-mul-t28
+mul-t28 c = search needs
+
+shared-slice-read-t30 : tie.Need-shared-slice-read-t30
+shared-slice-read-t30 c = search needs
+
 returns : tie.Need-returns
 unfolding flightAt
 returns c =
-    let at-shared-slice-known = c .before .before .before .before .before in
-    let at-start = at-shared-slice-known .before in
+    let at-mul = c .before .before .before .before .before in
+    let at-start = at-mul .before .before in
     let e : at-start .args .i * width + 0 ≡ at-start .args .i * width = omega arith in rw e
 
 pub flight-at-spec : {M : Type 1} → statement M
@@ -90,4 +99,7 @@ flight-at-spec =
     add-t23
     mul-t24
     shared-slice-read-t26
+    add-t27
+    mul-t28
+    shared-slice-read-t30
     returns)

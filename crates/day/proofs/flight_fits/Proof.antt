@@ -1,4 +1,4 @@
--- The tests of the six numbers, joined in the order of the definition. Assumes nothing.
+-- The tests of the seven numbers, joined in the order of the definition. Assumes nothing.
 use Rattle.day.specs.Day.{flightFits}
 use borrow.Author.Needs.{needs}
 use Rattle.day.proofs.flight_fits.Statement.{statement}
@@ -40,17 +40,22 @@ limit-fits-requires c κs = search needs
 both-requires-5 : tie.Need-both-requires-5
 both-requires-5 c κs = search needs
 
+both-requires-6 : tie.Need-both-requires-6
+both-requires-6 c κs = search needs
+
 returns : tie.Need-returns
 unfolding flightFits
 returns c =
-    let jumped = c .before .before in
+    let limited = c .before .before in
+    let jumped = limited .before .before in
     let after = jumped .before .before in
     let rated = after .before .before in
     let named = rated .before .before .before in
     let due = named .before in
     let numbered = due .before .before in
     rw (
-      c .both5 .ensures,
+      c .both6 .ensures,
+      limited .both5 .ensures,
       jumped .both4 .ensures,
       after .both3 .ensures,
       rated .both2 .ensures,
@@ -61,7 +66,7 @@ returns c =
       due .before .wide2 .ensures,
       numbered .is-inside .ensures,
       numbered .before .wide .ensures,
-      c .before .limit-fits .ensures,
+      limited .before .limit-fits .ensures,
     )
 
 pub flight-fits-spec : {M : Type 1} → statement M
@@ -80,4 +85,5 @@ flight-fits-spec =
     both-requires-4
     limit-fits-requires
     both-requires-5
+    both-requires-6
     returns)

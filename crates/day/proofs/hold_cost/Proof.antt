@@ -1,5 +1,7 @@
--- The jump counts exactly where the hold is above `after`; a product of two numbers of 32 bits and one more fit 64. Assumes nothing.
+-- The jump counts exactly where late and hold together are above `after`; a product of two numbers of 32 bits and one more fit 64.
+-- Assumes nothing.
 use native.Mathlib.Omega.{arith}
+use Prim.Native.Nat.{_+_}
 use Rattle.day.specs.Day.{holdCost}
 use Rattle.day.proofs.Costs.{product-fits}
 use Rattle.assignment.proofs.Tests.{gate-lt, gate-ge}
@@ -19,18 +21,40 @@ wide-requires-2 c κs = search needs
 wide-requires-3 : tie.Need-wide-requires-3
 wide-requires-3 c κs = search needs
 
+add-if1 : tie.Need-add-if1
+add-if1 c = search needs
+
+wide-requires-4 : tie.Need-wide-requires-4
+wide-requires-4 c κs = search needs
+
 add-result : tie.Need-add-result
-add-result c = let s = c .before .before .before .before in rw (c .before .before .before .wide .ensures, c .wide3 .ensures) (omega (arith, product-fits (s .args .f .rate) (s .args .hold) (s .args .f .jump) (omega arith) (s .pre) (omega arith)))
+add-result c =
+    let rated = c .before .before .before .before in
+    let s = rated .before in
+    rw (rated .wide .ensures, c .wide4 .ensures)
+    (omega (arith, product-fits (s .args .f .rate) (s .args .hold) (s .args .f .jump) (omega arith) (s .pre) (omega arith)))
 
 returns : tie.Need-returns
 unfolding holdCost
-returns c = let s = c .before .before .before .before .args in rw (c .before .before .before .wide .ensures, c .wide3 .ensures) (omega (arith, gate-lt (s .f .after) (s .hold) (s .f .jump) (rw (c .before .before .wide2 .ensures) at (c .before .if1 .taken))))
+returns c =
+    let lated = c .before .before in
+    let aftered = lated .before in
+    let rated = aftered .before in
+    let a = rated .before .args in
+    let over = rw (aftered .wide2 .ensures, lated .wide3 .ensures) at (c .before .if1 .taken) in
+    rw (rated .wide .ensures, c .wide4 .ensures) (omega (arith, gate-lt (a .f .after) (a .f .late + a .hold) (a .f .jump) over))
 
 returns-2 : tie.Need-returns-2
 unfolding holdCost
-returns-2 c = let s = c .before .before .before .args in rw (c .before .before .wide .ensures) (omega (arith, gate-ge (s .f .after) (s .hold) (s .f .jump) (rw (c .before .wide2 .ensures) at (c .if1 .left))))
+returns-2 c =
+    let lated = c .before in
+    let aftered = lated .before in
+    let rated = aftered .before in
+    let a = rated .before .args in
+    let under = rw (aftered .wide2 .ensures, lated .wide3 .ensures) at (c .if1 .left) in
+    rw (rated .wide .ensures) (omega (arith, gate-ge (a .f .after) (a .f .late + a .hold) (a .f .jump) under))
 
 pub hold-cost-spec : {M : Type 1} → statement M
 hold-cost-spec =
     tie.close
-    (tie.spec wide-requires mul-run wide-requires-2 wide-requires-3 add-result returns returns-2)
+    (tie.spec wide-requires mul-run wide-requires-2 wide-requires-3 add-if1 wide-requires-4 add-result returns returns-2)

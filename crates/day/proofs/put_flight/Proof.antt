@@ -1,4 +1,4 @@
--- Six stores. Assumes nothing.
+-- A store for each column. Assumes nothing.
 use native.Mathlib.Omega.{arith}
 use Rattle.day.proofs.Flights.{stored}
 use lib.ListN.{length-set}
@@ -60,6 +60,15 @@ mul-flights-6 c = search needs
 slice-write-flights-6 : tie.Need-slice-write-flights-6
 slice-write-flights-6 c = simp length-set (omega arith)
 
+add-flights-6 : tie.Need-add-flights-6
+add-flights-6 c = search needs
+
+mul-flights-7 : tie.Need-mul-flights-7
+mul-flights-7 c = search needs
+
+slice-write-flights-7 : tie.Need-slice-write-flights-7
+slice-write-flights-7 c = simp length-set (omega arith)
+
 same-length : tie.Need-same-length
 same-length c = search needs
 
@@ -88,5 +97,8 @@ put-flight-spec =
     add-flights-5
     mul-flights-6
     slice-write-flights-6
+    add-flights-6
+    mul-flights-7
+    slice-write-flights-7
     same-length
     returns)

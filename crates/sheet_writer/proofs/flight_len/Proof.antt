@@ -1,4 +1,4 @@
--- The line's length is that of its two parts.
+-- The line's length is that of its three parts.
 use Rattle.sheet.proofs.Grammar.{flight-length}
 use native.Mathlib.Omega.{arith}
 use borrow.Author.Needs.{needs}
@@ -20,11 +20,25 @@ limit-len-requires c κs = search needs
 add-result : tie.Need-add-result
 add-result c = search needs
 
+wide-requires : tie.Need-wide-requires
+wide-requires c κs = search needs
+
+number-len-requires : tie.Need-number-len-requires
+number-len-requires c κs = search needs
+
+add-result-2 : tie.Need-add-result-2
+add-result-2 c = search needs
+
 returns : tie.Need-returns
 returns c =
-    let v = c .before .before .before in
-    let s = rw (v .values-of .ensures) at (c .before .separated-len .ensures) in
-    (omega (arith, flight-length (v .before .args .f), s .0, c .limit-len .ensures .0), omega (arith, s .1, c .limit-len .ensures .1))
+    let limited = c .before .before in
+    let summed = limited .before in
+    let v = summed .before .before in
+    let n = rw (v .values-of .ensures) at (summed .separated-len .ensures) in
+    let t = rw (c .before .wide .ensures) at (c .number-len .ensures) in (
+      omega (arith, flight-length (v .before .args .f), n .0, limited .limit-len .ensures .0, t .1),
+      omega (arith, n .1, limited .limit-len .ensures .1, t .2),
+    )
 
 pub flight-len-spec : {M : Type 1} → statement M
 flight-len-spec =
@@ -35,4 +49,7 @@ flight-len-spec =
     separated-len-requires
     limit-len-requires
     add-result
+    wide-requires
+    number-len-requires
+    add-result-2
     returns)

@@ -11,7 +11,7 @@ use Rattle.sheet_writer.proofs.flights_len.Statement.{statement}
 use Rattle.sheet_writer.proofs.flights_len.Tie as tie
 
 abbrev Inv-loop : tie.InvT-loop
-Inv-loop flights n sum₀ i₀ sum i = (i ≤ n) × (sum ≡ length (flightsText (firstFlights i flights))) × (sum ≤ 126 * i)
+Inv-loop flights n sum₀ i₀ sum i = (i ≤ n) × (sum ≡ length (flightsText (firstFlights i flights))) × (sum ≤ 147 * i)
 
 abbrev μ-loop : tie.MeasureT-loop
 μ-loop flights n sum₀ i₀ sum i = n - i

@@ -20,7 +20,7 @@ returns-2 : tie.Need-returns-2
 returns-2 c =
     let s = c .before .before .before in
     let e = rw (c .before .wide .ensures) at (c .number-len .ensures) in
-    (e .1 ∙ sym (ap length (text-number (s .args .limit) (c .before .before .if1 .left))), e .2)
+    (e .0 ∙ sym (ap length (text-number (s .args .limit) (c .before .before .if1 .left))), e .2)
 
 pub limit-len-spec : {M : Type 1} → statement M
 limit-len-spec = tie.close (tie.spec returns wide-requires number-len-requires returns-2)

@@ -30,7 +30,7 @@ passed c = sym (c .before .is-valid .ensures) ∙ not-false _ (c .if1 .left)
 
 -- the length needed
 abbrev lines : tie.After-flights-len → ℕ
-lines c = c .before .periods-len .result + c .flights-len .result + 49
+lines c = c .before .periods-len .result + c .flights-len .result + 54
 
 needed : (c : tie.After-flights-len) → lines c ≡ length (sheetOf (the-day (check c .before)))
 needed c = needed-is (the-day (check c .before)) (c .before .periods-len .ensures .0) (rw (c .before .before .flight-count .ensures) at (c .flights-len .ensures .0))

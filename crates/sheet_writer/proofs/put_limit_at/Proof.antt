@@ -1,8 +1,8 @@
 -- The part lent on is the rest of the buffer.
 use Rattle.text.proofs.Writing.{lent}
 use borrow.Author.Needs.{needs}
-use Rattle.sheet_writer.proofs.put_last.Statement.{statement}
-use Rattle.sheet_writer.proofs.put_last.Tie as tie
+use Rattle.sheet_writer.proofs.put_limit_at.Statement.{statement}
+use Rattle.sheet_writer.proofs.put_limit_at.Tie as tie
 
 sub-put-limit : tie.Need-sub-put-limit
 sub-put-limit c = search needs
@@ -25,8 +25,8 @@ same-length c = search needs
 returns : tie.Need-returns
 returns c = lent _ _ _ _ _ (c .before .before .before .before .before .pre) (c .before .before .put-limit .ensures)
 
-pub put-last-spec : {M : Type 1} → statement M
-put-last-spec =
+pub put-limit-at-spec : {M : Type 1} → statement M
+put-limit-at-spec =
     tie.close
     (tie.spec
     sub-put-limit
