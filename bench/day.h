@@ -34,7 +34,8 @@ enum Field {
     RATE = HOLD_DESK_RATE,
     AFTER = HOLD_DESK_AFTER,
     JUMP = HOLD_DESK_JUMP,
-    LIMIT = HOLD_DESK_LIMIT
+    LIMIT = HOLD_DESK_LIMIT,
+    LATE = HOLD_DESK_LATE
 };
 
 inline double seconds_since(Clock::time_point start) { return std::chrono::duration<double>(Clock::now() - start).count(); }
@@ -131,7 +132,7 @@ struct Network {
             if (day.field(i, LIMIT) != MISSING) last = std::min(last, due + day.field(i, LIMIT));
             for (size_t k = due; k <= last; k++) {
                 int hold = int(k - due);
-                int jump = hold > int(day.field(i, AFTER)) ? int(day.field(i, JUMP)) : 0;
+                int jump = int(day.field(i, LATE)) + hold > int(day.field(i, AFTER)) ? int(day.field(i, JUMP)) : 0;
                 add(flight, at[k - 1], 1, int(day.field(i, RATE)) * hold + jump);
             }
         }

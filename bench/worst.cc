@@ -83,7 +83,8 @@ static void move(Day &day, Random &random)
     switch (below(random, 20)) {
     case 0: case 1: case 2: case 3: day.capacities[below(random, periods)] = some_capacity(random); break;
     case 4: case 5: day.field(i, RATE) = 1 + below(random, 10000); break;
-    case 6: case 7: day.field(i, AFTER) = below(random, 97); break;
+    case 6: day.field(i, AFTER) = below(random, 97); break;
+    case 7: day.field(i, LATE) = below(random, 97); break;
     case 8: case 9: day.field(i, JUMP) = some_jump(random); break;
     case 10: case 11: day.field(i, LIMIT) = some_limit(random); break;
     case 12: case 13: day.field(i, DUE) = 1 + below(random, periods); break;
@@ -101,7 +102,7 @@ static Day made_day(Random &random, const std::string &name, bool closed)
     Day day;
     day.name = name;
     for (size_t k = 0; k < MOST_PERIODS; k++) day.capacities.push_back(!closed ? 1 : below(random, 8) == 0 ? 1 + below(random, 20) : 0);
-    for (uint32_t i = 1; i <= MOST_FLIGHTS; i++) day.flights.insert(day.flights.end(), {i, 1, 1 + below(random, 10000), below(random, 97), some_jump(random), MISSING});
+    for (uint32_t i = 1; i <= MOST_FLIGHTS; i++) day.flights.insert(day.flights.end(), {i, 1, 1 + below(random, 10000), below(random, 97), some_jump(random), MISSING, 0});
     for (size_t i = 0; i < MOST_FLIGHTS; i++) day.field(i, DUE) = 1 + below(random, 1u << below(random, 4));
     day.fit();
     return day;

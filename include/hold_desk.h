@@ -1,8 +1,8 @@
 /* The planning core of a hold desk.
  *
  * THE DAY. A day has P periods, numbered from 1, and N flights. Period P+1 is the closing period: it takes any number of
- * flights. In memory a day is two rows of 32-bit numbers: one capacity for each period, and six numbers for each flight. A
- * flight's table place is its place in the row of flights, counted from 0.
+ * flights. In memory a day is two rows of 32-bit numbers: one capacity for each period, and seven numbers for each flight.
+ * A flight's table place is its place in the row of flights, counted from 0.
  *
  *    periods    how many capacities there are                                         1 to 96
  *    capacity   how many flights may land in the period                               0 to 255
@@ -10,14 +10,16 @@
  *    number     the flight's number; no two flights have the same                     1 to 9,999
  *    due        the period in which it is to land if it is not held                   1 to P
  *    rate       what each period of hold costs                                        1 to 10,000
- *    after      the longest hold that does not cost the jump                          0 to 96
- *    jump       what a hold longer than that costs besides, once; 0 for nothing       0 to 1,000,000
+ *    after      the longest delay (late + hold) that does not cost the jump           0 to 96
+ *    jump       what a delay longer than that costs besides, once; 0 for nothing      0 to 1,000,000
  *    limit      the longest hold that is allowed, or HOLD_DESK_NO_LIMIT               0 to 96, or 255
+ *    late       the delay that the aircraft brings from its earlier leg, in periods   0 to 255
  *
  * HOLDS AND COSTS. A hold row has one entry for each flight: how many periods it is held. A flight with hold h lands in period
- * due + h. It costs rate * h, and jump besides if h > after. The total is the sum over all flights; it is never above
- * 250,880,000. A hold row is legal if no flight lands after P+1, no hold is over its limit, and no period from 1 to P has more
- * landings than its capacity. A price row has one entry for each period from 1 to P; the closing period's price is 0.
+ * due + h, whatever its late is. It costs rate * h, and jump besides if late + h > after, so that a flight with hold 0 may cost
+ * its jump. The total is the sum over all flights; it is never above 250,880,000. A hold row is legal if no flight lands after
+ * P+1, no hold is over its limit, and no period from 1 to P has more landings than its capacity. A price row has one entry for
+ * each period from 1 to P; the closing period's price is 0.
  *
  * ROWS. A row or a buffer is a pointer and its number of entries. Every call takes rows of any content and any length, always
  * returns, and keeps nothing. What the caller answers for:
@@ -58,21 +60,22 @@ extern "C" {
 
 #define HOLD_DESK_MOST_PERIODS 96         /* entries of the capacity row that the reader is lent */
 #define HOLD_DESK_MOST_FLIGHTS 128        /* enough for every hold row and every board */
-#define HOLD_DESK_FLIGHT_WIDTH 6          /* numbers for each flight, in the order of enum hold_desk_field */
+#define HOLD_DESK_FLIGHT_WIDTH 7          /* numbers for each flight, in the order of enum hold_desk_field */
 #define HOLD_DESK_FLIGHT_ROW (HOLD_DESK_MOST_FLIGHTS * HOLD_DESK_FLIGHT_WIDTH)   /* entries of the flight row that the reader is lent */
 #define HOLD_DESK_NO_LIMIT 255            /* a missing limit */
 #define HOLD_DESK_MOST_SHEET_BYTES 8192   /* no longer sheet is read; no day's sheet is longer */
 #define HOLD_DESK_MOST_PLAN_BYTES 2859    /* no plan's text is longer */
 #define HOLD_DESK_MOST_TOTAL 250880000    /* no total is greater, and no price of the full plan */
 
-/* A flight's six numbers: the due period of the flight at table place i is flights[i * HOLD_DESK_FLIGHT_WIDTH + HOLD_DESK_DUE]. */
+/* A flight's seven numbers: the due period of the flight at table place i is flights[i * HOLD_DESK_FLIGHT_WIDTH + HOLD_DESK_DUE]. */
 enum hold_desk_field {
     HOLD_DESK_FLIGHT_NUMBER = 0,
     HOLD_DESK_DUE = 1,
     HOLD_DESK_RATE = 2,
     HOLD_DESK_AFTER = 3,
     HOLD_DESK_JUMP = 4,
-    HOLD_DESK_LIMIT = 5
+    HOLD_DESK_LIMIT = 5,
+    HOLD_DESK_LATE = 6
 };
 
 /* An answer's number: accepted, or which refusal. */
@@ -94,7 +97,7 @@ enum hold_desk_refusal {
 typedef struct { uint64_t number, first, second; } hold_desk_answer;
 typedef struct { uint64_t number, first, second, low, high, size; } hold_desk_card;
 
-/* Reads a day sheet. capacities must have 96 entries and flights 768; those past the day keep their values.
+/* Reads a day sheet. capacities must have 96 entries and flights 896; those past the day keep their values.
  * Accepted: 0 with P and N. Refusals 7, 1, 2, 3, 4, 5. */
 hold_desk_answer hold_desk_read_sheet(const uint8_t *sheet, size_t sheet_len,
                                       uint32_t *capacities, size_t capacities_len,

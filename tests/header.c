@@ -53,13 +53,13 @@ static void expect_marked(const char *what, const uint32_t *row, size_t from, si
 /* Case B of document 01: its sheet, its rows, its plan. */
 static const char SHEET[] =
     "period,capacity\n1,1\n2,1\n"
-    "flight,due,rate,after,jump,limit\n11,1,10,0,0,-\n12,1,4,0,0,-\n13,2,6,0,0,1\n";
+    "flight,due,rate,after,jump,limit,late\n11,1,10,0,0,-,0\n12,1,4,0,0,-,0\n13,2,6,0,0,1,0\n";
 static const char PLAN[] = "flight,due,lands,hold,cost\n11,1,1,0,0\n12,1,3,2,8\n13,2,2,0,0\ntotal\n8\n";
 static const uint32_t CAPACITIES[] = { 1, 1 };
 static const uint32_t FLIGHTS[] = {
-    11, 1, 10, 0, 0, HOLD_DESK_NO_LIMIT,
-    12, 1, 4, 0, 0, HOLD_DESK_NO_LIMIT,
-    13, 2, 6, 0, 0, 1
+    11, 1, 10, 0, 0, HOLD_DESK_NO_LIMIT, 0,
+    12, 1, 4, 0, 0, HOLD_DESK_NO_LIMIT, 0,
+    13, 2, 6, 0, 0, 1, 0
 };
 static const uint32_t HOLDS[] = { 0, 2, 0 };
 enum { P = 2, N = 3, ENTRIES = N * HOLD_DESK_FLIGHT_WIDTH };
@@ -74,8 +74,10 @@ static void reading(void)
     static uint32_t c[HOLD_DESK_MOST_PERIODS + 1], f[HOLD_DESK_FLIGHT_ROW + 1];
     static uint8_t longest[HOLD_DESK_MOST_SHEET_BYTES + 1];
     const size_t cn = HOLD_DESK_MOST_PERIODS, fn = HOLD_DESK_FLIGHT_ROW;
-    const char *bad_line = "period,capacity\n1,01\n", *bad_range = "period,capacity\n1,256\n", *no_period = "period,capacity\nflight,due,rate,after,jump,limit\n";
-    const char *used = "period,capacity\n1,1\nflight,due,rate,after,jump,limit\n5,1,1,0,0,-\n5,1,1,0,0,-\n";
+    const char *bad_line = "period,capacity\n1,01\n", *bad_range = "period,capacity\n1,256\n", *no_period = "period,capacity\nflight,due,rate,after,jump,limit,late\n";
+    const char *used = "period,capacity\n1,1\nflight,due,rate,after,jump,limit,late\n5,1,1,0,0,-,0\n5,1,1,0,0,-,0\n";
+    const char *old_form = "period,capacity\n1,1\nflight,due,rate,after,jump,limit\n5,1,1,0,0,-\n";
+    const char *late_256 = "period,capacity\n1,1\nflight,due,rate,after,jump,limit,late\n5,1,1,0,0,-,256\n";
     memset(longest, '1', sizeof longest);
     mark(c, cn + 1);
     mark(f, fn + 1);
@@ -86,7 +88,9 @@ static void reading(void)
     expect_answer("read_sheet of nothing", hold_desk_read_sheet(NULL, 0, c, cn, f, fn), HOLD_DESK_BAD_LINE, 0, 0);
     expect_answer("read_sheet of a leading zero", hold_desk_read_sheet(bytes(bad_line), strlen(bad_line), c, cn, f, fn), HOLD_DESK_BAD_LINE, 16, 0);
     expect_answer("read_sheet of capacity 256", hold_desk_read_sheet(bytes(bad_range), strlen(bad_range), c, cn, f, fn), HOLD_DESK_OUT_OF_RANGE, 16, 0);
-    expect_answer("read_sheet of a number used above", hold_desk_read_sheet(bytes(used), strlen(used), c, cn, f, fn), HOLD_DESK_NUMBER_USED, 65, 0);
+    expect_answer("read_sheet of a number used above", hold_desk_read_sheet(bytes(used), strlen(used), c, cn, f, fn), HOLD_DESK_NUMBER_USED, 72, 0);
+    expect_answer("read_sheet without the column late", hold_desk_read_sheet(bytes(old_form), strlen(old_form), c, cn, f, fn), HOLD_DESK_BAD_LINE, 20, 0);
+    expect_answer("read_sheet of late 256", hold_desk_read_sheet(bytes(late_256), strlen(late_256), c, cn, f, fn), HOLD_DESK_OUT_OF_RANGE, 58, 0);
     expect_answer("read_sheet without a period", hold_desk_read_sheet(bytes(no_period), strlen(no_period), c, cn, f, fn), HOLD_DESK_BAD_COUNT, 16, 0);
     expect_marked("read_sheet's refusals change the capacity row", c, 0, cn + 1);
     expect_marked("read_sheet's refusals change the flight row", f, 0, fn + 1);
@@ -95,7 +99,7 @@ static void reading(void)
     expect_row("read_sheet's flights", f, FLIGHTS, ENTRIES);
     expect_marked("read_sheet changes capacities past the day", c, P, cn + 1);
     expect_marked("read_sheet changes flights past the day", f, ENTRIES, fn + 1);
-    expect("the fields' names", f[HOLD_DESK_FLIGHT_WIDTH + HOLD_DESK_FLIGHT_NUMBER] == 12 && f[HOLD_DESK_FLIGHT_WIDTH + HOLD_DESK_DUE] == 1 && f[HOLD_DESK_FLIGHT_WIDTH + HOLD_DESK_RATE] == 4 && f[HOLD_DESK_FLIGHT_WIDTH + HOLD_DESK_AFTER] == 0 && f[HOLD_DESK_FLIGHT_WIDTH + HOLD_DESK_JUMP] == 0 && f[HOLD_DESK_FLIGHT_WIDTH + HOLD_DESK_LIMIT] == HOLD_DESK_NO_LIMIT);
+    expect("the fields' names", f[HOLD_DESK_FLIGHT_WIDTH + HOLD_DESK_FLIGHT_NUMBER] == 12 && f[HOLD_DESK_FLIGHT_WIDTH + HOLD_DESK_DUE] == 1 && f[HOLD_DESK_FLIGHT_WIDTH + HOLD_DESK_RATE] == 4 && f[HOLD_DESK_FLIGHT_WIDTH + HOLD_DESK_AFTER] == 0 && f[HOLD_DESK_FLIGHT_WIDTH + HOLD_DESK_JUMP] == 0 && f[HOLD_DESK_FLIGHT_WIDTH + HOLD_DESK_LIMIT] == HOLD_DESK_NO_LIMIT && f[HOLD_DESK_FLIGHT_WIDTH + HOLD_DESK_LATE] == 0);
 }
 
 /* The text stands in the buffer from place 3 on, and nothing else is changed; or nothing is changed. */
@@ -153,7 +157,7 @@ static void quick(void)
 static void full(void)
 {
     uint32_t holds[N], prices[P];
-    const uint32_t one[] = { 1 }, stuck[] = { 1, 1, 1, 0, 0, 0, 2, 1, 1, 0, 0, 0 }, low[] = { 7, 4 }, right[] = { 8, 4 };
+    const uint32_t one[] = { 1 }, stuck[] = { 1, 1, 1, 0, 0, 0, 0, 2, 1, 1, 0, 0, 0, 0 }, low[] = { 7, 4 }, right[] = { 8, 4 };
     mark(holds, N);
     mark(prices, P);
     expect_answer("full_plan of a bad day", hold_desk_full_plan(CAPACITIES, P, FLIGHTS, ENTRIES - 1, holds, N, prices, P), HOLD_DESK_BAD_DAY, 0, 0);
@@ -172,13 +176,32 @@ static void full(void)
     expect("price_check of a bad day", !hold_desk_price_check(CAPACITIES, P, FLIGHTS, ENTRIES - 1, HOLDS, N, right, P));
 }
 
+/* One place, and two flights that differ in number and late alone: the one that is later lands first. A flight that is late by
+ * more than its after costs its jump with hold 0. */
+static void delays(void)
+{
+    const uint32_t one[] = { 1 }, second_later[] = { 1, 0 }, first_later[] = { 0, 1 };
+    uint32_t flights[] = { 1, 1, 1, 1, 5, HOLD_DESK_NO_LIMIT, 0, 2, 1, 1, 1, 5, HOLD_DESK_NO_LIMIT, 1 }, holds[2], prices[1];
+    expect_answer("full_plan of lates 0 and 1", hold_desk_full_plan(one, 1, flights, 2 * HOLD_DESK_FLIGHT_WIDTH, holds, 2, prices, 1), HOLD_DESK_ACCEPTED, 1, 0);
+    expect_row("full_plan's holds of lates 0 and 1", holds, second_later, 2);
+    flights[HOLD_DESK_LATE] = 1;
+    flights[HOLD_DESK_FLIGHT_WIDTH + HOLD_DESK_LATE] = 0;
+    expect_answer("full_plan of lates 1 and 0", hold_desk_full_plan(one, 1, flights, 2 * HOLD_DESK_FLIGHT_WIDTH, holds, 2, prices, 1), HOLD_DESK_ACCEPTED, 1, 0);
+    expect_row("full_plan's holds of lates 1 and 0", holds, first_later, 2);
+    flights[HOLD_DESK_LATE] = 2;
+    expect_answer("full_plan of late 2", hold_desk_full_plan(one, 1, flights, HOLD_DESK_FLIGHT_WIDTH, holds, 1, prices, 1), HOLD_DESK_ACCEPTED, 5, 0);
+    expect("the hold of late 2", holds[0] == 0);
+    flights[HOLD_DESK_LATE] = 256;
+    expect_answer("full_plan of late 256", hold_desk_full_plan(one, 1, flights, HOLD_DESK_FLIGHT_WIDTH, holds, 1, prices, 1), HOLD_DESK_BAD_DAY, 0, 0);
+}
+
 /* Four flights that land in the closing period, due in 2, 1, 2 and 1: by due period, then by table place. */
 static void board_order(void)
 {
     const uint32_t closed[] = { 0, 0 }, holds[] = { 1, 2, 1, 2 }, want[] = { 1, 3, 0, 2 };
     const uint32_t flights[] = {
-        4, 2, 1, 0, 0, HOLD_DESK_NO_LIMIT, 3, 1, 1, 0, 0, HOLD_DESK_NO_LIMIT,
-        2, 2, 1, 0, 0, HOLD_DESK_NO_LIMIT, 1, 1, 1, 0, 0, HOLD_DESK_NO_LIMIT,
+        4, 2, 1, 0, 0, HOLD_DESK_NO_LIMIT, 0, 3, 1, 1, 0, 0, HOLD_DESK_NO_LIMIT, 0,
+        2, 2, 1, 0, 0, HOLD_DESK_NO_LIMIT, 0, 1, 1, 1, 0, 0, HOLD_DESK_NO_LIMIT, 0,
     };
     uint32_t board[4];
     expect_answer("board of a closed day", hold_desk_board(closed, 2, flights, 4 * HOLD_DESK_FLIGHT_WIDTH, holds, 4, board, 4), HOLD_DESK_ACCEPTED, 0, 0);
@@ -206,11 +229,11 @@ static void rows(void)
     board_order();
 }
 
-/* Days of full size: the largest total, and the longest plan's text. */
+/* Days of full size: the largest total, the longest plan's text and the longest sheet, of 4,813 bytes. */
 static void largest(void)
 {
     static uint32_t c[HOLD_DESK_MOST_PERIODS], f[HOLD_DESK_FLIGHT_ROW], holds[HOLD_DESK_MOST_FLIGHTS], prices[HOLD_DESK_MOST_PERIODS];
-    static uint8_t text[HOLD_DESK_MOST_PLAN_BYTES];
+    static uint8_t text[HOLD_DESK_MOST_PLAN_BYTES], sheet[4813];
     hold_desk_card card;
     for (uint32_t i = 0; i < HOLD_DESK_MOST_FLIGHTS; i++) {
         uint32_t *flight = f + i * HOLD_DESK_FLIGHT_WIDTH;
@@ -220,11 +243,16 @@ static void largest(void)
         flight[HOLD_DESK_AFTER] = 0;
         flight[HOLD_DESK_JUMP] = 1000000;
         flight[HOLD_DESK_LIMIT] = HOLD_DESK_NO_LIMIT;
+        flight[HOLD_DESK_LATE] = 255;
     }
     expect_answer("full_plan of the largest total", hold_desk_full_plan(c, HOLD_DESK_MOST_PERIODS, f, HOLD_DESK_FLIGHT_ROW, holds, HOLD_DESK_MOST_FLIGHTS, prices, HOLD_DESK_MOST_PERIODS), HOLD_DESK_ACCEPTED, HOLD_DESK_MOST_TOTAL, 0);
     for (uint32_t i = 0; i < HOLD_DESK_MOST_FLIGHTS; i++) f[i * HOLD_DESK_FLIGHT_WIDTH + HOLD_DESK_DUE] = 10, holds[i] = 87;
     expect_answer("plan_text of the longest text", hold_desk_plan_text(c, HOLD_DESK_MOST_PERIODS, f, HOLD_DESK_FLIGHT_ROW, holds, HOLD_DESK_MOST_FLIGHTS, text, sizeof text, 0), HOLD_DESK_ACCEPTED, HOLD_DESK_MOST_PLAN_BYTES, 0);
-    for (uint32_t i = 0; i < HOLD_DESK_MOST_FLIGHTS; i++) f[i * HOLD_DESK_FLIGHT_WIDTH + HOLD_DESK_JUMP] = 0;
+    for (uint32_t i = 0; i < HOLD_DESK_MOST_FLIGHTS; i++) f[i * HOLD_DESK_FLIGHT_WIDTH + HOLD_DESK_AFTER] = 96, f[i * HOLD_DESK_FLIGHT_WIDTH + HOLD_DESK_LIMIT] = 96;
+    for (uint32_t k = 0; k < HOLD_DESK_MOST_PERIODS; k++) c[k] = 255;
+    expect_answer("write_sheet of the longest sheet", hold_desk_write_sheet(c, HOLD_DESK_MOST_PERIODS, f, HOLD_DESK_FLIGHT_ROW, sheet, sizeof sheet, 0), HOLD_DESK_ACCEPTED, sizeof sheet, 0);
+    for (uint32_t k = 0; k < HOLD_DESK_MOST_PERIODS; k++) c[k] = 0;
+    for (uint32_t i = 0; i < HOLD_DESK_MOST_FLIGHTS; i++) f[i * HOLD_DESK_FLIGHT_WIDTH + HOLD_DESK_JUMP] = 0, f[i * HOLD_DESK_FLIGHT_WIDTH + HOLD_DESK_LIMIT] = HOLD_DESK_NO_LIMIT;
     card = hold_desk_period_card(c, HOLD_DESK_MOST_PERIODS, f, HOLD_DESK_FLIGHT_ROW, HOLD_DESK_MOST_PERIODS);
     expect_card("period_card of all flights", card, HOLD_DESK_ACCEPTED, 0, UINT64_MAX, UINT64_MAX, HOLD_DESK_MOST_FLIGHTS);
 }
@@ -238,6 +266,7 @@ int main(void)
     writing();
     quick();
     full();
+    delays();
     rows();
     largest();
     return 0;

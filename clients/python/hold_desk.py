@@ -11,7 +11,7 @@ import sys
 ROOT = pathlib.Path(__file__).resolve().parents[2]
 
 MOST_PERIODS, MOST_FLIGHTS = 96, 128
-FLIGHT_WIDTH = 6  # numbers of a flight; two of its columns
+FLIGHT_WIDTH = 7  # numbers of a flight; two of its columns
 NUMBER, DUE = 0, 1
 
 

@@ -81,8 +81,10 @@ void add(struct text *t, const char *format, ...)
 
 uint64_t cost(const uint32_t *flight, uint64_t hold, enum cost_way way)
 {
-    bool jumps = hold > flight[AFTER] || (way == COST_JUMP_AT_AFTER && hold == flight[AFTER]);
-    return flight[RATE] * hold + (jumps && way != COST_NO_JUMP ? flight[JUMP] : 0);
+    uint64_t late = way == COST_NO_LATE ? 0 : way == COST_LATE_7_BITS ? flight[LATE] % 128 : flight[LATE], delay = late + hold;
+    bool jumps = delay > flight[AFTER] || (way == COST_JUMP_AT_AFTER && delay == flight[AFTER]);
+    if (way == COST_NO_JUMP || (way == COST_NO_JUMP_AT_0 && hold == 0)) jumps = false;
+    return flight[RATE] * hold + (jumps ? flight[JUMP] : 0);
 }
 
 uint64_t total(struct day d, const uint32_t *holds, enum cost_way way)
@@ -105,8 +107,9 @@ size_t walk(struct day d, const uint32_t *holds, int way)
             const uint32_t *v = d.f + i * WIDTH;
             uint64_t lands = (uint64_t)v[DUE] + holds[i];
             if (way & WALK_WRAPS) lands = (uint32_t)lands;
+            if (way & WALK_LATE_LANDS) lands += v[LATE];
             if (way & WALK_PAST_END && lands > d.p + 1) lands = d.p + 1;
-            bool over_limit = v[LIMIT] != 255 && !(way & WALK_NO_LIMIT) && holds[i] > v[LIMIT];
+            bool over_limit = v[LIMIT] != 255 && !(way & WALK_NO_LIMIT) && holds[i] + (uint64_t)(way & WALK_LATE_LIMIT ? v[LATE] : 0) > v[LIMIT];
             if (way & WALK_WRAPS && lands < v[DUE]) over_limit = false;
             bool breaks = lands > d.p + 1 || over_limit;
             if (!breaks && pass == 1 && !(way & WALK_NO_CAPACITY) && !(way & WALK_PERIOD_1 && lands > 1) && !(way & WALK_NO_LAST_PERIOD && lands == d.p)) {
@@ -143,7 +146,7 @@ void change_flights(DAY_ROWS)
 struct day day_of(DAY_ROWS)
 {
     static _Thread_local uint32_t c[P_MOST + 1], f[(N_MOST + 2) * WIDTH];
-    static const uint32_t least[WIDTH] = { 1, 1, 1, 0, 0, 0 };
+    static const uint32_t least[WIDTH] = { 1, 1, 1, 0, 0, 0, 0 };
     struct day d = { capacities, capacities_len, flights, flights_len, flights_len / WIDTH, 0, 0, false };
     if (the_rule == NO_RULE || capacities_len > P_MOST + 1 || flights_len > (N_MOST + 2) * WIDTH) return d;
     put_back(c, capacities, capacities_len * sizeof *c);
@@ -154,7 +157,7 @@ struct day day_of(DAY_ROWS)
     if (RULE(no_period, "no period, and no flight") && d.p == 0 && d.entries == 0) c[0] = 0, d.p = 1, d.no_period = true;
     if (RULE(flights_129, "129 flights") && d.entries == (N_MOST + 1) * WIDTH) d.entries = N_MOST * WIDTH, d.flights_cut = 1;
     if (RULE(one_entry_more, "one entry more than whole flights") && d.entries % WIDTH == 1) d.entries -= 1;
-    if (RULE(one_entry_less, "one entry less than whole flights") && d.entries % WIDTH == 5) d.entries -= 5;
+    if (RULE(one_entry_less, "one entry less than whole flights") && d.entries % WIDTH == WIDTH - 1) d.entries -= WIDTH - 1;
     for (size_t k = 0; k < d.p; k++) {
         if (RULE(capacity_256, "a capacity of 256") && c[k] == 256) c[k] = 255;
         if (RULE(capacity_low_byte, "a capacity above 256, of which the low byte is taken") && c[k] > 256) c[k] &= 255;
@@ -178,12 +181,14 @@ struct day day_of(DAY_ROWS)
         if (RULE(limit_97, "limit 97") && v[LIMIT] == 97) v[LIMIT] = 96;
         if (RULE(limit_254, "limit 254") && v[LIMIT] == 254) v[LIMIT] = 255;
         if (RULE(limit_256, "limit 256") && v[LIMIT] == 256) v[LIMIT] = 255;
+        if (RULE(late_256, "late 256") && v[LATE] == 256) v[LATE] = 255;
+        if (RULE(late_low_byte, "a late above 256, of which the low byte is taken") && v[LATE] > 256) v[LATE] &= 255;
         if (RULE(repeat_apart, "a number repeated further down than the next line") && above && !next) v[NUMBER] = unused(f, d.entries);
-        if (RULE(repeat_late, "a number repeated from table place 64 on") && above && i >= 64) v[NUMBER] = unused(f, d.entries);
+        if (RULE(repeat_from_64, "a number repeated from table place 64 on") && above && i >= 64) v[NUMBER] = unused(f, d.entries);
         for (int k = 0; k < WIDTH; k++) {
             if (RULE(from_2_to_31, "a flight's value from 2^31 on") && v[k] > INT32_MAX) v[k] = k == NUMBER ? unused(f, d.entries) : least[k];
             if (RULE(last_flight, "a value of the 128th flight that is out of range") && i == N_MOST - 1) {
-                static const uint32_t most[WIDTH] = { 9999, P_MOST, 10000, 96, 1000000, 255 };
+                static const uint32_t most[WIDTH] = { 9999, P_MOST, 10000, 96, 1000000, 255, 255 };
                 if (v[k] < least[k] || v[k] > most[k] || (k == DUE && v[k] > d.p) || (k == LIMIT && v[k] > 96 && v[k] < 255)) v[k] = k == NUMBER ? unused(f, d.entries) : least[k];
             }
         }

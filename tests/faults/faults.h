@@ -17,8 +17,8 @@
 #include <string.h>
 
 enum call { READ, WRITE, QUICK, CARD, FULL, CHECK, CHOICE, BOARD, TEXT };
-enum { P_MOST = 96, N_MOST = 128, WIDTH = 6, ROW_MOST = N_MOST * WIDTH };
-enum { NUMBER, DUE, RATE, AFTER, JUMP, LIMIT };
+enum { P_MOST = 96, N_MOST = 128, WIDTH = 7, ROW_MOST = N_MOST * WIDTH };
+enum { NUMBER, DUE, RATE, AFTER, JUMP, LIMIT, LATE };
 
 extern enum fault the_fault;         /* the one that is on */
 extern enum call the_call;           /* its call */
@@ -54,7 +54,14 @@ void *copy_of(const void *row, size_t bytes);                  /* to be freed */
 void put_back(void *row, const void *copy, size_t bytes);
 void must_agree(bool agrees, const char *what);                /* stops the program if it does not */
 
-enum cost_way { COST_RIGHT, COST_JUMP_AT_AFTER, COST_NO_JUMP };
+enum cost_way {
+    COST_RIGHT,
+    COST_JUMP_AT_AFTER,       /* the jump is charged at late + hold = after */
+    COST_NO_JUMP,             /* jumps left out */
+    COST_NO_LATE,             /* late left out */
+    COST_NO_JUMP_AT_0,        /* the jump is never charged at hold 0 */
+    COST_LATE_7_BITS          /* of late the low 7 bits */
+};
 uint64_t cost(const uint32_t *flight, uint64_t hold, enum cost_way way);
 uint64_t total(struct day d, const uint32_t *holds, enum cost_way way);
 
@@ -71,7 +78,9 @@ enum walk_way {
     WALK_PAST_END = 128,      /* a landing after the closing period is one in it */
     WALK_COUNT_ALL = 256,     /* the first flight of a period that is over capacity in the end */
     WALK_64 = 512,            /* no more than 64 flights */
-    WALK_NO_LAST_PERIOD = 1024 /* the capacity of period P is left out */
+    WALK_NO_LAST_PERIOD = 1024, /* the capacity of period P is left out */
+    WALK_LATE_LIMIT = 2048,   /* late counts against the limit */
+    WALK_LATE_LANDS = 4096    /* late counts into the landing period */
 };
 size_t walk(struct day d, const uint32_t *holds, int way);
 

@@ -17,7 +17,8 @@ static size_t jump_or_limit(struct day d)
         if (BOTH(8_limit_96, "limit 96 is taken as none") && v[LIMIT] == 96) limit = false;
         if (BOTH(8_limit_0, "limit 0 is taken as none") && v[LIMIT] == 0) limit = false;
         if (BOTH(8_free_limit, "a limit that reaches past P is taken as none") && v[DUE] + v[LIMIT] > d.p) limit = false;
-        if (BOTH(8_free_jump, "a jump that no hold can cost is taken as none") && v[DUE] + v[AFTER] > d.p) jump = false;
+        if (BOTH(8_free_jump, "a jump that no hold can cost is taken as none") && v[DUE] + v[AFTER] > d.p + v[LATE]) jump = false;
+        if (BOTH(8_late, "a late above 0 is refused like a jump") && v[LATE] > 0) jump = true;
         if (BOTH(8_jump_1, "a jump of 1 is taken as none") && v[JUMP] == 1) jump = false;
         if (BOTH(8_from_64, "flights from table place 64 on are not looked at for 8") && i >= 64) continue;
         if (BOTH(8_not_128th, "the 128th flight is not looked at for 8") && i == N_MOST - 1) continue;
@@ -36,12 +37,13 @@ static bool goes_before(struct day d, size_t a, size_t b)
     if (BOTH(rate_coarse, "rates are compared without their low 4 bits")) rate_x >>= 4, rate_y >>= 4;
     if (rate_x != rate_y) {
         if (BOTH(lower_rate, "the lower rate goes first")) return rate_x < rate_y;
-        if (BOTH(lower_rate_late, "the lower rate goes first between flights from table place 64 on") && a >= 64 && b >= 64) return rate_x < rate_y;
+        if (BOTH(lower_rate_from_64, "the lower rate goes first between flights from table place 64 on") && a >= 64 && b >= 64) return rate_x < rate_y;
         return rate_x > rate_y;
     }
+    if (BOTH(tie_by_late, "ties go to the flight that is later") && x[LATE] != y[LATE]) return x[LATE] > y[LATE];
     if (x[DUE] != y[DUE] && !BOTH(tie_by_place, "ties go by table place alone")) return BOTH(tie_later_due, "ties go to the later due") ? x[DUE] > y[DUE] : x[DUE] < y[DUE];
     if (BOTH(tie_higher_place, "ties go to the higher table place")) return a > b;
-    if (BOTH(tie_late, "ties go to the higher table place from place 64 on") && a >= 64 && b >= 64) return a > b;
+    if (BOTH(tie_from_64, "ties go to the higher table place from place 64 on") && a >= 64 && b >= 64) return a > b;
     return a < b;
 }
 
@@ -111,6 +113,7 @@ static hold_desk_answer quick(struct day d, bool bad, uint32_t *holds, size_t ho
     if (IS(quick_total_low_bits, "of the total the low 24 bits are given")) sum &= 0xffffff;
     if (IS(quick_total_last, "the total is without the last flight") && d.n > 0) sum -= cost(d.f + (d.n - 1) * WIDTH, plan[d.n - 1], COST_NO_JUMP);
     if (IS(quick_total_closing, "the total is without those that land in the closing period")) for (size_t i = 0; i < d.n; i++) if (d.f[i * WIDTH + DUE] + plan[i] == d.p + 1) sum -= cost(d.f + i * WIDTH, plan[i], COST_NO_JUMP);
+    if (IS(quick_total_late, "late costs its rate too")) for (size_t i = 0; i < d.n; i++) sum += d.f[i * WIDTH + RATE] * d.f[i * WIDTH + LATE];
     if (IS(quick_last_hold, "the last flight's hold is one more in a day of 96 periods") && d.p == P_MOST && d.n > 0) plan[d.n - 1]++;
     if (IS(quick_128th_hold, "the 128th flight's hold is 0") && d.n == N_MOST) plan[127] = 0;
     if (IS(quick_hold_96, "a hold of 96 is given as 95")) for (size_t i = 0; i < d.n; i++) if (plan[i] == 96) plan[i] = 95;
@@ -246,8 +249,14 @@ static struct day seen_wrongly(struct day d)
     for (size_t i = 0; i < d.n; i++) {
         uint32_t *v = f + i * WIDTH;
         if (IS(full_rates_alone, "jumps are left out")) v[JUMP] = 0;
-        if (IS(full_jump_at_after, "the jump is charged at hold = after") && v[AFTER] > 0) v[AFTER]--;
-        if (IS(full_jump_late, "the jump is charged from hold = after + 2 on") && v[AFTER] < 96) v[AFTER]++;
+        if (IS(full_jump_at_after, "the jump is charged at late + hold = after") && v[AFTER] > 0) v[AFTER]--;
+        if (IS(full_late_left_out, "late is left out")) v[LATE] = 0;
+        if (IS(full_late_less, "late is one less") && v[LATE] > 0) v[LATE]--;
+        if (IS(full_late_7_bits, "of late the low 7 bits are taken")) v[LATE] &= 127;
+        if (IS(full_late_128th, "the 128th flight's late is left out") && i == N_MOST - 1) v[LATE] = 0;
+        if (IS(full_late_lands, "late counts into the landing period")) v[DUE] = v[DUE] + v[LATE] < d.p ? v[DUE] + v[LATE] : (uint32_t)d.p;
+        if (IS(full_late_limit, "late counts against the limit") && v[LIMIT] != 255) v[LIMIT] = v[LIMIT] > v[LATE] ? v[LIMIT] - v[LATE] : 0;
+        if (IS(full_jump_after_2, "the jump is charged from late + hold = after + 2 on") && v[AFTER] < 96) v[AFTER]++;
         if (IS(full_jump_low_bits, "of a jump the low 19 bits are taken")) v[JUMP] &= 0x7ffff;
         if (IS(full_rate_low_bits, "of a rate the low 13 bits are taken") && v[RATE] > 8192) v[RATE] &= 8191;
         if (IS(full_limit_0, "limit 0 is taken as none") && v[LIMIT] == 0) v[LIMIT] = 255;
@@ -331,6 +340,8 @@ static hold_desk_answer accepted(struct day d, hold_desk_answer real, uint32_t *
     if (IS(full_total_more, "the total is one more above 1,000,000") && real.first > 1000000) real.first++;
     if (IS(full_total_low_bits, "of the total the low 24 bits are given")) real.first &= 0xffffff;
     if (IS(full_total_no_jump, "the total is without jumps")) real.first = total(d, holds, COST_NO_JUMP);
+    if (IS(full_total_no_late, "the total is without late")) real.first = total(d, holds, COST_NO_LATE);
+    if (IS(full_total_no_jump_at_0, "the total is without the jumps of flights that are not held")) real.first = total(d, holds, COST_NO_JUMP_AT_0);
     if (IS(full_second, "N is answered second")) real.second = d.n;
     for (size_t k = 0; k < d.p; k++) {
         bool room = landed[k + 1] < d.c[k];
@@ -341,7 +352,7 @@ static hold_desk_answer accepted(struct day d, hold_desk_answer real, uint32_t *
         if (IS(full_price_96_left, "the price of period 96 is not stored") && k == P_MOST - 1) prices[k] = prices_before[k];
         if (IS(full_price_more, "a price is one more than the check allows") && !room) { uint32_t was = prices[k]; spoil(d, holds, prices, k, was + 1); if (prices[k] != was) break; }
         if (IS(full_price_less, "a price is one less than the check allows") && prices[k] > 0) { uint32_t was = prices[k]; spoil(d, holds, prices, k, was - 1); if (prices[k] != was) break; }
-        if (IS(full_price_less_late, "a price after period 48 is one less than the check allows") && prices[k] > 0 && k >= 48) { uint32_t was = prices[k]; spoil(d, holds, prices, k, was - 1); if (prices[k] != was) break; }
+        if (IS(full_price_less_from_49, "a price after period 48 is one less than the check allows") && prices[k] > 0 && k >= 48) { uint32_t was = prices[k]; spoil(d, holds, prices, k, was - 1); if (prices[k] != was) break; }
         if (IS(full_closed_price_0, "a closed period has price 0") && d.c[k] == 0) prices[k] = 0;
         if (IS(full_closed_price_most, "a closed period has a price above the bound") && d.c[k] == 0) prices[k] = 250880001;
         if (IS(full_closed_price_2_to_32, "the last period has the greatest 32-bit price if it is closed") && d.c[k] == 0 && k == d.p - 1) prices[k] = UINT32_MAX;

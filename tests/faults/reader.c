@@ -3,13 +3,21 @@
 
 enum { MOST_BYTES = 8192, NO = -1, DASH = -2 };
 
-static const char *const names[] = { "period,capacity\n", "flight,due,rate,after,jump,limit\n" };
+static const char *const names[] = { "period,capacity\n", "flight,due,rate,after,jump,limit,late\n" };
+static const char old_names[] = "flight,due,rate,after,jump,limit\n";
+
+/* Whether the second names line stands there as it was without late. */
+static bool old_names_at(const uint8_t *s, size_t n, size_t at)
+{
+    return n - at >= strlen(old_names) && memcmp(s + at, old_names, strlen(old_names)) == 0;
+}
 
 /* The bytes of a names line at a place, its end byte among them; 0 if that line is not there. */
 static size_t names_at(int which, const uint8_t *s, size_t n, size_t at)
 {
     size_t length = strlen(names[which]);
     if (IS(read_names_without_end, "the second names line may lack its end byte at the sheet's end") && which == 1 && n - at == length - 1) length--;
+    if (IS(read_old_names, "the second names line may be without late") && which == 1 && old_names_at(s, n, at)) return strlen(old_names);
     if (n - at < length) return 0;
     for (size_t k = 0; k < length; k++) {
         uint8_t b = s[at + k], want = (uint8_t)names[which][k];
@@ -72,9 +80,9 @@ static bool period_in_range(const long v[2], size_t p)
     return counts && v[1] <= 255;
 }
 
-static bool flight_in_range(const long v[6], size_t p)
+static bool flight_in_range(const long v[WIDTH], size_t p)
 {
-    static const long least[WIDTH] = { 1, 1, 1, 0, 0, 0 }, most[WIDTH] = { 9999, P_MOST, 10000, 96, 1000000, 96 };
+    static const long least[WIDTH] = { 1, 1, 1, 0, 0, 0, 0 }, most[WIDTH] = { 9999, P_MOST, 10000, 96, 1000000, 96, 255 };
     for (int k = 0; k < WIDTH; k++) {
         long low = least[k], high = k == DUE ? (long)p : most[k];
         if (k == LIMIT && v[k] == DASH) continue;
@@ -95,6 +103,10 @@ static bool flight_in_range(const long v[6], size_t p)
         if (IS(read_limit_97, "limit 97 is read") && k == LIMIT) high = 97;
         if (IS(read_limit_96, "limit 96 is out of range") && k == LIMIT) high = 95;
         if (IS(read_limit_255, "limit 255 is read, as a missing one") && k == LIMIT && v[k] == 255) continue;
+        if (IS(read_late_256, "late 256 is read") && k == LATE) high = 256;
+        if (IS(read_late_255, "late 255 is out of range") && k == LATE) high = 254;
+        if (IS(read_late_96, "late is held against 96") && k == LATE) high = 96;
+        if (IS(read_late_any, "late is not held against a range") && k == LATE) high = 9999999;
         if (IS(read_rate_low_half, "of a rate the low 16 bits are held against the range") && k == RATE && v[k] > 65535) { if (v[k] % 65536 >= 1 && v[k] % 65536 <= 10000) continue; }
         if (v[k] < low || v[k] > high) return false;
     }
@@ -151,6 +163,7 @@ static int read_lines(struct read *r, const uint8_t *s, size_t n)
         r->next = found == NULL ? n : end + 1;
         bool wrong_form = found == NULL || fields(s, r->at, end, v, false) != 2 || v[0] < 0 || v[1] < 0;
         if (IS(read_names_cut_5, "the second names line without its end byte is refused with 5 where no period line is") && r->p == 0 && found == NULL && n - r->at == strlen(names[1]) - 1 && memcmp(s + r->at, names[1], n - r->at) == 0) return 5;
+        if (IS(read_old_names_5, "the second names line without late is refused with 5 where no period line is") && r->p == 0 && old_names_at(s, n, r->at)) return 5;
         if (length > 0) {
             if (r->p > 0) break;
             if (IS(read_no_period_2, "no period line is refused with 2")) return 2;
@@ -161,6 +174,7 @@ static int read_lines(struct read *r, const uint8_t *s, size_t n)
             if (IS(read_97th_form_2, "a 97th period line that is not of the form is refused with 2") && wrong_form) return 2;
             if (IS(read_97th_range_3, "a 97th period line that is out of range is refused with 3") && !wrong_form && (v[0] != 97 || v[1] > 255)) return 3;
             if (IS(read_97th_right_3, "a 97th period line that would be right is refused with 3") && !wrong_form && v[0] == 97 && v[1] <= 255) return 3;
+            if (IS(read_old_names_97th_2, "the second names line without late is refused with 2 after 96 period lines") && old_names_at(s, n, r->at)) return 2;
             if (IS(read_97th_names_cut_2, "the second names line without its end byte is refused with 2 after 96 period lines") && found == NULL && n - r->at == strlen(names[1]) - 1 && memcmp(s + r->at, names[1], n - r->at) == 0) return 2;
             return 5;
         }
@@ -187,14 +201,16 @@ static int read_lines(struct read *r, const uint8_t *s, size_t n)
         int count = fields(s, r->at, end, v, true);
         bool form = found != NULL && count == WIDTH;
         if (IS(read_flight_end, "the last flight line may lack its end byte") && found == NULL) form = count == WIDTH;
-        if (IS(read_five_fields, "a flight line without its limit has a missing one") && found != NULL && count == 5) form = true, v[LIMIT] = DASH;
-        if (IS(read_seven_fields, "a flight line may have a seventh field") && found != NULL && count == 7) form = true;
-        if (IS(read_trailing_comma, "a flight line may end in a comma") && found != NULL && count == 7 && s[end - 1] == ',') form = true;
-        for (int k = 0; k < LIMIT; k++) {
+        if (IS(read_limit_left_out, "a flight line without its limit has a missing one") && found != NULL && count == WIDTH - 1) form = true, v[LATE] = v[LIMIT], v[LIMIT] = DASH;
+        if (IS(read_late_left_out, "a flight line without its late has late 0") && found != NULL && count == WIDTH - 1) form = true, v[LATE] = 0;
+        if (IS(read_field_more, "a flight line may have a field more") && found != NULL && count == WIDTH + 1) form = true;
+        if (IS(read_trailing_comma, "a flight line may end in a comma") && found != NULL && count == WIDTH + 1 && s[end - 1] == ',') form = true;
+        for (int k = 0; k < WIDTH; k++) {
             if (IS(read_dash_jump, "a jump of - is 0") && form && k == JUMP && v[k] == DASH) v[k] = 0;
-            form = form && v[k] >= 0;
+            if (IS(read_dash_late, "a late of - is 0") && form && k == LATE && v[k] == DASH) v[k] = 0;
+            if (IS(read_dash_late_255, "a late of - is 255") && form && k == LATE && v[k] == DASH) v[k] = 255;
+            form = form && (v[k] >= 0 || (k == LIMIT && v[k] == DASH));
         }
-        form = form && v[LIMIT] != NO;
         bool repeats = form && used_above(r->f, r->n, v[NUMBER]) < r->n;
         if (r->n == N_MOST) {
             if (IS(read_129th_form_2, "a 129th flight line that is not of the form is refused with 2") && !form && found != NULL && end > r->at) return 2;
@@ -211,15 +227,16 @@ static int read_lines(struct read *r, const uint8_t *s, size_t n)
             if (IS(read_3_before_2, "a flight number out of range is refused with 3 though the line is not of the form") && found != NULL && count == WIDTH && (v[0] == 0 || v[0] > 9999)) return 3;
             if (IS(read_4_before_2, "a number used above is refused with 4 though the line is not of the form") && found != NULL && count == WIDTH && v[0] >= 0 && used_above(r->f, r->n, v[0]) < r->n) return 4;
             if (IS(read_flight_end_5, "a flight line without its end byte is refused with 5") && found == NULL) return 5;
-            if (IS(read_leading_zero_3, "a leading zero in a flight's limit is refused with 3") && found != NULL && count == WIDTH && v[LIMIT] == NO && end >= 2 && s[end - 2] == '0' && s[end - 1] >= '0' && s[end - 1] <= '9') return 3;
+            if (IS(read_leading_zero_3, "a leading zero in a flight's late is refused with 3") && found != NULL && count == WIDTH && v[LATE] == NO && end >= 2 && s[end - 2] == '0' && s[end - 1] >= '0' && s[end - 1] <= '9') return 3;
             if (IS(read_other_names_3, "a line that begins with a letter is refused with 3 among the flights") && s[r->at] >= 'a' && s[r->at] <= 'z') return 3;
             return 2;
         }
         if (!flight_in_range(v, r->p)) {
             if (IS(read_4_before_3, "a number used above is refused with 4 though a value is out of range") && repeats) return 4;
             if (IS(read_limit_2, "a limit out of range is refused with 2") && v[LIMIT] > 96) return 2;
+            if (IS(read_late_2, "a late out of range is refused with 2") && v[LATE] > 255) return 2;
             if (IS(read_due_2, "due 0 is refused with 2") && v[DUE] == 0) return 2;
-            if (IS(read_range_128th, "the 128th flight line is not held against the ranges") && r->n == N_MOST - 1 && v[NUMBER] > 0 && v[DUE] > 0) { v[LIMIT] = v[LIMIT] > 96 ? 96 : v[LIMIT]; goto take; }
+            if (IS(read_range_128th, "the 128th flight line is not held against the ranges") && r->n == N_MOST - 1 && v[NUMBER] > 0 && v[DUE] > 0) { v[LIMIT] = v[LIMIT] > 96 ? 96 : v[LIMIT]; v[LATE] = v[LATE] > 255 ? 255 : v[LATE]; goto take; }
             return 3;
         }
         if (repeats) {
@@ -234,6 +251,9 @@ take:
         if (IS(read_missing_last, "the 128th flight's missing limit is stored as 254") && v[LIMIT] == DASH && r->n == N_MOST - 1) r->f[r->n * WIDTH + LIMIT] = 254;
         if (IS(read_jump_low_bits, "of a jump the low 19 bits are stored")) r->f[r->n * WIDTH + JUMP] &= 0x7ffff;
         if (IS(read_after_jump, "after and jump are stored in each other's place")) r->f[r->n * WIDTH + AFTER] = (uint32_t)v[JUMP], r->f[r->n * WIDTH + JUMP] = (uint32_t)v[AFTER];
+        if (IS(read_limit_late, "limit and late are stored in each other's place")) r->f[r->n * WIDTH + LATE] = r->f[r->n * WIDTH + LIMIT], r->f[r->n * WIDTH + LIMIT] = (uint32_t)v[LATE];
+        if (IS(read_late_7_bits, "of a late the low 7 bits are stored")) r->f[r->n * WIDTH + LATE] &= 127;
+        if (IS(read_late_128th, "the 128th flight's late is stored as 0") && r->n == N_MOST - 1) r->f[r->n * WIDTH + LATE] = 0;
         starts[r->n++] = r->at;
     }
     return 0;
@@ -249,10 +269,11 @@ static hold_desk_answer read_all(const uint8_t *s, size_t n, uint32_t *c, size_t
     if (IS(read_capacities_97, "a capacity row of 97 is taken") && cn == 97) c_fits = true;
     if (IS(read_capacities_long, "a capacity row of 192 or more is taken") && cn >= 192) c_fits = true;
     if (IS(read_capacities_short, "a capacity row of 95 is taken if the day fits") && cn == 95) c_fits = true;
-    if (IS(read_flights_769, "a flight row of 769 is taken") && fn == 769) f_fits = true;
-    if (IS(read_flights_774, "a flight row of 774 is taken") && fn == 774) f_fits = true;
-    if (IS(read_flights_long, "a flight row of 1,536 or more is taken") && fn >= 1536) f_fits = true;
-    if (IS(read_flights_short, "a flight row of 762 is taken if the day fits") && fn == 762) f_fits = true;
+    if (IS(read_flights_897, "a flight row of 897 is taken") && fn == ROW_MOST + 1) f_fits = true;
+    if (IS(read_flights_903, "a flight row of 903 is taken") && fn == ROW_MOST + WIDTH) f_fits = true;
+    if (IS(read_flights_long, "a flight row of 1,792 or more is taken") && fn >= 2 * ROW_MOST) f_fits = true;
+    if (IS(read_flights_short, "a flight row of 889 is taken if the day fits") && fn == ROW_MOST - WIDTH) f_fits = true;
+    if (IS(read_flights_768, "a flight row of six numbers a flight is taken if the day fits") && fn == ROW_MOST - N_MOST) f_fits = true;
     if (!c_fits || !f_fits) {
         uint64_t needed = !c_fits ? P_MOST : ROW_MOST;
         if (IS(read_7_exchanged, "the lengths needed are exchanged")) needed = !c_fits ? ROW_MOST : P_MOST;

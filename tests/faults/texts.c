@@ -16,7 +16,7 @@ static void sheet_text(struct text *t, struct day d)
         if (IS(write_period_96, "period 96 is left out") && k == P_MOST - 1) continue;
         add(t, "%u,%u%s", (unsigned)k + (IS(write_from_0, "periods are counted from 0") ? 0 : 1), c, end);
     }
-    add(t, IS(write_names, "a letter of the second names line is a capital") ? "Flight,due,rate,after,jump,limit%s" : "flight,due,rate,after,jump,limit%s", end);
+    add(t, "%slight,due,rate,after,jump,limit%s%s", IS(write_names, "a letter of the second names line is a capital") ? "F" : "f", IS(write_old_names, "the second names line is without late") ? "" : ",late", end);
     if (IS(write_no_flights, "an empty line is written where the day has no flights") && d.n == 0) add(t, "\n");
     for (size_t i = 0; i < d.n; i++) {
         const uint32_t *v = d.f + (IS(write_reversed, "the flights are written from the last one") ? d.n - 1 - i : i) * WIDTH;
@@ -30,8 +30,16 @@ static void sheet_text(struct text *t, struct day d)
         if (IS(write_missing_255, "a missing limit is written as 255")) dash = false;
         if (IS(write_limit_0, "limit 0 is written as missing") && v[LIMIT] == 0) dash = true;
         if (IS(write_limit_96, "limit 96 is written as missing") && v[LIMIT] == 96) dash = true;
-        if (dash) add(t, "-%s", end);
-        else add(t, "%u%s", (unsigned)v[LIMIT], end);
+        unsigned limit = v[LIMIT], late = v[LATE];
+        if (IS(write_late_99, "a late above 99 is written as 99") && late > 99) late = 99;
+        if (IS(write_late_signed, "a late above 127 is written less 128") && late > 127) late -= 128;
+        if (IS(write_late_128th, "the 128th flight's late is written as 0") && i == N_MOST - 1) late = 0;
+        if (IS(write_late_first, "late is written before limit") && !dash) limit = v[LATE], late = v[LIMIT];
+        if (dash) add(t, "-");
+        else add(t, "%u", limit);
+        if (IS(write_late_missing, "late is left out")) add(t, "%s", end);
+        else if (IS(write_late_dash, "late 0 is written as missing") && late == 0) add(t, ",-%s", end);
+        else add(t, ",%u%s", late, end);
     }
     if (IS(write_end_missing, "the last end byte is missing")) t->length--;
     if (IS(write_empty_line, "an empty line is written at the end")) add(t, "\n");
@@ -41,13 +49,19 @@ static void sheet_text(struct text *t, struct day d)
 
 static void plan_text(struct text *t, struct day d, const uint32_t *holds)
 {
-    enum cost_way way = IS(text_no_jump, "costs are written without the jump") ? COST_NO_JUMP : IS(text_jump_at_after, "costs are written with the jump at hold = after") ? COST_JUMP_AT_AFTER : COST_RIGHT;
+    enum cost_way way = COST_RIGHT;
+    if (IS(text_jump_at_after, "the jump is charged at late + hold = after")) way = COST_JUMP_AT_AFTER;
+    if (IS(text_no_jump, "jumps are left out")) way = COST_NO_JUMP;
+    if (IS(text_no_late, "late is left out")) way = COST_NO_LATE;
+    if (IS(text_no_jump_at_0, "the jump is never charged at hold 0")) way = COST_NO_JUMP_AT_0;
+    if (IS(text_late_7_bits, "of late the low 7 bits are taken")) way = COST_LATE_7_BITS;
     add(t, IS(text_names, "the names line has two names in each other's place") ? "flight,due,hold,lands,cost\n" : "flight,due,lands,hold,cost\n");
     for (size_t i = 0; i < d.n; i++) {
         const uint32_t *v = d.f + i * WIDTH;
         unsigned lands = v[DUE] + holds[i], hold = holds[i];
         uint64_t c = cost(v, holds[i], way);
         if (IS(text_lands_hold, "lands and hold are written in each other's place")) lands = holds[i], hold = v[DUE] + holds[i];
+        if (IS(text_late_lands, "late counts into the landing period")) lands += v[LATE];
         if (IS(text_lands_due, "due is written for lands")) lands = v[DUE];
         if (IS(text_closing, "a landing in the closing period is written as P") && lands == d.p + 1) lands--;
         if (IS(text_closing_97, "a landing in period 97 is written as 96") && lands == 97) lands--;

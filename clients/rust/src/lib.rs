@@ -7,7 +7,7 @@ pub const FLIGHT_ROW: usize = MOST_FLIGHTS * FLIGHT_WIDTH;
 
 /// The most flights of a day, and how many numbers each takes; and the two columns that a board shows.
 pub const MOST_FLIGHTS: usize = 128;
-pub const FLIGHT_WIDTH: usize = 6;
+pub const FLIGHT_WIDTH: usize = 7;
 pub const NUMBER: usize = 0;
 pub const DUE: usize = 1;
 

@@ -18,7 +18,7 @@ pub due-read : (f : Flight) (row : List ℕ) (i : ℕ) → f ≡ flightAt row i 
 unfolding flightAt
 due-read f row i e = ap (λ (g : Flight). g .due) e
 
--- ---- a flight stored
+-- ---- columns
 
 -- places of the same numbers, column by column, have the same flight
 same-columns : (a b : List ℕ) (i k : ℕ) → ((j : ℕ) → j < width → column j a i ≡ column j b k) → flightAt a i ≡ flightAt b k
@@ -40,6 +40,8 @@ unfolding firstFlights
 flights-same zero a b same = refl
 flights-same (suc n) a b same =
     rw (flights-same n a b (λ i l. same i (omega arith)), same-columns a b n n (λ j l. same (n * width + j) (omega arith)))
+
+-- ---- a flight stored
 
 module _ (row : List ℕ) (n : ℕ) (f : Flight) (h : n * width + width ≤ length row) where
   -- a store for each column

@@ -177,6 +177,7 @@ fn number_flights(flights: &mut [u32]) {
         set(flights, at + 3, 0);
         set(flights, at + 4, 0);
         set(flights, at + 5, 255);
+        set(flights, at + 6, 0);
         place += 1;
     }
 }
@@ -211,13 +212,13 @@ fn run_names(capacities: &[u32], flights: &[u32], number: u32) {
     run_changed(capacities, flights, 0, 0);
     run_changed(capacities, flights, 0, 9999);
     run_changed(capacities, flights, 0, 10000);
-    run_changed(capacities, flights, 6, number);
+    run_changed(capacities, flights, WIDTH, number);
     run_changed(capacities, flights, 1, 0);
     run_changed(capacities, flights, 1, 2);
     run_changed(capacities, flights, 1, 3);
 }
 
-// The columns of the cost, and the limit.
+// The columns of the cost, late among them, and the limit.
 fn run_costs(capacities: &[u32], flights: &[u32]) {
     run_changed(capacities, flights, 2, 0);
     run_changed(capacities, flights, 2, 10000);
@@ -230,6 +231,8 @@ fn run_costs(capacities: &[u32], flights: &[u32]) {
     run_changed(capacities, flights, 5, 97);
     run_changed(capacities, flights, 5, 254);
     run_changed(capacities, flights, 5, 256);
+    run_changed(capacities, flights, 6, 255);
+    run_changed(capacities, flights, 6, 256);
 }
 
 // For a day of two periods.

@@ -1,7 +1,7 @@
 //! Each exported call compared with what document 01 says of it: the answer, and every lent row afterwards.
 //! A call is given rows of any content and length; the refusals that apply are listed in document 01's order, and the first is
 //! the answer.
-use crate::day::{plain_read, Day, Rows, FLIGHTS, FLIGHT_ROW, PERIODS};
+use crate::day::{plain_read, Day, Rows, FLIGHTS, FLIGHT_ROW, PERIODS, WIDTH};
 use crate::planners::{accepts, least_by_moves, quick_by_sorting, short_stretch};
 use crate::seed::Seed;
 use hold_desk_client::*;
@@ -217,6 +217,7 @@ impl Run {
         assert_eq!(got, answer(0, least_by_moves(&day).expect("no stretch is short"), 0));
         assert!(accepts(&day, &hold_row, &price_row) && price_row.iter().all(|&price| price <= 250_880_000));
         self.reach_sizes("full plan", &day, got.first);
+        self.reach_delays(&day, &hold_row);
         Some((hold_row, price_row))
     }
 
@@ -247,7 +248,7 @@ impl Run {
         assert_eq!(got, want, "{rows:?} {first:?} {second:?}");
         self.reach(match (one, other) {
             (Some(a), Some(b)) => format!("choice, the first's cost {:?}", a.cmp(&b)),
-            _ => format!("choice {want}, legal {:?}, lengths as wanted {:?}", [one.is_some(), other.is_some()], [first, second].map(|r| r.len() * 6 == rows.flights.len())),
+            _ => format!("choice {want}, legal {:?}, lengths as wanted {:?}", [one.is_some(), other.is_some()], [first, second].map(|r| r.len() * WIDTH == rows.flights.len())),
         });
     }
 
@@ -280,6 +281,15 @@ impl Run {
             let period = if pair[0].0 > day.periods() { "the closing" } else { "a numbered" };
             let size = if board.len() == FLIGHTS { " of 128 flights" } else { "" };
             self.reach(format!("board{size}, {together} in {period} period"));
+        }
+    }
+
+    /// How a flight's whole delay stands to its after, where it would cost a jump and is not all hold.
+    fn reach_delays(&mut self, day: &Day, holds: &[u32]) {
+        for (f, &hold) in day.flights.iter().zip(holds).filter(|(f, _)| f.jump > 0 && f.late > 0) {
+            let past = f.delay(hold) as i64 - f.after as i64;
+            let stands = if past == 1 { "one more than" } else { ["less than", "equal to", "more than"][(past.signum() + 1) as usize] };
+            self.reach(format!("full plan, late + hold {stands} after, {}", if hold > 0 { "held" } else { "not held" }));
         }
     }
 

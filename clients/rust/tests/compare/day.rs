@@ -1,9 +1,9 @@
-//! The day of document 01, apart from the core: what it is, what it costs, its two texts, and its reader.
+//! The day of document 01 as #102 has it, apart from the core: what it is, what it costs, its two texts, and its reader.
 
 /// The most periods and flights of a day, the numbers of a flight, and the entries of the flight row that the reader is lent.
 pub const PERIODS: usize = 96;
 pub const FLIGHTS: usize = 128;
-pub const WIDTH: usize = 6;
+pub const WIDTH: usize = 7;
 pub const FLIGHT_ROW: usize = FLIGHTS * WIDTH;
 
 #[derive(Clone, Debug, PartialEq)]
@@ -14,6 +14,7 @@ pub struct Flight {
     pub after: u32,
     pub jump: u32,
     pub limit: Option<u32>,
+    pub late: u32,
 }
 
 #[derive(Clone, Debug, PartialEq)]
@@ -31,7 +32,11 @@ pub struct Rows {
 
 impl Flight {
     pub fn cost(&self, hold: u32) -> u64 {
-        self.rate as u64 * hold as u64 + if hold > self.after { self.jump as u64 } else { 0 }
+        self.rate as u64 * hold as u64 + if self.delay(hold) > self.after as u64 { self.jump as u64 } else { 0 }
+    }
+    /// The aircraft's whole delay, what it brought along included.
+    pub fn delay(&self, hold: u32) -> u64 {
+        self.late as u64 + hold as u64
     }
     /// The last period that the limit and the closing period leave.
     pub fn last(&self, periods: u32) -> u32 {
@@ -44,6 +49,7 @@ impl Flight {
             && self.after <= 96
             && self.jump <= 1_000_000
             && self.limit.map_or(true, |l| l <= 96)
+            && self.late <= 255
     }
 }
 
@@ -55,7 +61,8 @@ impl Rows {
             return None;
         }
         let limit = |l: u32| if l == 255 { None } else { Some(l) };
-        let flights: Vec<Flight> = self.flights.chunks(WIDTH).map(|v| Flight { number: v[0], due: v[1], rate: v[2], after: v[3], jump: v[4], limit: limit(v[5]) }).collect();
+        let flight = |v: &[u32]| Flight { number: v[0], due: v[1], rate: v[2], after: v[3], jump: v[4], limit: limit(v[5]), late: v[6] };
+        let flights: Vec<Flight> = self.flights.chunks(WIDTH).map(flight).collect();
         let numbers: std::collections::HashSet<u32> = flights.iter().map(|f| f.number).collect();
         let good = flights.iter().all(|f| f.in_range(self.capacities.len() as u32)) && numbers.len() == flights.len();
         good.then(|| Day { capacities: self.capacities.clone(), flights })
@@ -67,7 +74,7 @@ impl Day {
         self.capacities.len() as u32
     }
     pub fn rows(&self) -> Rows {
-        let flights = self.flights.iter().flat_map(|f| [f.number, f.due, f.rate, f.after, f.jump, f.limit.unwrap_or(255)]).collect();
+        let flights = self.flights.iter().flat_map(|f| [f.number, f.due, f.rate, f.after, f.jump, f.limit.unwrap_or(255), f.late]).collect();
         Rows { capacities: self.capacities.clone(), flights }
     }
     pub fn sheet(&self) -> String {
@@ -75,10 +82,10 @@ impl Day {
         for (j, c) in self.capacities.iter().enumerate() {
             text += &format!("{},{}\n", j + 1, c);
         }
-        text += "flight,due,rate,after,jump,limit\n";
+        text += &format!("{}\n", NAMES[1]);
         for f in &self.flights {
             let limit = f.limit.map_or("-".to_string(), |l| l.to_string());
-            text += &format!("{},{},{},{},{},{}\n", f.number, f.due, f.rate, f.after, f.jump, limit);
+            text += &format!("{},{},{},{},{},{},{}\n", f.number, f.due, f.rate, f.after, f.jump, limit, f.late);
         }
         text
     }
@@ -119,7 +126,10 @@ impl Day {
 
 // ---- the reader: line by line, with the standard library's own splitting and parsing
 
-pub const NAMES: [&str; 2] = ["period,capacity", "flight,due,rate,after,jump,limit"];
+pub const NAMES: [&str; 2] = ["period,capacity", "flight,due,rate,after,jump,limit,late"];
+
+/// The second names line before #102.
+pub const OLD_NAMES: &str = "flight,due,rate,after,jump,limit";
 
 fn digits(field: &str) -> Option<u32> {
     let plain = !field.is_empty() && field.len() <= 7 && field.bytes().all(|b| b.is_ascii_digit());
@@ -128,9 +138,9 @@ fn digits(field: &str) -> Option<u32> {
 
 fn flight_of(line: &str) -> Option<Flight> {
     let fields: Vec<&str> = line.split(',').collect();
-    let [number, due, rate, after, jump, limit] = fields[..] else { return None };
+    let [number, due, rate, after, jump, limit, late] = fields[..] else { return None };
     let limit = if limit == "-" { None } else { Some(digits(limit)?) };
-    Some(Flight { number: digits(number)?, due: digits(due)?, rate: digits(rate)?, after: digits(after)?, jump: digits(jump)?, limit })
+    Some(Flight { number: digits(number)?, due: digits(due)?, rate: digits(rate)?, after: digits(after)?, jump: digits(jump)?, limit, late: digits(late)? })
 }
 
 fn period_of(line: &str) -> Option<(u32, u32)> {

@@ -1,5 +1,5 @@
 //! Inputs from a seed: days, rows that are no day, lengths and places, hold and price rows, sheets.
-use crate::day::{Day, Flight, Rows, FLIGHTS, NAMES, PERIODS, WIDTH};
+use crate::day::{Day, Flight, Rows, FLIGHTS, NAMES, OLD_NAMES, PERIODS, WIDTH};
 use crate::seed::Seed;
 use std::collections::BTreeSet;
 
@@ -44,6 +44,7 @@ struct Style {
     limit: Range,
     /// one flight in so many has no limit
     unlimited: u64,
+    late: Range,
 }
 
 fn style(seed: &Seed, periods: u64) -> Style {
@@ -55,6 +56,7 @@ fn style(seed: &Seed, periods: u64) -> Style {
         jump: seed.pick(&[(0, 0), (0, 9), (0, 1_000_000), (999_990, 1_000_000)]),
         limit: seed.pick(&[(0, 2), (0, 6), (0, 96), (periods / 2, 96), (90, 96)]),
         unlimited: seed.pick(&[1, 2, 3, 8, 1000]),
+        late: seed.pick(&[(0, 0), (0, 3), (0, 96), (85, 100), (0, 255), (250, 255)]),
     }
 }
 
@@ -67,6 +69,7 @@ fn flight(seed: &Seed, number: u32, periods: u64, style: &Style) -> Flight {
         after: field(style.after, (0, 96)),
         jump: field(style.jump, (0, 1_000_000)),
         limit: Some(field(style.limit, (0, 96))).filter(|_| !seed.one_in(style.unlimited)),
+        late: field(style.late, (0, 255)),
     }
 }
 
@@ -95,10 +98,10 @@ pub fn day_of_size(seed: &Seed, periods: u64, count: u64) -> Day {
 
 /// A day whose plan costs as much as any can, 250,880,000, or a little less.
 pub fn heavy_day(seed: &Seed) -> Day {
-    let dear = Style { due: (1, 1), rate: (10_000, 10_000), after: (0, 95), jump: (1_000_000, 1_000_000), limit: (96, 96), unlimited: 2 };
+    let dear = Style { due: (1, 1), rate: (10_000, 10_000), after: (0, 95), jump: (1_000_000, 1_000_000), limit: (96, 96), unlimited: 2, late: (0, 255) };
     let mut day = Day { capacities: vec![0; PERIODS], flights: Vec::new() };
     for number in numbers(seed, FLIGHTS as u64) {
-        day.flights.push(Flight { number, due: 1, rate: 10_000, after: seed.edged(0, 95), jump: 1_000_000, limit: seed.pick(&[None, Some(96)]) });
+        day.flights.push(Flight { number, due: 1, rate: 10_000, after: seed.edged(0, 95), jump: 1_000_000, limit: seed.pick(&[None, Some(96)]), late: seed.edged(0, 255) });
     }
     for _ in 0..seed.below(4) {
         let at = seed.below(128) as usize;
@@ -111,19 +114,19 @@ pub fn heavy_day(seed: &Seed) -> Day {
     day
 }
 
-/// A day whose sheet is about as long as one can be, 4,296 bytes.
+/// A day whose sheet is about as long as one can be, 4,813 bytes.
 pub fn wide_day(seed: &Seed) -> Day {
-    let wide = Style { due: (10, 96), rate: (10_000, 10_000), after: (10, 96), jump: (1_000_000, 1_000_000), limit: (10, 96), unlimited: 1000 };
+    let wide = Style { due: (10, 96), rate: (10_000, 10_000), after: (10, 96), jump: (1_000_000, 1_000_000), limit: (10, 96), unlimited: 1000, late: (100, 255) };
     let flights = (0..128).map(|i| flight(seed, 9_999 - i, 96, &wide)).collect();
     Day { capacities: (0..PERIODS).map(|_| seed.edged(100, 255)).collect(), flights }
 }
 
 /// A day on which all periods but the last few are closed and flights are due early, so that limits near the day's length bind.
-pub fn late_day(seed: &Seed) -> Day {
+pub fn day_open_at_its_end(seed: &Seed) -> Day {
     let periods = seed.between(90, 96);
     let count = seed.between(1, 16);
-    let late = Style { due: (1, 2), rate: (1, 10_000), after: (90, 96), jump: (0, 1_000_000), limit: (periods - 3, 96), unlimited: 8 };
-    let flights = numbers(seed, count).into_iter().map(|number| flight(seed, number, periods, &late)).collect();
+    let long = Style { due: (1, 2), rate: (1, 10_000), after: (90, 96), jump: (0, 1_000_000), limit: (periods - 3, 96), unlimited: 8, late: (0, 8) };
+    let flights = numbers(seed, count).into_iter().map(|number| flight(seed, number, periods, &long)).collect();
     let open = periods - seed.between(1, 4);
     Day { capacities: (0..periods).map(|k| if k < open { 0 } else { seed.edged(0, count) }).collect(), flights }
 }
@@ -136,11 +139,11 @@ pub fn spoil(seed: &Seed, rows: &mut Rows) {
         return rows.capacities.clear();
     }
     if rows.flights.is_empty() {
-        rows.flights = vec![1, 1, 1, 0, 0, 255];
+        rows.flights = vec![1, 1, 1, 0, 0, 255, 0];
     }
     let (p, n) = (rows.capacities.len(), rows.flights.len() / WIDTH);
     let i = seed.place(n) * WIDTH;
-    match seed.below(13) {
+    match seed.below(14) {
         0 => rows.capacities.clear(),
         1 => rows.capacities.resize(seed.pick(&[97, 97, 98, 1000]), seed.edged(0, 255)),
         2 => rows.capacities[seed.place(p)] = seed.from(256),
@@ -153,7 +156,8 @@ pub fn spoil(seed: &Seed, rows: &mut Rows) {
         9 => rows.flights[i + 3] = seed.from(97),
         10 => rows.flights[i + 4] = seed.from(1_000_001),
         11 => rows.flights[i + 5] = seed.pick(&[97, 98, 253, 254, seed.between(97, 254) as u32]),
-        _ => rows.flights[i + 5] = seed.from(256),
+        12 => rows.flights[i + 5] = seed.from(256),
+        _ => rows.flights[i + 6] = seed.from(256),
     }
 }
 
@@ -162,18 +166,18 @@ fn add_flights(rows: &mut Rows, count: usize) {
     let used: BTreeSet<u32> = rows.flights.iter().step_by(WIDTH).copied().collect();
     for number in (1..=9_999).rev().filter(|n| !used.contains(n)) {
         if rows.flights.len() < count * WIDTH {
-            rows.flights.extend([number, 1, 1, 0, 0, 255]);
+            rows.flights.extend([number, 1, 1, 0, 0, 255, 0]);
         }
     }
 }
 
 // ---- lengths and places
 
-/// The length wanted, or none, one less, a flight less, one more, many more.
+/// The length wanted, or none, one less, a flight less, a number less for each flight, one more, many more.
 pub fn length(seed: &Seed, exact: usize) -> usize {
     match seed.below(12) {
         0 => 0,
-        1 => exact.saturating_sub(seed.pick(&[1, 1, WIDTH])),
+        1 => exact.saturating_sub(seed.pick(&[1, 1, WIDTH, FLIGHTS])),
         2 => exact + 1,
         3 => exact + seed.between(2, 1000) as usize,
         _ => exact,
@@ -297,7 +301,7 @@ const ODD_FIELDS: [&str; 36] = [
 ];
 
 /// For each field of a flight line: numbers just out of range, and a dash where none may be.
-const JUST_PAST: [[&str; 3]; WIDTH] = [["0", "10000", "-"], ["0", "97", "-"], ["0", "10001", "-"], ["97", "98", "-"], ["1000001", "1000002", "-"], ["97", "255", "--"]];
+const JUST_PAST: [[&str; 3]; WIDTH] = [["0", "10000", "-"], ["0", "97", "-"], ["0", "10001", "-"], ["97", "98", "-"], ["1000001", "1000002", "-"], ["97", "255", "--"], ["256", "257", "-"]];
 
 fn lines(bytes: &[u8]) -> Vec<Vec<u8>> {
     bytes.split_inclusive(|&b| b == 10).map(<[u8]>::to_vec).collect()
@@ -358,10 +362,10 @@ fn odd_lines(seed: &Seed, bytes: &[u8]) -> Vec<u8> {
         }
         3 => drop(lines.drain(1.min(second)..second)),
         4 => lines.insert(second, format!("{second},{}\n", seed.edged(0, 256)).into_bytes()),
-        5 => lines.push(format!("{},1,1,0,0,-\n", seed.edged(1, 10_000)).into_bytes()),
+        5 => lines.push(format!("{},1,1,0,0,-,0\n", seed.edged(1, 10_000)).into_bytes()),
         // cut after the last period line or not at all, and a piece of a line there
         _ => {
-            let piece = seed.pick(&[&b""[..], b"\n", b"1", b"\r\n", b"\xff", b"\0", b"\0\n", b"flight,due,rate,after,jump,limit\n", b"flight,due,rate,after,jump,limit"]);
+            let piece = seed.pick(&[&b""[..], b"\n", b"1", b"\r\n", b"\xff", b"\0", b"\0\n", b"flight,due,rate,after,jump,limit,late\n", b"flight,due,rate,after,jump,limit,late", b"flight,due,rate,after,jump,limit\n"]);
             lines.truncate(seed.pick(&[second, lines.len()]));
             lines.push(piece.to_vec());
         }
@@ -384,13 +388,22 @@ fn odd_byte(seed: &Seed, mut bytes: Vec<u8>) -> Vec<u8> {
     bytes
 }
 
+/// The sheet as it was before #102: no column late.
+pub fn old_form(sheet: &str) -> String {
+    let (periods, flights) = sheet.split_once(NAMES[1]).unwrap();
+    let without_late = |line: &str| line.rsplit_once(',').map_or(String::new(), |(rest, _)| format!("{rest}\n"));
+    [periods, OLD_NAMES, "\n", &flights.lines().map(without_late).collect::<String>()].concat()
+}
+
 /// What other programs make of a sheet.
 fn other_form(seed: &Seed, sheet: &str) -> Vec<u8> {
-    match seed.below(5) {
+    match seed.below(7) {
         0 => sheet.replace('\n', "\r\n").into_bytes(),
         1 => ["\u{feff}", sheet].concat().into_bytes(),
         2 => sheet.replace(',', ";").into_bytes(),
         3 => sheet.replace('\n', "\r").into_bytes(),
+        4 => old_form(sheet).into_bytes(),
+        5 => sheet.replace(NAMES[1], OLD_NAMES).into_bytes(),
         _ => sheet.trim_end().as_bytes().to_vec(),
     }
 }

@@ -117,6 +117,18 @@ const BOARDS: [&str; 6] = [
     "board, due against table order in the closing period",
 ];
 
+/// A jump that late may cost, on both sides of its edge.
+const DELAYS: [&str; 8] = [
+    "full plan, late + hold less than after, not held",
+    "full plan, late + hold equal to after, not held",
+    "full plan, late + hold one more than after, not held",
+    "full plan, late + hold more than after, not held",
+    "full plan, late + hold less than after, held",
+    "full plan, late + hold equal to after, held",
+    "full plan, late + hold one more than after, held",
+    "full plan, late + hold more than after, held",
+];
+
 const SIZES: [&str; 15] = [
     "full plan of 96 periods and 128 flights",
     "full plan of more than 64 flights, some held, some period open",
@@ -151,6 +163,7 @@ fn small_days() {
     }
     must_reach(&run, 20, &EVERY_REFUSAL);
     must_reach(&run, 20, &BOARDS);
+    must_reach(&run, 20, &DELAYS);
 }
 
 #[test]
@@ -159,13 +172,14 @@ fn large_days() {
     for round in 0..days() / 2 {
         let day = match round % 16 {
             0 => inputs::heavy_day(&run.seed),
-            1 => inputs::late_day(&run.seed),
+            1 => inputs::day_open_at_its_end(&run.seed),
             2..=6 => inputs::day_of_size(&run.seed, 96, 128),
             _ => inputs::random_day(&run.seed, 96, 128),
         };
         every_call_of_a_day(&mut run, &day);
     }
     must_reach(&run, 5, &SIZES);
+    must_reach(&run, 5, &DELAYS);
 }
 
 #[test]
@@ -188,6 +202,36 @@ fn sheets() {
         run.read(&bytes, lengths.0, lengths.1);
     }
     must_reach(&run, 100, &READER);
+}
+
+/// A sheet that is refused so, by the reader here and by the core.
+fn expect_refused(run: &mut Run, sheet: &str, number: u64, offset: usize) {
+    assert_eq!(plain_read(sheet.as_bytes()).err(), Some((number, offset as u64)), "{sheet}");
+    run.read(sheet.as_bytes(), PERIODS, FLIGHT_ROW);
+}
+
+/// Sheets without the column late get 2 at the second names line, or 5 after 96 period lines. Where it is there, a late out of
+/// range gets 3, and one that is missing or no number 2.
+#[test]
+fn sheets_without_late() {
+    let mut run = Run::of(4);
+    for round in 0..days() / 2 {
+        let periods = if round % 4 == 0 { PERIODS } else { run.seed.between(1, 95) as usize };
+        let day = inputs::day_of_size(&run.seed, periods as u64, run.seed.between(1, 128));
+        let sheet = day.sheet();
+        let names = sheet.find("flight").unwrap();
+        let number = if periods == PERIODS { 5 } else { 2 };
+        expect_refused(&mut run, &inputs::old_form(&sheet), number, names);
+        expect_refused(&mut run, &sheet.replacen(",late\n", "\n", 1), number, names);
+        expect_refused(&mut run, &inputs::old_form(&sheet.replace(&sheet[16..names], "")), 2, 16);
+        // the last flight's line, up to its late
+        let line = sheet[..sheet.len() - 1].rfind('\n').unwrap() + 1;
+        let start = &sheet[..sheet.rfind(',').unwrap()];
+        for (late, number) in [(",256", 3), (",9999999", 3), (",-", 2), (",", 2), ("", 2), (",00", 2), (",10000000", 2), (",0,0", 2)] {
+            expect_refused(&mut run, &format!("{start}{late}\n"), number, line);
+        }
+    }
+    must_reach(&run, 100, &["reader [2]", "reader [3]", "reader [5]"]);
 }
 
 /// The report's example (NASA CR 177558, section 2.2.3), as printed there: the eligible flights and those that operate, period by

@@ -58,6 +58,12 @@ add-set-6 c = search needs
 set-requires-6 : tie.Need-set-requires-6 Inv-loop μ-loop
 set-requires-6 c κs = search needs
 
+add-set-7 : tie.Need-add-set-7 Inv-loop μ-loop
+add-set-7 c = search needs
+
+set-requires-7 : tie.Need-set-requires-7 Inv-loop μ-loop
+set-requires-7 c κs = search needs
+
 add-place : tie.Need-add-place Inv-loop μ-loop
 add-place c = search needs
 
@@ -94,6 +100,8 @@ number-flights-spec =
     set-requires-5
     add-set-6
     set-requires-6
+    add-set-7
+    set-requires-7
     add-place
     loop-less
     loop-again
