@@ -56,7 +56,7 @@ fn style(seed: &Seed, periods: u64) -> Style {
         jump: seed.pick(&[(0, 0), (0, 9), (0, 1_000_000), (999_990, 1_000_000)]),
         limit: seed.pick(&[(0, 2), (0, 6), (0, 96), (periods / 2, 96), (90, 96)]),
         unlimited: seed.pick(&[1, 2, 3, 8, 1000]),
-        late: seed.pick(&[(0, 0), (0, 3), (0, 96), (85, 100), (0, 255), (250, 255)]),
+        late: seed.pick(&[(0, 0), (0, 3), (0, 96), (85, 100), (0, 255), (124, 140), (250, 255)]),
     }
 }
 
@@ -173,13 +173,13 @@ fn add_flights(rows: &mut Rows, count: usize) {
 
 // ---- lengths and places
 
-/// The length wanted, or none, one less, a flight less, a number less for each flight, one more, many more.
+/// The length wanted, or none, one less, a flight less, a number less for each flight, one more, a flight more, many more.
 pub fn length(seed: &Seed, exact: usize) -> usize {
     match seed.below(12) {
         0 => 0,
         1 => exact.saturating_sub(seed.pick(&[1, 1, WIDTH, FLIGHTS])),
         2 => exact + 1,
-        3 => exact + seed.between(2, 1000) as usize,
+        3 => exact + seed.pick(&[WIDTH, seed.between(2, 1000) as usize]),
         _ => exact,
     }
 }
