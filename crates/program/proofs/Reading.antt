@@ -39,7 +39,7 @@ pub record Held (sheet : List ℕ) (p n : ℕ) (capacity-row flight-row : List �
   pub capacities-within : p ≤ length capacity-row
   pub flights-within : n * width ≤ length flight-row
 
--- rows of 96 and 768 numbers are never refused
+-- rows of the most periods and flights are never refused for their length
 opened : (sheet c f : List ℕ) → mostPeriods ≡ length c → mostFlights * width ≡ length f → reading sheet c f ≡ readSheet sheet
 unfolding reading
 opened sheet c f p q = rw (eq-eqb (length c) mostPeriods (sym p), eq-eqb (length f) (mostFlights * width) (sym q))

@@ -1,7 +1,6 @@
 -- The quick plan has no jumps, so that the delay that flights bring along changes nothing in it (#102).
 -- Assumes nothing.
 use mathlib.Core.Path.{_≡_, refl, sym, ap, _∙_}
-use mathlib.Core.Logic.{_≢_}
 use mathlib.Core.Bool.{Bool, true, false, cond, not, _&&_}
 use mathlib.Core.List.{List}
 use Prim.Native.Nat.{ℕ, zero, suc, _-_, _*_, _/_, _<_, _≤_}
@@ -14,15 +13,16 @@ use Rattle.assignment.specs.Rows.{row}
 use Rattle.assignment.proofs.Sums.{sum-ext}
 use Rattle.assignment.proofs.Rows.{row-ext}
 use Rattle.answers.specs.declared.Answer.the-variants.{Planned, BadLength, JumpOrLimit}
-use Rattle.day.specs.Day.{Day, day, P, N, width, column, dueOf, rateOf, jumpOf, limitOf, due, rate, capacity, cost, hold, flightAt, flightCount, totalOf, total, valid}
+use Rattle.day.specs.Day.{Day, day, P, N, width, due, rate, capacity, cost, hold, flightAt, flightCount, totalOf, total, valid}
 use Rattle.day.specs.Flights.{SameBut}
 use Rattle.day.specs.Plan.{firstOf, jumpOrLimit, firstJumpOrLimit}
 use Rattle.day.proofs.Costs.{cost-plain}
 use Rattle.day.proofs.Tests.{first-same, first-le}
 use Rattle.quick_plan.specs.Quick.{aheadOf, ahead, goingBefore, highest, eligible, operates, lands, quick}
-use Rattle.quick_plan.specs.Calls.{Outcome, outcome, quickPlan}
+use Rattle.quick_plan.specs.Calls.{outcome, quickPlan}
 use Rattle.quick_plan.proofs.Applies.{no-jump}
 
+-- two rows of flights that differ in column 6, late, alone
 module _ (capacities : List ℕ) {flights others : List ℕ} (same : SameBut 6 flights others) where
   abbrev d : Day
   d = day capacities flights
