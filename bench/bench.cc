@@ -186,7 +186,7 @@ static Day tight_day(Random &random, uint32_t periods, uint32_t count)
         uint32_t due = 1 + below(random, periods * 3 / 4), rate = 1 + below(random, 10000), after = below(random, periods * 5 / 16 + 1);
         uint32_t jump = below(random, 4) == 0 ? 0 : 1 + below(random, 1000000);
         uint32_t limit = below(random, 2) == 0 ? MISSING : periods / 4 + below(random, 97 - periods / 4);
-        day.flights.insert(day.flights.end(), {i, due, rate, after, jump, limit});
+        day.add(i, due, rate, after, jump, limit, 0);
     }
     day.fit();
     return day;
@@ -200,7 +200,8 @@ static std::vector<Desk> growing_days()
         for (int n = 0; n < 10; n++) {
             uint32_t count = periods * 4 / 3;
             Day day = tight_day(random, periods, count);
-            while (day.plan().number != 0) day = tight_day(random, periods, count);
+            while (day.plan().number == HOLD_DESK_NO_PLAN) day = tight_day(random, periods, count);
+            expect(day.plan().number == HOLD_DESK_ACCEPTED, "a made day is refused");
             day.name = std::to_string(periods) + " x " + std::to_string(count) + "-" + std::to_string(n);
             desks.emplace_back(day);
         }

@@ -65,6 +65,13 @@ struct Day {
     uint32_t field(size_t i, Field j) const { return flights[i * FIELDS + j]; }
     uint32_t &field(size_t i, Field j) { return flights[i * FIELDS + j]; }
 
+    // one flight more
+    void add(uint32_t number, uint32_t due, uint32_t rate, uint32_t after, uint32_t jump, uint32_t limit, uint32_t late)
+    {
+        static_assert(LATE + 1 == FIELDS, "late is the last column");
+        flights.insert(flights.end(), {number, due, rate, after, jump, limit, late});
+    }
+
     // the rows to plan into, after a change of the day's size
     void fit()
     {

@@ -102,7 +102,10 @@ static Day made_day(Random &random, const std::string &name, bool closed)
     Day day;
     day.name = name;
     for (size_t k = 0; k < MOST_PERIODS; k++) day.capacities.push_back(!closed ? 1 : below(random, 8) == 0 ? 1 + below(random, 20) : 0);
-    for (uint32_t i = 1; i <= MOST_FLIGHTS; i++) day.flights.insert(day.flights.end(), {i, 1, 1 + below(random, 10000), below(random, 97), some_jump(random), MISSING, 0});
+    for (uint32_t i = 1; i <= MOST_FLIGHTS; i++) {
+        uint32_t rate = 1 + below(random, 10000), after = below(random, 97);
+        day.add(i, 1, rate, after, some_jump(random), MISSING, 0);
+    }
     for (size_t i = 0; i < MOST_FLIGHTS; i++) day.field(i, DUE) = 1 + below(random, 1u << below(random, 4));
     day.fit();
     return day;
