@@ -109,7 +109,8 @@ hold_desk_answer hold_desk_write_sheet(const uint32_t *capacities, size_t capaci
                                        const uint32_t *flights, size_t flights_len,
                                        uint8_t *text, size_t text_len, size_t place);
 
-/* The quick plan of a day without jumps and limits: fills a hold row of N. Accepted: 0 with the total. Refusals 6, 7, 8. */
+/* The quick plan of a day without jumps and limits, in which lates change nothing: fills a hold row of N. Accepted: 0 with the
+ * total. Refusals 6, 7, 8. */
 hold_desk_answer hold_desk_quick_plan(const uint32_t *capacities, size_t capacities_len,
                                       const uint32_t *flights, size_t flights_len,
                                       uint32_t *holds, size_t holds_len);
