@@ -56,20 +56,23 @@ fn style(seed: &Seed, periods: u64) -> Style {
         jump: seed.pick(&[(0, 0), (0, 9), (0, 1_000_000), (999_990, 1_000_000)]),
         limit: seed.pick(&[(0, 2), (0, 6), (0, 96), (periods / 2, 96), (90, 96)]),
         unlimited: seed.pick(&[1, 2, 3, 8, 1000]),
-        late: seed.pick(&[(0, 0), (0, 3), (0, 96), (85, 100), (0, 255), (124, 140), (250, 255)]),
+        late: seed.pick(&[(0, 0), (0, 3), (0, 96), (85, 100), (0, 255), (250, 255)]),
     }
 }
 
 fn flight(seed: &Seed, number: u32, periods: u64, style: &Style) -> Flight {
     let field = |part: Range, whole: Range| if seed.one_in(16) { seed.edged(whole.0, whole.1) } else { seed.edged(part.0, part.1) };
+    let after = field(style.after, (0, 96));
+    // a late that costs the jump, but whose low seven bits would not
+    let high = 128 + seed.edged(0, after as u64);
     Flight {
         number,
         due: field(style.due, (1, periods)),
         rate: field(style.rate, (1, 10_000)),
-        after: field(style.after, (0, 96)),
+        after,
         jump: field(style.jump, (0, 1_000_000)),
         limit: Some(field(style.limit, (0, 96))).filter(|_| !seed.one_in(style.unlimited)),
-        late: field(style.late, (0, 255)),
+        late: if seed.one_in(8) { high } else { field(style.late, (0, 255)) },
     }
 }
 
@@ -261,6 +264,23 @@ pub fn hold_row(seed: &Seed, day: &Day, plan: &[u32]) -> Vec<u32> {
         holds[i] = seed.pick(&[holds[i].wrapping_add(1), holds[i].wrapping_sub(1), 0, most, most + 1, around.wrapping_sub(f.due), u32::MAX]);
     }
     resized(seed, holds)
+}
+
+/// The plan with two flights in each other's landing period, where a few tries find two whose windows allow it: another legal
+/// plan, whose cost differs by those two alone.
+pub fn exchanged(seed: &Seed, day: &Day, plan: &[u32]) -> Vec<u32> {
+    let mut holds = plan.to_vec();
+    for _ in 0..if plan.is_empty() { 0 } else { 8 } {
+        let (i, k) = (seed.place(plan.len()), seed.place(plan.len()));
+        let (one, other) = (&day.flights[i], &day.flights[k]);
+        let (lands, there) = (one.due + plan[i], other.due + plan[k]);
+        let may_land = |f: &Flight, period: u32| (f.due..=f.last(day.periods())).contains(&period);
+        if lands != there && may_land(one, there) && may_land(other, lands) {
+            (holds[i], holds[k]) = (there - one.due, lands - other.due);
+            break;
+        }
+    }
+    holds
 }
 
 /// Mostly as it is; else shorter or longer.

@@ -50,6 +50,10 @@ fn around_the_plan(run: &mut Run, day: &Day, holds: &[u32], prices: &[u32]) {
         run.choice(&rows, &first, &second);
         run.choice(&rows, &second, &first);
         run.choice(&rows, &first, &first);
+        let other = inputs::exchanged(&run.seed, day, holds);
+        let another = inputs::exchanged(&run.seed, day, &other);
+        run.choice(&rows, &other, &another);
+        run.choice(&rows, &another, &other);
         let length = inputs::length(&run.seed, holds.len());
         run.board(&rows, &first, length);
         let (length, place) = inputs::room(&run.seed, day.plan_text(holds).len());
