@@ -7,12 +7,9 @@ use native.Mathlib.Omega.{arith}
 use lib.Dec.{ltb, eqb}
 use Rattle.assignment.specs.Sum.{gate, count}
 use Rattle.assignment.specs.Assignment.{Instance, In, Plan, Legal, total, Cheapest, Accepted}
+use Rattle.assignment.specs.Instances.{more}
 use Rattle.assignment.proofs.Tests.{lt?, gate-ge}
 use Rattle.assignment.proofs.Sums.{sum-le, sum-add, sum-pick, exchange-all, gate-one}
-
--- the day whose capacity at k alone is one more
-abbrev pub more : Instance → ℕ → Instance
-more d k = record { n = d .n; m = d .m; lo = d .lo; hi = d .hi; cost = d .cost; cap = λ j. d .cap j + gate (eqb k j) 1; within = d .within }
 
 -- The proof on paper. Let x be accepted with prices p, and z a plan that is legal if period a has one place more. Each flight pays, cost and
 -- price together, no more in x than in z; add up over the flights. The prices paid, added up by periods, are price times landings. In no

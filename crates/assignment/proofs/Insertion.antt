@@ -15,7 +15,6 @@ use Rattle.assignment.specs.Insertion.{Link, Sound, Root, Hop, Tree, Fir
 use Rattle.assignment.proofs.Tests.{gate-eq, gate-ne, gate-lt, gate-ge, lt?, eq?}
 use Rattle.assignment.proofs.Sums.{count-suc, count-ext, count-zero, sum-ext}
 use Rattle.assignment.proofs.Moves.{moved-count, moved-total, moved-settled, put-moved}
-use Rattle.assignment.proofs.Saving.{Smallest, smallest}
 
 -- ---- the walk back from z: `at` is to take the next flight
 
@@ -160,13 +159,6 @@ module _ {d : Instance} {x₀ x q order via : ℕ → ℕ} {u z at : ℕ} (s : G
             };
             apart = λ b. rw same (omega (arith, a .lower, g .apart (omega (arith, r .others k e))));
           }
-
-pub sound-smallest : {d : Instance} {x q : ℕ → ℕ} → Sound d x q → Smallest d x q
-sound-smallest {d} {x} {q} s = smallest d x q (s .height) (s .accepted) (s .held)
-
--- no price is above the total
-pub price-le : {d : Instance} {x q : ℕ → ℕ} → Sound d x q → (k : ℕ) → q k ≤ total d x
-price-le s k = omega (arith, sound-smallest s .saved k .saves)
 
 -- what the end of the walk asks of its start
 pub record Ground (d : Instance) (x q : ℕ → ℕ) (u z : ℕ) : Type 0 where

@@ -105,12 +105,15 @@ module _ (d : Instance) {π : ℕ → ℕ} (q : Permuted (d .n) π) where
     counts : (k : ℕ) → count (d .n) y k ≡ count (d .n) x k
     counts k = count-ext (d .n) (λ s. x (π s)) y same k ∙ permuted-count q x k
 
-    pub permuted-accepted : {p : ℕ → ℕ} → Accepted d′ y p → Accepted d x p
+    renamed : {s k : ℕ} → In d′ s k → In d (π s) k
+    renamed w = record { from = w .from; to = w .to }
+
+    permuted-accepted : {p : ℕ → ℕ} → Accepted d′ y p → Accepted d x p
     permuted-accepted {p} said = record {
       legal = record {
         window = λ i l.
             let h = permuted-stands q i l in
-            rw (h .is) at (renamed (h .at) (rw (same (h .at) (h .in-row)) at (said .legal .window (h .at) (h .in-row))));
+            rw (h .is) at (renamed (rw (same (h .at) (h .in-row)) at (said .legal .window (h .at) (h .in-row))));
         room = λ k. omega (arith, said .legal .room k, counts k);
       };
       unsold = λ k free. said .unsold k (omega (arith, counts k));
@@ -119,11 +122,24 @@ module _ (d : Instance) {π : ℕ → ℕ} (q : Permuted (d .n) π) where
           rw (h .is) at (pays (h .at) k (h .in-row) (rw (← (h .is)) at w));
     }
       where
-        renamed : (s : ℕ) → In d′ s (x (π s)) → In d (π s) (x (π s))
-        renamed s w = record { from = w .from; to = w .to }
-
         pays : (s k : ℕ) → s < d .n → In d (π s) k → d .cost (π s) (x (π s)) + p (x (π s)) ≤ d .cost (π s) k + p k
         pays s k l w = rw (same s l) at (said .best s k l (record { from = w .from; to = w .to }))
+
+    pub permuted-sound : {p : ℕ → ℕ} → Sound d′ y p → Sound d x p
+    permuted-sound {p} s = record {
+      accepted = permuted-accepted (s .accepted);
+      height = s .height;
+      held = λ k. elim (s .held k) [
+        | inl none ↦ inl none
+        | inr a ↦ inr (record {
+          by = π (a .by);
+          who = q .below (a .by) (a .who);
+          fits = renamed (a .fits);
+          lower = rw (same (a .by) (a .who)) at (a .lower);
+          tie = rw (same (a .by) (a .who)) at (a .tie);
+        })
+      ];
+    }
 
   -- a stretch that is short for some of the flights is short
   pub permuted-short : {n a b : ℕ} → n ≤ d .n → Short (ordered d π n) a b → Short d a b

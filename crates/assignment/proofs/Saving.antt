@@ -6,9 +6,10 @@ use Prim.Native.Nat.{ℕ, zero, suc, _+_, _≤_, _<_}
 use native.Mathlib.Omega.{arith}
 use lib.Dec.{eqb}
 use Rattle.assignment.specs.Sum.{gate, count}
-use Rattle.assignment.specs.Assignment.{Instance, In, Plan, total, Accepted}
+use Rattle.assignment.specs.Assignment.{Instance, In, Plan, Legal, total}
 use Rattle.assignment.specs.Moves.{Moved, put}
-use Rattle.assignment.specs.Insertion.{Link, Held}
+use Rattle.assignment.specs.Instances.{more}
+use Rattle.assignment.specs.Insertion.{Link, Held, Sound}
 use Rattle.assignment.proofs.Moves.{moved-count, moved-total, moved-window, put-moved}
 
 -- a plan of the day with one more place in k, which saves the price of k
@@ -47,10 +48,17 @@ module _ (d : Instance) (q height : ℕ → ℕ) where
         }
   ]
 
--- prices that say yes, and save what they say
-pub record Smallest (d : Instance) (x q : ℕ → ℕ) : Type 0 where
-  pub accepted : Accepted d x q
+-- prices that are accepted and held up save what they say
+module _ {d : Instance} {x q : ℕ → ℕ} (s : Sound d x q) where
   pub saved : (k : ℕ) → Saved d x q k
+  saved k = save d q (s .height) (suc (s .height k)) k x (omega arith) (s .accepted .legal .window) (λ j _. s .held j)
 
-pub smallest : (d : Instance) (x q height : ℕ → ℕ) → Accepted d x q → ((k : ℕ) → Held d x q height k) → Smallest d x q
-smallest d x q height said held = record { accepted = said; saved = λ k. save d q height (suc (height k)) k x (omega arith) (said .legal .window) (λ j _. held j) }
+  pub saved-legal : (k : ℕ) → Legal (more d k) (saved k .plan)
+  saved-legal k = record {
+    window = λ i l. let w = saved k .window i l in record { from = w .from; to = w .to };
+    room = λ j. omega (arith, saved k .counts j, s .accepted .legal .room j);
+  }
+
+  -- no price is above the total
+  pub price-le : (k : ℕ) → q k ≤ total d x
+  price-le k = omega (arith, saved k .saves)

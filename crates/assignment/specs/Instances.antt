@@ -1,4 +1,5 @@
--- Instances made from others: with a flight more, with the flights in another order, with shorter windows, with closed periods shut.
+-- Instances made from others: with a flight more, with the flights in another order, with shorter windows, with closed periods shut, with
+-- one more place in a period.
 -- Assumes nothing.
 use mathlib.Core.Bool.{cond}
 use Prim.Native.Nat.{ℕ, suc, _+_, _≤_, min}
@@ -52,5 +53,17 @@ opened d more = record {
   hi = d .hi;
   cost = λ i k. d .cost i k + gate (eqb (d .cap k) 0) more;
   cap = d .cap;
+  within = d .within;
+}
+
+-- the capacity of period k alone is one more
+abbrev pub more : Instance → ℕ → Instance
+more d k = record {
+  n = d .n;
+  m = d .m;
+  lo = d .lo;
+  hi = d .hi;
+  cost = d .cost;
+  cap = λ j. d .cap j + gate (eqb k j) 1;
   within = d .within;
 }

@@ -19,7 +19,7 @@ use Rattle.day.specs.Plan.{Legal, Short, Picked}
 use Rattle.day.specs.Valid.{Valid}
 use Rattle.day.specs.Instance.{instance, last}
 use Rattle.day.proofs.Costs.{takes-closing, due-latest}
-use Rattle.day.proofs.Instance.{instance-legal, instance-short, short-has-no-plan}
+use Rattle.day.proofs.Instance.{holdsOf, holds-legal, instance-short, short-has-no-plan}
 
 pub record HasPlan (d : Day) : Type 0 where
   pub holds : List ℕ
@@ -36,19 +36,7 @@ module _ {d : Day} (v : Valid d) where
   due-le-last i l = omega (arith, due-latest d i (v .flight i l .due-to), v .flight i l .due-to)
 
   plan-of-day : existence.HasPlan (instance d) → HasPlan d
-  plan-of-day p = record { holds = holds; legal = instance-legal v (row-length (N d) _) legal }
-    where
-      holds : List ℕ
-      holds = row (N d) (λ i. p .plan i - due d i)
-
-      lands : (i : ℕ) → i < N d → land d holds i ≡ p .plan i
-      lands i l = omega (arith, row-at (N d) (λ o. p .plan o - due d o) i 0 l, p .legal .window i l .from)
-
-      legal : A.Legal (instance d) (land d holds)
-      legal = record {
-        window = λ i l. rw (lands i l) (p .legal .window i l);
-        room = λ k. omega (arith, count-ext (N d) (p .plan) (land d holds) lands k, p .legal .room k);
-      }
+  plan-of-day p = record { holds = holdsOf d (p .plan); legal = holds-legal d (p .legal) }
 
   -- a short stretch ends before the closing period, which alone has room for every flight
   short-to : {a b : ℕ} → a ≤ b → A.Short (instance d) a b → b < P d + 2 → b ≤ P d

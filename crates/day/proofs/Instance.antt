@@ -13,15 +13,18 @@ use lib.Dec.{leb, eqb}
 use Rattle.assignment.specs.Sum.{gate, count}
 use Rattle.assignment.specs.Assignment as A
 use Rattle.assignment.proofs.Tests.{lt?, eq?, gate-ne}
-use Rattle.assignment.proofs.Sums.{sum-ext, sum-zero, sum-most, count-le}
+use Rattle.assignment.specs.Rows.{row}
+use Rattle.assignment.proofs.Sums.{sum-ext, sum-zero, sum-most, count-le, count-ext}
+use Rattle.assignment.proofs.Rows.{row-length, row-at}
 use Rattle.assignment.proofs.Duality as duality
 use Rattle.assignment.proofs.Stretch as stretch
 use Rattle.day.specs.Day.{Day, P, N, due, rate, ofPeriod, capacity, takes, cost, latest, Window, hold, land, totalOf, total}
 use Rattle.day.specs.Plan.{Legal, Cheapest, Accepted, mustLand, room, Short}
 use borrow.Author.Tests.{le-leb, lt-leb}
 use Rattle.day.proofs.Costs.{takes-in, takes-closing, period-out, cost-most}
-use Rattle.day.specs.Valid.{Valid}
+use Rattle.day.specs.Valid.{ValidFlights, Valid}
 use Rattle.day.specs.Instance.{last, last-to, instance}
+use Rattle.day.proofs.Valid.{valid-flights}
 
 pub last-latest : (d : Day) (i : ℕ) → last d i ≤ latest d i
 unfolding last
@@ -51,51 +54,71 @@ pub total-instance : (d : Day) (h : List ℕ) → A.total (instance d) (land d h
 unfolding A.total totalOf
 total-instance d h = sum-ext (N d) (λ i. cost d i (land d h i - due d i)) (λ i. cost d i (hold h i)) (λ i l. ap (cost d i) (hold-of d h i))
 
-module _ {d : Day} (v : Valid d) {h : List ℕ} where
-  pub legal-instance : Legal d h → A.Legal (instance d) (land d h)
-  legal-instance legal = record { window = λ i l. window-in (legal .window i l); room = fits }
+-- only the flights need be valid
+pub legal-instance : {d : Day} {h : List ℕ} → ValidFlights (P d) (d .flights) → Legal d h → A.Legal (instance d) (land d h)
+legal-instance {d} {h} v legal = record { window = λ i l. window-in (legal .window i l); room = fits }
+  where
+    fits : (k : ℕ) → count (N d) (land d h) k ≤ takes (d .capacities) k
+    fits k = elim (lt? (P d) k) [
+      | inr in-day ↦ elim (lt? 0 k) [
+        | inl some ↦ omega (arith, takes-in (d .capacities) k in-day, legal .room k some in-day)
+        | inr none ↦ omega (arith, count-out (N d) (land d h) k (λ i l. omega (arith, v .flight i l .due-from)))
+      ]
+      | inl past ↦ elim (eq? k (P d + 1)) [
+        | inl closing ↦ rw closing (omega (arith, takes-closing (d .capacities), count-le (N d) (land d h) (P d + 1), v .flights-to))
+        | inr out ↦ omega (arith, count-out (N d) (land d h) k (λ i l. omega (arith, legal .window i l .closing)))
+      ]
+    ]
+
+pub instance-legal : {d : Day} {h : List ℕ} → length h ≡ N d → A.Legal (instance d) (land d h) → Legal d h
+instance-legal {d} each legal = record {
+  each = each;
+  window = λ i l. in-window (legal .window i l);
+  room = λ k a b. omega (arith, takes-in (d .capacities) k b, legal .room k);
+}
+
+-- a plan as a row of holds
+abbrev pub holdsOf : Day → (ℕ → ℕ) → List ℕ
+holdsOf d x = row (N d) (λ i. x i - due d i)
+
+module _ (d : Day) {x : ℕ → ℕ} (legal : A.Legal (instance d) x) where
+  lands : (i : ℕ) → i < N d → land d (holdsOf d x) i ≡ x i
+  lands i l = omega (arith, row-at (N d) (λ o. x o - due d o) i 0 l, legal .window i l .from)
+
+  pub holds-legal : Legal d (holdsOf d x)
+  holds-legal = instance-legal (row-length (N d) _) (record {
+    window = λ i l. rw (lands i l) (legal .window i l);
+    room = λ k. omega (arith, count-ext (N d) x (land d (holdsOf d x)) lands k, legal .room k);
+  })
+
+  pub holds-total : total d (holdsOf d x) ≡ A.total (instance d) x
+  unfolding A.total
+  holds-total =
+      sym (total-instance d (holdsOf d x))
+      ∙ sum-ext (N d) (λ i. cost d i (land d (holdsOf d x) i - due d i)) (λ i. cost d i (x i - due d i)) (λ i l. ap (λ k. cost d i (k - due d i)) (lands i l))
+
+module _ {d : Day} {h p : List ℕ} where
+  pub accepted-instance : Valid d → Accepted d h p → A.Accepted (instance d) (land d h) (ofPeriod p)
+  accepted-instance v said = record {
+    legal = legal-instance (valid-flights v) (said .legal);
+    unsold = unsold;
+    best = λ i k l w. rw (hold-of d h i) (said .least i k l (in-window w));
+  }
     where
-      fits : (k : ℕ) → count (N d) (land d h) k ≤ takes (d .capacities) k
-      fits k = elim (lt? (P d) k) [
-        | inr in-day ↦ elim (lt? 0 k) [
-          | inl some ↦ omega (arith, takes-in (d .capacities) k in-day, legal .room k some in-day)
-          | inr none ↦ omega (arith, count-out (N d) (land d h) k (λ i l. omega (arith, v .flight i l .due-from)))
-        ]
-        | inl past ↦ elim (eq? k (P d + 1)) [
-          | inl closing ↦ rw closing (omega (arith, takes-closing (d .capacities), count-le (N d) (land d h) (P d + 1), v .flights-to))
-          | inr out ↦ omega (arith, count-out (N d) (land d h) k (λ i l. omega (arith, legal .window i l .closing)))
-        ]
+      unsold : (k : ℕ) → count (N d) (land d h) k < takes (d .capacities) k → ofPeriod p k ≡ 0
+      unsold zero less = refl
+      unsold (suc k) less = elim (lt? k (P d)) [
+        | inl in-day ↦ said .unsold (suc k) (omega arith) in-day (omega (arith, takes-in (d .capacities) (suc k) in-day))
+        | inr past ↦ period-out p (suc k) (omega (arith, said .each))
       ]
 
-  pub instance-legal : length h ≡ N d → A.Legal (instance d) (land d h) → Legal d h
-  instance-legal each legal = record {
-    each = each;
-    window = λ i l. in-window (legal .window i l);
-    room = λ k a b. omega (arith, takes-in (d .capacities) k b, legal .room k);
+  pub instance-accepted : length h ≡ N d → length p ≡ P d → A.Accepted (instance d) (land d h) (ofPeriod p) → Accepted d h p
+  instance-accepted holds prices said = record {
+    legal = instance-legal holds (said .legal);
+    each = prices;
+    unsold = λ k a b less. said .unsold k (omega (arith, takes-in (d .capacities) k b));
+    least = λ i k l w. rw (hold-of d h i) at (said .best i k l (window-in w));
   }
-
-  module _ {p : List ℕ} where
-    pub accepted-instance : Accepted d h p → A.Accepted (instance d) (land d h) (ofPeriod p)
-    accepted-instance said = record {
-      legal = legal-instance (said .legal);
-      unsold = unsold;
-      best = λ i k l w. rw (hold-of d h i) (said .least i k l (in-window w));
-    }
-      where
-        unsold : (k : ℕ) → count (N d) (land d h) k < takes (d .capacities) k → ofPeriod p k ≡ 0
-        unsold zero less = refl
-        unsold (suc k) less = elim (lt? k (P d)) [
-          | inl in-day ↦ said .unsold (suc k) (omega arith) in-day (omega (arith, takes-in (d .capacities) (suc k) in-day))
-          | inr past ↦ period-out p (suc k) (omega (arith, said .each))
-        ]
-
-    pub instance-accepted : length h ≡ N d → length p ≡ P d → A.Accepted (instance d) (land d h) (ofPeriod p) → Accepted d h p
-    instance-accepted holds prices said = record {
-      legal = instance-legal holds (said .legal);
-      each = prices;
-      unsold = λ k a b less. said .unsold k (omega (arith, takes-in (d .capacities) k b));
-      least = λ i k l w. rw (hold-of d h i) at (said .best i k l (window-in w));
-    }
 
 -- "A yes means that no legal plan is cheaper."
 pub accepted-is-cheapest : {d : Day} {h p : List ℕ} → Valid d → Accepted d h p → Cheapest d h
@@ -103,7 +126,7 @@ accepted-is-cheapest {d} {h} {p} v said = record {
   legal = said .legal;
   least = λ g legal. omega (
     arith,
-    duality.accepted-is-cheapest (instance d) (land d h) (ofPeriod p) (accepted-instance v said) .least (land d g) (legal-instance v legal),
+    duality.accepted-is-cheapest (instance d) (land d h) (ofPeriod p) (accepted-instance v said) .least (land d g) (legal-instance (valid-flights v) legal),
     total-instance d h,
     total-instance d g,
   );
@@ -137,7 +160,7 @@ module _ (d : Day) (a b : ℕ) (to : b ≤ P d) where
 
 -- a short stretch leaves no legal plan
 pub short-has-no-plan : {d : Day} {a b : ℕ} {h : List ℕ} → Valid d → Short d a b → Legal d h → ⊥
-short-has-no-plan {d} {a} {b} {h} v s legal = stretch.short-has-no-plan (short-instance d a b (s .to) s) (land d h) (legal-instance v legal)
+short-has-no-plan {d} {a} {b} {h} v s legal = stretch.short-has-no-plan (short-instance d a b (s .to) s) (land d h) (legal-instance (valid-flights v) legal)
 
 -- ---- the bound of totals
 

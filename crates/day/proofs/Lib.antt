@@ -5,3 +5,4 @@ pub mod Flights
 pub mod Valid
 pub mod Instance
 pub mod Existence
+pub mod Prices

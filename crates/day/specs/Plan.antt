@@ -1,15 +1,16 @@
--- Plans of a day: which are legal, which are cheapest, which prices show it, and which stretches of periods leave no plan.
+-- Plans of a day: which are legal, which are cheapest, which prices show it, what one more landing saves, and which stretches of periods
+-- leave no plan.
 -- A plan is a row of N holds, in table order.
 -- Assumes nothing.
 use mathlib.Core.Path.{_≡_}
 use mathlib.Core.Bool.{Bool, cond, not, _&&_, _||_}
 use mathlib.Core.List.{List}
 use Prim.Native.Nat.{ℕ, zero, suc, _+_, _-_, _≤_, _<_}
-use lib.ListN.{length}
+use lib.ListN.{length, set}
 use lib.Dec.{leb, ltb}
 use Rattle.assignment.specs.Sum.{gate, sum, count}
 use Rattle.day.specs.declared.Flight.{Flight}
-use Rattle.day.specs.Day.{Day, P, N, flightCount, flightAt, due, missing, ofPeriod, capacity, cost, latest, Window, hold, land, landings, total}
+use Rattle.day.specs.Day.{Day, day, P, N, flightCount, flightAt, due, missing, ofPeriod, capacity, cost, latest, Window, hold, land, landings, total}
 
 -- "A legal plan gives each flight one hold of 0 or more; no landing is after P+1; no hold is over its limit; no period 1 to P has more
 -- landings than its capacity."
@@ -31,6 +32,22 @@ pub record Accepted (d : Day) (holds prices : List ℕ) : Type 0 where
   pub unsold : (k : ℕ) → 1 ≤ k → k ≤ P d → landings d holds k < capacity d k → ofPeriod prices k ≡ 0
   pub least : (i k : ℕ) → i < N d → Window d i k
       → cost d i (hold holds i) + ofPeriod prices (land d holds i) ≤ cost d i (k - due d i) + ofPeriod prices k
+
+-- #103: "the smallest that the price check accepts, period by period together": accepted, and no entry is above that of any row that the
+-- check accepts, for whichever plan (the plan that a row is accepted for is cheapest)
+pub record Smallest (d : Day) (holds prices : List ℕ) : Type 0 where
+  pub accepted : Accepted d holds prices
+  pub lowest : (others row : List ℕ) → Accepted d others row → (k : ℕ) → ofPeriod prices k ≤ ofPeriod row k
+
+-- #103: the day in which period k of 1 to P "alone had a capacity greater by one"; it need not pass the check of a day
+abbrev pub oneMore : Day → ℕ → Day
+oneMore d k = day (set (d .capacities) (k - 1) (capacity d k + 1)) (d .flights)
+
+-- #103: "the fall in least total": a cheapest plan of that day costs so much less than the least total of this one
+pub record Saves (d : Day) (leastTotal k price : ℕ) : Type 0 where
+  pub plan : List ℕ
+  pub cheapest : Cheapest (oneMore d k) plan
+  pub falls-by : total (oneMore d k) plan + price ≡ leastTotal
 
 -- the flights that must land in the periods a to b: "those with due at least a and due + limit at most b, a missing limit reaching past P"
 unfoldable pub mustLand : Day → ℕ → ℕ → ℕ

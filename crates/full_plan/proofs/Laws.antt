@@ -4,14 +4,13 @@ use mathlib.Core.Path.{_≡_, refl, sym, ap, _∙_}
 use mathlib.Core.Bool.{true, false}
 use mathlib.Core.List.{List}
 use Prim.Native.Nat.{ℕ}
-use native.Mathlib.Omega.{arith}
 use lib.ListN.{length}
 use borrow.Author.Tests.{eq-eqb, ne-eqb}
 use Rattle.answers.specs.declared.Answer.{Answer}
 use Rattle.answers.specs.declared.Answer.the-variants.{Planned, BadDay, BadLength, NoPlan}
 use Rattle.day.specs.Day.{Day, day, P, N, valid}
 use Rattle.day.specs.Plan.{Short, Picked}
-use Rattle.day.proofs.Instance.{accepted-is-cheapest, total-le}
+use Rattle.day.proofs.Instance.{accepted-is-cheapest}
 use Rattle.day.proofs.Valid.{valid-means}
 use Rattle.insertion.specs.Insertion as insertion
 use Rattle.full_plan.specs.FullPlan.{Solved, plan, none, Refused, FullPlan}
@@ -44,15 +43,12 @@ module _ (d : Day) (h p : List ℕ) where
             solved (none (record { first = a; last = b; picked = picked; stretch-is = refl; same-holds = refl; same-prices = refl }))
 
         pub found-plan : {t : ℕ} {h′ p′ : List ℕ} → insertion.Planned d h′ p′ t → FullPlan d (Planned t) h p h′ p′
-        found-plan {t} {h′} {p′} made =
-            let v = valid-means good in
-            let cheapest = accepted-is-cheapest v (made .accepted) in
-            solved (plan (record {
-              total-is = ap Planned (made .is-total);
-              cheapest = cheapest;
-              accepted = made .accepted;
-              low = λ k. omega (arith, made .low k, total-le v (cheapest .legal));
-            }))
+        found-plan made = solved (plan (record {
+          total-is = ap Planned (made .is-total);
+          cheapest = accepted-is-cheapest (valid-means good) (made .smallest .accepted);
+          smallest = made .smallest;
+          saves = made .saves;
+        }))
 
 pub can-insert : (c f h p : List ℕ) → valid (day c f) ≡ true → {n : ℕ} → n ≡ N (day c f) → length h ≡ n → length p ≡ P (day c f)
     → ((a b : ℕ) → Short (day c f) a b → ⊥) → insertion.CanInsert (day c f) h p

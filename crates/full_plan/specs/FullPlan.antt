@@ -9,15 +9,15 @@ use lib.Dec.{eqb}
 use Rattle.answers.specs.declared.Answer.{Answer}
 use Rattle.answers.specs.declared.Answer.the-variants.{Planned, BadDay, BadLength, NoPlan}
 use Rattle.day.specs.Day.{Day, P, N, ofPeriod, total, valid}
-use Rattle.day.specs.Plan.{Cheapest, Accepted, Picked}
+use Rattle.day.specs.Plan.{Cheapest, Smallest, Saves, Picked}
 
--- what is left to the program is named here: which cheapest plan (legal, and no legal plan costs less), and which prices (the price check's
--- yes, none above 250,880,000)
+-- what is left to the program is named here: which cheapest plan (legal, and no legal plan costs less). The prices follow from the day: they
+-- are the smallest that the price check accepts, and one more landing in a period would save its price (#103)
 pub record BestPlan (d : Day) (answer : Answer) (holds prices : List ℕ) : Type 0 where
   pub total-is : answer ≡ Planned (total d holds)
   pub cheapest : Cheapest d holds
-  pub accepted : Accepted d holds prices
-  pub low : (k : ℕ) → ofPeriod prices k ≤ 250880000
+  pub smallest : Smallest d holds prices
+  pub saves : (k : ℕ) → 1 ≤ k → k ≤ P d → Saves d (total d holds) k (ofPeriod prices k)
 
 -- no legal plan: the stretch that answer 9 names, and both rows as they were
 pub record NoLegalPlan (d : Day) (answer : Answer) (holds₀ prices₀ holds prices : List ℕ) : Type 0 where

@@ -13,15 +13,17 @@ use Rattle.assignment.specs.Instances.{ordered}
 use Rattle.assignment.specs.Insertion.{Sound}
 use Rattle.assignment.proofs.Tests.{eq?, lt?}
 use Rattle.assignment.proofs.Sums.{count-zero}
-use Rattle.assignment.proofs.Insertion.{sound-start, price-le}
+use Rattle.assignment.proofs.Insertion.{sound-start}
+use Rattle.assignment.proofs.Saving.{price-le}
 use Rattle.assignment.proofs.Chains.{chained-start}
 use Rattle.assignment.proofs.Closed.{Tied, priced, lands-open, opened-total}
-use Rattle.assignment.proofs.Permuted.{Stands, permuted-stands, permuted-accepted, permuted-total}
+use Rattle.assignment.proofs.Permuted.{Stands, permuted-stands, permuted-sound, permuted-total}
 use Rattle.day.specs.Day.{Day, P, N, mostFlights, periodRow, ofPeriod, due, capacity, cost as cost-of, Window, hold, land, total}
 use Rattle.day.specs.Instance.{instance, last-to}
 use Rattle.day.proofs.Costs.{period-out, takes-in, takes-closing}
 use Rattle.day.proofs.Valid.{valid-flights}
-use Rattle.day.proofs.Instance.{cost-le, window-in, in-window, instance-accepted, total-instance}
+use Rattle.day.proofs.Instance.{cost-le, window-in, in-window, total-instance}
+use Rattle.day.proofs.Prices.{sound-saves, sound-smallest}
 use Rattle.closed_prices.specs.ClosedPrices.{paid, Sets, CanPrice, Priced}
 use Rattle.due_order.specs.DueOrder.{DueOrder, CanOrder}
 use Rattle.path.specs.Path.{far, away, dear, room-in, chainRow, begun, landing}
@@ -196,15 +198,15 @@ module _ {d : Day} {places holds prices loads links dist via : List ℕ} {cost n
             period-out prices₂ k (omega (arith, same-row, s .placed .prices-row)) ∙ sym (period-out prices k (omega (arith, s .placed .prices-row)))
       ]) high low
 
+      -- as all flights of the day in table order
+      in-table-order : Sound (instance d) (land d holds) (ofPeriod prices₂)
+      in-table-order = permuted-sound (instance d) (s .placed .table .permuted) (landing (d .flights) places holds) (land d holds) (λ o l. refl) all-priced
+
       pub building-end : Planned d holds prices₂ cost
-      building-end = record {
-        accepted = instance-accepted (s .placed .table .valid) (s .placed .holds-row) (same-row ∙ s .placed .prices-row)
-            (permuted-accepted (instance d) (s .placed .table .permuted) (landing (d .flights) places holds) (land d holds) (λ o l. refl) (all-priced .accepted));
-        low = λ k. omega (
-          arith,
-          price-le all-priced k,
-          permuted-total (instance d) (s .placed .table .permuted) (landing (d .flights) places holds) (land d holds) (λ o l. refl),
-          total-instance d holds,
-        );
-        is-total = total-same;
-      }
+      building-end =
+          let rows = same-row ∙ s .placed .prices-row in
+          record {
+            is-total = total-same;
+            smallest = sound-smallest (s .placed .table .valid) holds prices₂ (s .placed .holds-row) rows in-table-order;
+            saves = sound-saves (s .placed .table .valid) holds prices₂ (s .placed .holds-row) rows in-table-order;
+          }

@@ -17,7 +17,8 @@ use Rattle.assignment.specs.Insertion.{Sound}
 use Rattle.assignment.proofs.Tests.{eq?, lt?}
 use Rattle.assignment.proofs.Sums.{sum-most, count-le}
 use Rattle.assignment.proofs.Moves.{put-moved}
-use Rattle.assignment.proofs.Insertion.{Found, price-le, going, ground, order as reach-order, z-free, going-end, going-total}
+use Rattle.assignment.proofs.Insertion.{Found, going, ground, order as reach-order, z-free, going-end, going-total}
+use Rattle.assignment.proofs.Saving.{price-le}
 use Rattle.assignment.proofs.Closed.{open-cost, shut-cost, opened-short, lands-open}
 use Rattle.assignment.proofs.Permuted.{permuted-short, reordered-sound, reordered-total}
 use Rattle.assignment.proofs.Restricted.{Rising, until-near, restrict, widen, widen-short}

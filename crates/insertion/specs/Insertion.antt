@@ -12,7 +12,7 @@ use Rattle.assignment.specs.Moves.{Moved, put}
 use Rattle.assignment.specs.Orders.{Permuted}
 use Rattle.assignment.specs.Insertion.{Sound, Going}
 use Rattle.day.specs.Day.{Day, P, N, mostPeriods, mostFlights, periodRow, width, flightCount, ofPeriod, due, total, takes, dueOf}
-use Rattle.day.specs.Plan.{Accepted, Short}
+use Rattle.day.specs.Plan.{Smallest, Saves, Short}
 use Rattle.day.specs.Valid.{Valid}
 use Rattle.path.specs.Path.{far, away, begun, landing, Table, Chained}
 
@@ -162,8 +162,8 @@ pub record CanInsert (d : Day) (holds prices : List ℕ) : Type 0 where
   pub holds-row : length holds ≡ N d
   pub prices-row : length prices ≡ P d
 
--- prices that show that the plan is cheapest, none of them above its total
+-- the smallest prices, each of them what one more landing in its period saves
 pub record Planned (d : Day) (holds prices : List ℕ) (cost : ℕ) : Type 0 where
-  pub accepted : Accepted d holds prices
-  pub low : (k : ℕ) → ofPeriod prices k ≤ total d holds
   pub is-total : cost ≡ total d holds
+  pub smallest : Smallest d holds prices
+  pub saves : (k : ℕ) → 1 ≤ k → k ≤ P d → Saves d (total d holds) k (ofPeriod prices k)
