@@ -1,6 +1,8 @@
--- Cases A to K of document 01 and the days of #102: every row of their table is correct, worked out by its tests.
+-- Cases A to K of document 01 and the days of #102 and #103: every row of their table is correct, worked out by its tests.
 -- Assumes nothing.
 use mathlib.Core.Path.{refl}
+use mathlib.Core.List.{List, [], _∷_}
+use Prim.Native.Nat.{ℕ}
 use native.Mathlib.Omega.{arith}
 use Rattle.assignment.specs.Sum.{sum, count}
 use Rattle.assignment.specs.Rows.{row}
@@ -8,16 +10,39 @@ use Rattle.day.specs.Day.{flightAt, flightCount, holdCost, latestOf, totalOf, a
 use Rattle.day.specs.Plan.{mustLand, room, tooLong, overCapacity, breaks, firstOf, firstBreak}
 use Rattle.quick_plan.specs.Quick.{aheadOf}
 use Rattle.quick_plan.specs.Loop.{pick, bestTo, waiting, top, landAll, rowTo}
-use Rattle.cases.specs.Cases.{dayA, dayB, dayD, dayE, dayF, dayG, dayH, dayI, dayJ, dayK, dayLate, dayLates, holdsJ, Correct, table}
-use Rattle.cases.proofs.Check.{accepts, gets-yes, cheaperAt, gets-no, least-total, picks, no-plan, landIn, oneOf, quick-holds, two-land}
+use Rattle.cases.specs.Cases.{dayA, dayB, dayD, dayE, dayF, dayG, dayH, dayI, dayJ, dayK, dayLate, dayLates, dayMost, holdsJ, holdsK, Correct, table}
+use Rattle.cases.proofs.Check.{accepts, gets-yes, cheaperAt, gets-no, least-total, savesAll, smallest-prices, picks, no-plan, landIn, oneOf, quick-holds, two-land}
 
 -- one row, and those below it
 infixr 5 _and_
 _and_ : {A B : Type 0} → A → B → A × B
 a and b = (a, b)
 
+-- plans of J and K with one more landing in period 1, 2, .. 7; where that saves nothing, the plan as it is
+abbrev plansJ : List (List ℕ)
+plansJ =
+    holdsJ
+    ∷ holdsJ
+    ∷ (0 ∷ 1 ∷ 0 ∷ 0 ∷ 0 ∷ 1 ∷ 0 ∷ 0 ∷ 0 ∷ 3 ∷ [])
+    ∷ (0 ∷ 1 ∷ 0 ∷ 0 ∷ 0 ∷ 1 ∷ 1 ∷ 0 ∷ 0 ∷ 3 ∷ [])
+    ∷ (0 ∷ 0 ∷ 0 ∷ 0 ∷ 0 ∷ 1 ∷ 3 ∷ 0 ∷ 0 ∷ 3 ∷ [])
+    ∷ (0 ∷ 1 ∷ 0 ∷ 0 ∷ 0 ∷ 1 ∷ 3 ∷ 0 ∷ 0 ∷ 3 ∷ [])
+    ∷ holdsJ
+    ∷ []
+
+abbrev plansK : List (List ℕ)
+plansK =
+    holdsK
+    ∷ holdsK
+    ∷ (0 ∷ 1 ∷ 0 ∷ 0 ∷ 0 ∷ 2 ∷ 0 ∷ 0 ∷ 0 ∷ 2 ∷ [])
+    ∷ (0 ∷ 1 ∷ 0 ∷ 0 ∷ 0 ∷ 2 ∷ 1 ∷ 0 ∷ 0 ∷ 2 ∷ [])
+    ∷ (0 ∷ 1 ∷ 0 ∷ 0 ∷ 0 ∷ 2 ∷ 2 ∷ 0 ∷ 0 ∷ 2 ∷ [])
+    ∷ (0 ∷ 1 ∷ 0 ∷ 0 ∷ 0 ∷ 2 ∷ 2 ∷ 1 ∷ 0 ∷ 2 ∷ [])
+    ∷ holdsK
+    ∷ []
+
 pub cases : Correct table
-unfolding dayA dayB dayD dayE dayF dayG dayH dayI dayJ dayK dayLate dayLates sum count flightAt flightCount holdCost latestOf totalOf all flightFits isNew valid mustLand room tooLong overCapacity breaks firstOf firstBreak aheadOf row pick bestTo waiting top landAll rowTo accepts cheaperAt picks landIn oneOf
+unfolding dayA dayB dayD dayE dayF dayG dayH dayI dayJ dayK dayLate dayLates dayMost sum count flightAt flightCount holdCost latestOf totalOf all flightFits isNew valid mustLand room tooLong overCapacity breaks firstOf firstBreak aheadOf row pick bestTo waiting top landAll rowTo accepts cheaperAt savesAll picks landIn oneOf
 cases =
     -- A
     (refl, least-total _ _ _ refl refl refl)
@@ -50,4 +75,11 @@ cases =
     and (refl, least-total _ _ _ refl refl refl)
     and (refl, least-total _ _ _ refl refl refl)
     and (refl, least-total _ _ _ refl refl refl)
+    -- #103
+    and (refl, smallest-prices _ _ _ ((0 ∷ 0 ∷ 0 ∷ []) ∷ (0 ∷ 1 ∷ 0 ∷ []) ∷ []) refl refl refl)
+    and (refl, smallest-prices _ _ _ ((0 ∷ []) ∷ []) refl refl refl)
+    and (refl, smallest-prices _ _ _ ((0 ∷ 0 ∷ []) ∷ (1 ∷ 0 ∷ []) ∷ []) refl refl refl)
+    and (refl, smallest-prices _ _ _ plansJ refl refl refl)
+    and (refl, smallest-prices _ _ _ plansK refl refl refl)
+    and (refl, smallest-prices _ _ _ ((0 ∷ []) ∷ []) refl refl refl)
     and tt

@@ -3,8 +3,8 @@
 use mathlib.Core.Path.{_≡_, sym, ap, _∙_}
 use mathlib.Core.Logic.{inl, inr}
 use mathlib.Core.Bool.{Bool, true, false, not, _&&_, _||_}
-use mathlib.Core.List.{List}
-use Prim.Native.Nat.{ℕ, suc, _+_, _-_, _≤_, _<_}
+use mathlib.Core.List.{List, []}
+use Prim.Native.Nat.{ℕ, zero, suc, _+_, _-_, _≤_, _<_}
 use native.Mathlib.Nat.{not-le-of-lt}
 use native.Mathlib.Omega.{arith}
 use lib.ListN.{length, getD}
@@ -14,16 +14,17 @@ use Rattle.assignment.specs.Rows.{row}
 use Rattle.assignment.proofs.Rows.{row-at}
 use Rattle.assignment.proofs.Tests.{lt?, and-true, true-and}
 use Rattle.day.specs.Day.{Day, P, N, number, due, ofPeriod, capacity, cost, latest, Window, hold, land, landings, total, all, valid}
-use Rattle.day.specs.Plan.{Accepted, Picked, Short, mustLand, room, firstBreak}
+use Rattle.day.specs.Plan.{Accepted, oneMore, Saves, Picked, Short, mustLand, room, firstBreak}
 use Rattle.day.proofs.Tests.{all-at}
 use Rattle.day.proofs.Valid.{valid-means}
 use Rattle.day.proofs.Instance.{accepted-is-cheapest, short-has-no-plan}
-use Rattle.legality.proofs.Meaning.{walk-means}
+use Rattle.day.proofs.Prices.{saves-price, saved-smallest, one-row}
+use Rattle.legality.proofs.Meaning.{none-legal}
 use Rattle.quick_plan.specs.Quick.{quick}
 use Rattle.quick_plan.specs.Loop.{rowTo}
 use Rattle.quick_plan.proofs.Plan.{operates-end, quick-land}
 use Rattle.quick_plan.proofs.Rows.{rowTo-quick}
-use Rattle.cases.specs.Cases.{TotalIsLeast, NoneIsLegal, OnlyTwoLand}
+use Rattle.cases.specs.Cases.{TotalIsLeast, PricesAre, NoneIsLegal, OnlyTwoLand}
 
 -- the second test passes where the first does
 abbrev implies : Bool → Bool → Bool
@@ -71,7 +72,7 @@ module _ (d : Day) (holds prices : List ℕ) where
       let pricings = and-true (unsolds .0) in
       let holdings = and-true (pricings .0) in
       record {
-        legal = walk-means (valid-means v) (eqb-true (length holds) (N d) (holdings .0)) .0 (eqb-true (firstBreak d holds) (N d) (holdings .1));
+        legal = none-legal d holds (eqb-true (length holds) (N d) (holdings .0)) (eqb-true (firstBreak d holds) (N d) (holdings .1));
         each = eqb-true (length prices) (P d) (pricings .1);
         unsold = λ k a b less. eqb-true (ofPeriod prices k) 0 (then _ _ (all-at (P d + 1) unsoldFree (unsolds .1) k (omega arith)) (lt-ltb _ _ less));
         least = λ i k l w.
@@ -105,6 +106,42 @@ module _ (d : Day) (holds prices : List ℕ) where
   least-total v e sums =
       let said = gets-yes v e in
       record { cheapest = accepted-is-cheapest (valid-means v) said; comes-to = sums; shown = said }
+
+-- ---- smallest prices
+
+-- `plans` has a plan for each period
+module _ (d : Day) (holds prices : List ℕ) (plans : List (List ℕ)) where
+  -- the plan for period j + 1 is legal with one more landing there, and saves the price
+  savesAt : ℕ → Bool
+  savesAt j =
+      let z = getD plans j [] in
+      eqb (length z) (N d) && eqb (firstBreak (oneMore d (suc j)) z) (N d) && eqb (total d z + ofPeriod prices (suc j)) (total d holds)
+
+  unfoldable pub savesAll : Bool
+  unfolding savesAt
+  savesAll = all (P d) savesAt
+
+  saves-at : valid d ≡ true → Accepted d holds prices → (j : ℕ) → savesAt j ≡ true → j < P d → Saves d (total d holds) (suc j) (ofPeriod prices (suc j))
+  unfolding savesAt
+  saves-at v said j e to =
+      let z = getD plans j [] in
+      let falls = and-true e in
+      let legals = and-true (falls .0) in
+      saves-price (valid-means v) said (omega arith) to
+          (none-legal (oneMore d (suc j)) z (eqb-true (length z) (N d) (legals .0)) (eqb-true (firstBreak (oneMore d (suc j)) z) (N d) (legals .1)))
+          (eqb-true (total d z + ofPeriod prices (suc j)) (total d holds) (falls .1))
+
+  pub smallest-prices : valid d ≡ true → accepts d holds prices ≡ true → savesAll ≡ true → PricesAre d holds prices
+  unfolding savesAll
+  smallest-prices v e saved =
+      let said = gets-yes d holds prices v e in
+      let saves : (k : ℕ) → 1 ≤ k → k ≤ P d → Saves d (total d holds) k (ofPeriod prices k) = at-each said in
+      let best = saved-smallest (valid-means v) said saves in
+      record { smallest = best; only = λ others row other. one-row other best; saves = saves }
+    where
+      at-each : Accepted d holds prices → (k : ℕ) → 1 ≤ k → k ≤ P d → Saves d (total d holds) k (ofPeriod prices k)
+      at-each said zero from to = absurd (omega arith)
+      at-each said (suc j) from to = saves-at v said j (all-at (P d) savesAt saved j to) to
 
 -- ---- stretches
 

@@ -1,13 +1,13 @@
--- Cases A to K of document 01 and the days of #102 as one table: each row is a day, and what the document says of it.
+-- Cases A to K of document 01 and the days of #102 and #103 as one table: each row is a day, and what the documents say of it.
 -- Assumes nothing.
 use mathlib.Core.Path.{_≡_}
 use mathlib.Core.Bool.{true, _||_}
 use mathlib.Core.List.{List, [], _∷_, _++_}
-use Prim.Native.Nat.{ℕ, _<_}
+use Prim.Native.Nat.{ℕ, _≤_, _<_}
 use lib.Dec.{eqb}
-use Rattle.day.specs.Day.{Day, day, N, number, cost, total, valid}
+use Rattle.day.specs.Day.{Day, day, P, N, number, ofPeriod, cost, total, valid}
 use Rattle.day.specs.Flights.{numbersOf}
-use Rattle.day.specs.Plan.{Legal, Cheapest, Accepted, Picked}
+use Rattle.day.specs.Plan.{Legal, Cheapest, Accepted, Smallest, Saves, Picked}
 use Rattle.quick_plan.specs.Quick.{operates, quick}
 
 -- ---- what a case says of its day
@@ -15,6 +15,8 @@ use Rattle.quick_plan.specs.Quick.{operates, quick}
 pub data Claim : Type 0 where
   -- the least total, the holds of a plan that comes to it, and prices that show that no legal plan is cheaper
   leastTotal : ℕ → List ℕ → List ℕ → Claim
+  -- the holds of a cheapest plan, and the smallest prices (#103)
+  smallestPrices : List ℕ → List ℕ → Claim
   -- answer 9, and the first and last period of its stretch
   noPlan : ℕ → ℕ → Claim
   -- the price check's answer for holds and prices
@@ -31,6 +33,12 @@ pub record TotalIsLeast (d : Day) (t : ℕ) (holds prices : List ℕ) : Type 0 w
   pub comes-to : total d holds ≡ t
   pub shown : Accepted d holds prices
 
+-- no other row is smallest, and one more landing in a period saves its price
+pub record PricesAre (d : Day) (holds prices : List ℕ) : Type 0 where
+  pub smallest : Smallest d holds prices
+  pub only : (others row : List ℕ) → Smallest d others row → row ≡ prices
+  pub saves : (k : ℕ) → 1 ≤ k → k ≤ P d → Saves d (total d holds) k (ofPeriod prices k)
+
 pub record NoneIsLegal (d : Day) (first last : ℕ) : Type 0 where
   pub picked : Picked d first last
   pub none : (holds : List ℕ) → Legal d holds → ⊥
@@ -41,6 +49,7 @@ pub record OnlyTwoLand (d : Day) (j x y : ℕ) : Type 0 where
 -- what a claim says of a day
 abbrev pub Says : Day → Claim → Type 0
 Says d (leastTotal t holds prices) = TotalIsLeast d t holds prices
+Says d (smallestPrices holds prices) = PricesAre d holds prices
 Says d (noPlan first last) = NoneIsLegal d first last
 Says d (getYes holds prices) = Accepted d holds prices
 Says d (getNo holds prices) = Accepted d holds prices → ⊥
@@ -126,14 +135,21 @@ dayLate = day (1 ∷ []) (lateFlight 1 1 2 1 50 noLimit 2)
 unfoldable pub dayLates : ℕ → ℕ → Day
 dayLates first second = day (1 ∷ []) (lateFlight 1 1 1 1 5 noLimit first ++ lateFlight 2 1 1 1 5 noLimit second)
 
+-- #103: the day with one more landing has a capacity of 256, which no day that passes its check has
+unfoldable pub dayMost : Day
+dayMost = day (255 ∷ []) (flight 1 1 3 0 0 noLimit)
+
 -- ---- the table
 
--- the holds of the plan that document 01 writes out for B, and those of the quick plan of J
+-- the holds of the plan that document 01 writes out for B, those of the quick plan of J, and those of a cheapest plan of K
 abbrev pub holdsB : List ℕ
 holdsB = 0 ∷ 2 ∷ 0 ∷ []
 
 abbrev pub holdsJ : List ℕ
 holdsJ = 0 ∷ 2 ∷ 0 ∷ 0 ∷ 0 ∷ 2 ∷ 3 ∷ 0 ∷ 0 ∷ 2 ∷ []
+
+abbrev pub holdsK : List ℕ
+holdsK = 0 ∷ 2 ∷ 0 ∷ 0 ∷ 0 ∷ 2 ∷ 2 ∷ 1 ∷ 0 ∷ 2 ∷ []
 
 abbrev pub table : List (Day × Claim)
 table =
@@ -162,11 +178,19 @@ table =
     ∷ (dayJ, quickHolds holdsJ)
     ∷ (dayJ, twoLand 6 7 10)
     -- K: "total 50"
-    ∷ (dayK, leastTotal 50 (0 ∷ 2 ∷ 0 ∷ 0 ∷ 0 ∷ 2 ∷ 2 ∷ 1 ∷ 0 ∷ 2 ∷ []) (0 ∷ 0 ∷ 25 ∷ 20 ∷ 15 ∷ 5 ∷ 0 ∷ []))
+    ∷ (dayK, leastTotal 50 holdsK (0 ∷ 0 ∷ 25 ∷ 20 ∷ 15 ∷ 5 ∷ 0 ∷ []))
     -- #102: "a flight with hold 0 may cost something"
     ∷ (dayLate, holdCosts 0 0 50)
     ∷ (dayLate, leastTotal 50 (0 ∷ []) (0 ∷ []))
     -- #102: of two flights that differ in late alone the later one lands in period 1
     ∷ (dayLates 0 1, leastTotal 1 (1 ∷ 0 ∷ []) (1 ∷ []))
     ∷ (dayLates 1 0, leastTotal 1 (0 ∷ 1 ∷ []) (1 ∷ []))
+    -- #103: "Case B has 8 and 4"; F, whose one period has capacity 0; I, J, K
+    ∷ (dayB, smallestPrices holdsB (8 ∷ 4 ∷ []))
+    ∷ (dayF, smallestPrices (1 ∷ []) (3 ∷ []))
+    ∷ (dayI, smallestPrices (1 ∷ 0 ∷ []) (10 ∷ 0 ∷ []))
+    ∷ (dayJ, smallestPrices holdsJ (0 ∷ 0 ∷ 20 ∷ 15 ∷ 10 ∷ 5 ∷ 0 ∷ []))
+    ∷ (dayK, smallestPrices holdsK (0 ∷ 0 ∷ 25 ∷ 20 ∷ 15 ∷ 5 ∷ 0 ∷ []))
+    -- #103: "this holds on paper at capacity 255 too"
+    ∷ (dayMost, smallestPrices (0 ∷ []) (0 ∷ []))
     ∷ []

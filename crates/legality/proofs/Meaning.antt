@@ -40,7 +40,8 @@ module _ (d : Day) (h : List ℕ) where
     | inr e ↦ omega (arith, upto n (λ i b. none i (omega arith)) k l, count-suc n (land d h) k, gate-ne (land d h n) k 1 e)
   ]
 
-  none-legal : length h ≡ N d → firstBreak d h ≡ N d → Legal d h
+  -- of any day, valid or not
+  pub none-legal : length h ≡ N d → firstBreak d h ≡ N d → Legal d h
   unfolding firstBreak breaks
   none-legal each e =
       let none = none-passes (N d) (breaks d h) e in
