@@ -128,8 +128,8 @@ module _ (d : Day) (holds prices : List ℕ) (plans : List (List ℕ)) where
       let falls = and-true e in
       let legals = and-true (falls .0) in
       saves-price (valid-means v) said (omega arith) to
-          (none-legal (oneMore d (suc j)) z (eqb-true (length z) (N d) (legals .0)) (eqb-true (firstBreak (oneMore d (suc j)) z) (N d) (legals .1)))
-          (eqb-true (total d z + ofPeriod prices (suc j)) (total d holds) (falls .1))
+      (none-legal (oneMore d (suc j)) z (eqb-true (length z) (N d) (legals .0)) (eqb-true (firstBreak (oneMore d (suc j)) z) (N d) (legals .1)))
+      (eqb-true (total d z + ofPeriod prices (suc j)) (total d holds) (falls .1))
 
   pub smallest-prices : valid d ≡ true → accepts d holds prices ≡ true → savesAll ≡ true → PricesAre d holds prices
   unfolding savesAll

@@ -28,7 +28,7 @@ use Rattle.day.proofs.Instance.{total-instance, legal-instance, holdsOf
 
 module _ (d : Day) (k : ℕ) where
   same-periods : P (oneMore d k) ≡ P d
-  same-periods = length-set (d .capacities) (k - 1) (capacity d k + 1)
+  same-periods = length-set (d .capacities) _ _
 
   same-last : (i : ℕ) → last (oneMore d k) i ≡ last d i
   unfolding last
@@ -124,7 +124,7 @@ module _ {d : Day} (v : Valid d) (h p : List ℕ) (holds : length h ≡ N d) (pr
   sound-saves k from to =
       let legal = places-more d k from to (saved-legal s k) in
       saves-price v sound-accepted from to (holds-legal (oneMore d k) legal)
-          (omega (arith, holds-total (oneMore d k) legal, saved s k .saves, total-instance d h))
+      (omega (arith, holds-total (oneMore d k) legal, saved s k .saves, total-instance d h))
 
   pub sound-smallest : Smallest d h p
   sound-smallest = saved-smallest v sound-accepted sound-saves

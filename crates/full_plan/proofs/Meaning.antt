@@ -1,22 +1,26 @@
--- What the full plan's contract comes to: answer 9 exactly when there is no legal plan, and the quick plan's total where that applies.
+-- What the full plan's contract comes to: answer 9 exactly when there is no legal plan, the quick plan's total where that applies, and one
+-- answer and one price row for each day.
 -- Assumes nothing.
-use mathlib.Core.Path.{_≡_, sym, _∙_}
-use mathlib.Core.Logic.{_↔_}
+use mathlib.Core.Path.{_≡_, sym, ap, _∙_}
+use mathlib.Core.Logic.{inl, inr, _↔_}
 use mathlib.Core.Bool.{true}
 use mathlib.Core.List.{List}
-use Prim.Native.Nat.{ℕ}
+use Prim.Native.Nat.{ℕ, _≤_}
 use native.Mathlib.Omega.{arith}
 use lib.ListN.{length}
 use borrow.Author.Tests.{eq-eqb}
+use Rattle.assignment.proofs.Tests.{eq?, lt?}
 use Rattle.answers.specs.declared.Answer.{Answer}
 use Rattle.answers.specs.declared.Answer.the-variants.{Planned, NoPlan}
-use Rattle.day.specs.Day.{Day, P, N, total, valid}
+use Rattle.day.specs.Day.{Day, P, N, ofPeriod, total, valid}
 use Rattle.day.specs.Plan.{Legal, firstJumpOrLimit}
-use Rattle.day.proofs.Instance.{short-has-no-plan}
+use Rattle.day.proofs.Costs.{period-out}
+use Rattle.day.proofs.Instance.{short-has-no-plan, total-le}
+use Rattle.day.proofs.Prices.{one-row}
 use Rattle.day.proofs.Valid.{valid-means}
 use Rattle.quick_plan.specs.Quick.{quick}
 use Rattle.quick_plan.proofs.Cheapest.{same-total}
-use Rattle.full_plan.specs.FullPlan.{Solved, plan, none, FullPlan}
+use Rattle.full_plan.specs.FullPlan.{BestPlan, Solved, plan, none, FullPlan}
 
 -- the answer is 9 with some stretch
 pub record IsNine (answer : Answer) : Type 0 where
@@ -53,3 +57,23 @@ pub totals-equal : {d : Day} {t : ℕ} {h p h′ p′ : List ℕ} → valid d �
     → t ≡ total d (quick d)
 totals-equal {d} {t} {h} {p} {h′} good applies (plan s) = planned-total (s .total-is) ∙ sym (same-total d good applies h′ (s .cheapest))
 totals-equal good applies (none s) = absurd (not-nine (s .stretch-is))
+
+-- whichever cheapest plan it takes, a day has one answer and one price row
+pub one-answer : {d : Day} {a b : Answer} {h p g r : List ℕ} → BestPlan d a h p → BestPlan d b g r → (a ≡ b) × (p ≡ r)
+one-answer {d} {a} {b} {h} {p} {g} {r} s t = (s .total-is ∙ ap Planned same ∙ sym (t .total-is), one-row (s .smallest) (t .smallest))
+  where
+    same : total d h ≡ total d g
+    same = omega (arith, s .cheapest .least g (t .cheapest .legal), t .cheapest .least h (s .cheapest .legal))
+
+-- no price is above the total, and so none above 250,880,000
+pub price-to-total : {d : Day} {a : Answer} {h p : List ℕ} → BestPlan d a h p → (k : ℕ) → ofPeriod p k ≤ total d h
+price-to-total {d} {a} {h} {p} s k = elim (eq? k 0) [
+  | inl e ↦ rw e (omega arith)
+  | inr some ↦ elim (lt? (P d) k) [
+    | inl past ↦ omega (arith, period-out p k (omega (arith, s .smallest .accepted .each)))
+    | inr to ↦ omega (arith, s .saves k (omega arith) to .falls-by)
+  ]
+]
+
+pub price-low : {d : Day} {a : Answer} {h p : List ℕ} → valid d ≡ true → BestPlan d a h p → (k : ℕ) → ofPeriod p k ≤ 250880000
+price-low good s k = omega (arith, price-to-total s k, total-le (valid-means good) (s .cheapest .legal))
