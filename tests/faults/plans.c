@@ -283,6 +283,28 @@ static void spoil(struct day d, const uint32_t *holds, uint32_t *prices, size_t 
     if (yes(d, holds, prices)) prices[k] = was;
 }
 
+/* A price that is raised, if the price check then still says yes: accepted, and not the smallest. */
+static bool raise_price(struct day d, const uint32_t *holds, uint32_t *prices, size_t k, uint32_t by)
+{
+    prices[k] += by;
+    if (yes(d, holds, prices)) return true;
+    prices[k] -= by;
+    return false;
+}
+
+/* What a flight saves at most that moves to period k, when nobody takes the place that it leaves. */
+static uint32_t one_move(struct day d, const uint32_t *holds, uint32_t k)
+{
+    uint64_t most = 0;
+    for (size_t i = 0; i < d.n; i++) {
+        const uint32_t *v = d.f + i * WIDTH;
+        if (k < v[DUE] || (v[LIMIT] != 255 && k > v[DUE] + v[LIMIT])) continue;
+        uint64_t here = cost(v, holds[i], COST_RIGHT), there = cost(v, k - v[DUE], COST_RIGHT);
+        if (here > there + most) most = here - there;
+    }
+    return (uint32_t)most;
+}
+
 /* A plan that costs more: two flights land in each other's period. */
 static void exchange(struct day d, uint32_t *holds)
 {
@@ -356,6 +378,20 @@ static hold_desk_answer accepted(struct day d, hold_desk_answer real, uint32_t *
         if (IS(full_closed_price_0, "a closed period has price 0") && d.c[k] == 0) prices[k] = 0;
         if (IS(full_closed_price_most, "a closed period has a price above the bound") && d.c[k] == 0) prices[k] = 250880001;
         if (IS(full_closed_price_2_to_32, "the last period has the greatest 32-bit price if it is closed") && d.c[k] == 0 && k == d.p - 1) prices[k] = UINT32_MAX;
+    }
+    for (size_t k = 0; k < d.p; k++) {
+        bool full = d.c[k] > 0 && landed[k + 1] == d.c[k];
+        if (IS(full_price_higher, "the first full period whose price may be one more has one more") && full && raise_price(d, holds, prices, k, 1)) break;
+        if (IS(full_price_higher_from_49, "a full period after period 48 has one more where the check allows it") && full && k >= 48) raise_price(d, holds, prices, k, 1);
+        if (IS(full_price_higher_1000, "every full period whose price may be 1,000 more has 1,000 more") && full) raise_price(d, holds, prices, k, 1000);
+        if (IS(full_price_higher_100, "a full period has one more where the check allows it in a day of more than 100 flights") && full && d.n > 100) raise_price(d, holds, prices, k, 1);
+        if (IS(full_closed_price_more, "a closed period's price is one more") && d.c[k] == 0) prices[k]++;
+        if (IS(full_closed_price_more_96, "the price of period 96 is one more if it is closed") && d.c[k] == 0 && k == P_MOST - 1) prices[k]++;
+        if (IS(full_closed_price_1, "a closed period has a price of 1 at least") && d.c[k] == 0 && prices[k] == 0) prices[k] = 1;
+        if (IS(full_price_255, "a period of capacity 255 has price 1") && d.c[k] == 255) prices[k] = 1;
+        if (IS(full_price_low_bits, "of a price the low 20 bits are given")) prices[k] &= 0xfffff;
+        if (IS(full_price_one_move, "a price is what one flight saves by moving to its period") && (full || d.c[k] == 0)) prices[k] = one_move(d, holds, (uint32_t)k + 1);
+        if (IS(full_price_next, "a period has the price of the next")) prices[k] = k + 1 < d.p ? prices[k + 1] : 0;
     }
     if (IS(full_prices_0, "all prices are 0")) memset(prices, 0, d.p * sizeof *prices);
     for (size_t i = 0; i < d.n; i++) {

@@ -2,7 +2,7 @@
 //! A call is given rows of any content and length; the refusals that apply are listed in document 01's order, and the first is
 //! the answer.
 use crate::day::{plain_read, Day, Rows, FLIGHTS, FLIGHT_ROW, PERIODS, WIDTH};
-use crate::planners::{accepts, least_by_moves, quick_by_sorting, short_stretch};
+use crate::planners::{accepts, least_by_moves, quick_by_sorting, savings_by_moves, savings_by_planning, short_stretch};
 use crate::seed::Seed;
 use hold_desk_client::*;
 use std::collections::BTreeMap;
@@ -215,9 +215,16 @@ impl Run {
         prices.expect(0, &price_row);
         assert_eq!(day.legal_total(&hold_row), Some(got.first));
         assert_eq!(got, answer(0, least_by_moves(&day).expect("no stretch is short"), 0));
-        assert!(accepts(&day, &hold_row, &price_row) && price_row.iter().all(|&price| price <= 250_880_000));
+        assert!(accepts(&day, &hold_row, &price_row), "{rows:?} {price_row:?}");
+        let savings: Vec<u64> = price_row.iter().map(|&price| price as u64).collect();
+        assert_eq!(Some(&savings), savings_by_moves(&day).as_ref(), "{rows:?}");
+        if day.periods() <= 4 || self.seed.one_in(16) {
+            assert_eq!(Some(&savings), savings_by_planning(&day, least_by_moves).as_ref(), "{rows:?}");
+            self.reach(format!("full plan, every changed day planned, of {} periods", if day.periods() == 96 { "96" } else { "fewer" }));
+        }
         self.reach_sizes("full plan", &day, got.first);
         self.reach_delays(&day, &hold_row);
+        self.reach_prices(&day, &hold_row, &price_row);
         Some((hold_row, price_row))
     }
 
@@ -290,6 +297,25 @@ impl Run {
             let past = f.delay(hold) as i64 - f.after as i64;
             let stands = if past == 1 { "one more than" } else { ["less than", "equal to", "more than"][(past.signum() + 1) as usize] };
             self.reach(format!("full plan, late + hold {stands} after, {}", if hold > 0 { "held" } else { "not held" }));
+        }
+    }
+
+    /// Prices of full periods, open and closed; at one place, whether the check would say yes to a higher one too.
+    fn reach_prices(&mut self, day: &Day, holds: &[u32], prices: &[u32]) {
+        let kind = |at: usize| match day.capacities[at] {
+            0 => "closed",
+            c if c == day.landings(holds, at as u32 + 1) => "full",
+            255 => "one of capacity 255",
+            _ => "one with room",
+        };
+        for (at, &price) in prices.iter().enumerate() {
+            self.reach(format!("full plan, a period {}, {} price", kind(at), if price > 0 { "a" } else { "no" }));
+        }
+        let at = self.seed.place(prices.len());
+        let mut higher = prices.to_vec();
+        higher[at] += 1;
+        if accepts(day, holds, &higher) {
+            self.reach(format!("full plan, a period {}, whose price may be higher", kind(at)));
         }
     }
 

@@ -10,7 +10,7 @@ mod seed;
 use calls::{answer, Run};
 use day::{plain_read, Day, Rows, FLIGHT_ROW, PERIODS, WIDTH};
 use hold_desk_client::{period_card, quick_plan};
-use planners::{least_by_moves, least_by_trial, quick_by_sorting};
+use planners::{least_by_moves, least_by_trial, quick_by_sorting, savings_by_moves, savings_by_planning};
 use seed::days;
 
 /// Every call for one pair of rows, each with lent rows of a length of its own; hold and price rows near those given, also where
@@ -133,9 +133,23 @@ const DELAYS: [&str; 8] = [
     "full plan, late + hold more than after, held",
 ];
 
-const SIZES: [&str; 15] = [
+/// Prices of every kind of period, and such that the price check would say yes to higher ones too.
+const PRICES: [&str; 9] = [
+    "full plan, a period closed, a price",
+    "full plan, a period closed, no price",
+    "full plan, a period full, a price",
+    "full plan, a period full, no price",
+    "full plan, a period one with room, no price",
+    "full plan, a period one of capacity 255, no price",
+    "full plan, a period closed, whose price may be higher",
+    "full plan, a period full, whose price may be higher",
+    "full plan, every changed day planned, of fewer periods",
+];
+
+const SIZES: [&str; 16] = [
     "full plan of 96 periods and 128 flights",
     "full plan of more than 64 flights, some held, some period open",
+    "full plan, every changed day planned, of 96 periods",
     "full plan above 250,000,000",
     "full plan of 250,880,000",
     "quick plan of 96 periods and 128 flights",
@@ -163,11 +177,13 @@ fn small_days() {
     for _ in 0..days() * 2 {
         let day = inputs::random_day(&run.seed, 4, 5);
         assert_eq!(least_by_trial(&day), least_by_moves(&day), "the two planners here");
+        assert_eq!(savings_by_planning(&day, least_by_trial), savings_by_moves(&day), "the savings by both");
         every_call_of_a_day(&mut run, &day);
     }
     must_reach(&run, 20, &EVERY_REFUSAL);
     must_reach(&run, 20, &BOARDS);
     must_reach(&run, 20, &DELAYS);
+    must_reach(&run, 20, &PRICES);
 }
 
 #[test]
@@ -184,6 +200,7 @@ fn large_days() {
     }
     must_reach(&run, 5, &SIZES);
     must_reach(&run, 5, &DELAYS);
+    must_reach(&run, 5, &PRICES);
 }
 
 #[test]

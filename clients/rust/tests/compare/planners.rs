@@ -20,9 +20,9 @@ pub fn least_by_trial(day: &Day) -> Option<u64> {
     rest(day, 0, &mut [&day.capacities[..], &[u32::MAX]].concat())
 }
 
-/// The least total by putting in one flight after the other, each along the cheapest chain of moves. The chains are found by
-/// going over all moves until nothing gets cheaper; no prices, and no order of flights or periods.
-pub fn least_by_moves(day: &Day) -> Option<u64> {
+/// A cheapest plan, the landing periods, by putting in one flight after the other, each along the cheapest chain of moves. The
+/// chains are found by going over all moves until nothing gets cheaper; no prices, and no order of flights or periods.
+fn plan_by_moves(day: &Day) -> Option<Vec<u32>> {
     let p = day.periods();
     let room = |k: u32| if k <= p { day.capacities[k as usize - 1] } else { u32::MAX };
     let cost = |i: usize, k: u32| day.flights[i].cost(k - day.flights[i].due) as i64;
@@ -54,7 +54,49 @@ pub fn least_by_moves(day: &Day) -> Option<u64> {
             to = std::mem::replace(&mut lands[more[to as usize].1], to);
         }
     }
-    Some((0..lands.len()).map(|i| cost(i, lands[i]) as u64).sum())
+    Some(lands)
+}
+
+/// The least total of such a plan.
+pub fn least_by_moves(day: &Day) -> Option<u64> {
+    let lands = plan_by_moves(day)?;
+    Some(day.flights.iter().zip(lands).map(|(f, k)| f.cost(k - f.due)).sum())
+}
+
+/// What one more landing in each period would save, by planning each of the changed days from nothing. A day that has a plan has
+/// one with more capacity too; a capacity of 256 is a number like any other here.
+pub fn savings_by_planning(day: &Day, least: fn(&Day) -> Option<u64>) -> Option<Vec<u64>> {
+    let total = least(day)?;
+    let mut changed = day.clone();
+    let mut saving = |at: usize| {
+        changed.capacities[at] += 1;
+        let less = least(&changed)?;
+        changed.capacities[at] -= 1;
+        Some(total - less)
+    };
+    (0..day.capacities.len()).map(|at| saving(at)).collect()
+}
+
+/// The same from a cheapest plan of the day as it is: a flight moves to the period, another into the place that it left, and so on,
+/// as far as that saves something; all moves are gone over until nothing more is saved.
+pub fn savings_by_moves(day: &Day) -> Option<Vec<u64>> {
+    let lands = plan_by_moves(day)?;
+    let mut saved = vec![0i64; day.capacities.len() + 2];
+    let (mut more, mut rounds) = (true, 0);
+    while more {
+        (more, rounds) = (false, rounds + 1);
+        assert!(rounds <= saved.len() + 1, "a plan that is not cheapest");
+        for (f, &at) in day.flights.iter().zip(&lands) {
+            for k in f.due..=f.last(day.periods()) {
+                let saving = saved[at as usize] + f.cost(at - f.due) as i64 - f.cost(k - f.due) as i64;
+                if saving > saved[k as usize] {
+                    (saved[k as usize], more) = (saving, true);
+                }
+            }
+        }
+    }
+    assert_eq!(saved.pop(), Some(0), "the closing period takes any number already");
+    Some(saved[1..].iter().map(|&saving| saving as u64).collect())
 }
 
 /// The short stretch with the smallest last period, and among those the largest first.
