@@ -18,8 +18,13 @@
  * HOLDS AND COSTS. A hold row has one entry for each flight: how many periods it is held. A flight with hold h lands in period
  * due + h, whatever its late is. It costs rate * h, and jump besides if late + h > after, so that a flight with hold 0 may cost
  * its jump. The total is the sum over all flights; it is never above 250,880,000. A hold row is legal if no flight lands after
- * P+1, no hold is over its limit, and no period from 1 to P has more landings than its capacity. A price row has one entry for
- * each period from 1 to P; the closing period's price is 0.
+ * P+1, no hold is over its limit, and no period from 1 to P has more landings than its capacity.
+ *
+ * PRICES. A price row has one entry for each period from 1 to P; the closing period's price is 0. The price that the full plan
+ * gives a period is what one more landing in that period would save: by so much the least total would fall if that capacity
+ * alone were greater by one. A price of 0 says that one more landing there would save nothing. Several more landings together
+ * may save less than their prices add up to: plan the changed day to know. The day alone decides the prices, whichever cheapest
+ * plan is returned.
  *
  * ROWS. A row or a buffer is a pointer and its number of entries. Every call takes rows of any content and any length, always
  * returns, and keeps nothing. What the caller answers for:
@@ -121,9 +126,10 @@ hold_desk_card hold_desk_period_card(const uint32_t *capacities, size_t capaciti
                                      const uint32_t *flights, size_t flights_len,
                                      uint32_t period);
 
-/* A cheapest legal plan: fills a hold row of N and a price row of P that hold_desk_price_check accepts, no price above
- * 250,880,000. Accepted: 0 with the total. Refusals 6, 7 (hold row first), 9: more flights must land in the stretch of periods
- * from first to second than can. */
+/* A cheapest legal plan: fills a hold row of N, and a price row of P with what one more landing in each period would save.
+ * These prices are the smallest, period by period, that hold_desk_price_check accepts for any plan of the day. No price is above
+ * the total. Accepted: 0 with the total. Refusals 6, 7 (hold row first), 9: more flights must land in the stretch of periods from
+ * first to second than can. */
 hold_desk_answer hold_desk_full_plan(const uint32_t *capacities, size_t capacities_len,
                                      const uint32_t *flights, size_t flights_len,
                                      uint32_t *holds, size_t holds_len,
@@ -131,8 +137,8 @@ hold_desk_answer hold_desk_full_plan(const uint32_t *capacities, size_t capaciti
 
 /* Whether the prices show that the holds are a cheapest plan: the holds are legal, every period from 1 to P with room left has
  * price 0, and no flight's cost plus the price of its landing period would be less in another period from its due period to
- * P+1 that its limit allows, be it closed, full or open. A yes means that no legal plan is cheaper. A bad day or a row of
- * another length gets no. */
+ * P+1 that its limit allows, be it closed, full or open. A yes means that no legal plan is cheaper; prices higher than
+ * the full plan's may get it too. A bad day or a row of another length gets no. */
 bool hold_desk_price_check(const uint32_t *capacities, size_t capacities_len,
                            const uint32_t *flights, size_t flights_len,
                            const uint32_t *holds, size_t holds_len,

@@ -157,7 +157,7 @@ static void quick(void)
 static void full(void)
 {
     uint32_t holds[N], prices[P];
-    const uint32_t one[] = { 1 }, stuck[] = { 1, 1, 1, 0, 0, 0, 0, 2, 1, 1, 0, 0, 0, 0 }, low[] = { 7, 4 }, right[] = { 8, 4 };
+    const uint32_t one[] = { 1 }, stuck[] = { 1, 1, 1, 0, 0, 0, 0, 2, 1, 1, 0, 0, 0, 0 }, low[] = { 7, 4 }, right[] = { 8, 4 }, high[] = { 9, 4 };
     mark(holds, N);
     mark(prices, P);
     expect_answer("full_plan of a bad day", hold_desk_full_plan(CAPACITIES, P, FLIGHTS, ENTRIES - 1, holds, N, prices, P), HOLD_DESK_BAD_DAY, 0, 0);
@@ -168,12 +168,24 @@ static void full(void)
     expect_marked("full_plan's refusals change the price row", prices, 0, P);
     expect_answer("full_plan", hold_desk_full_plan(CAPACITIES, P, FLIGHTS, ENTRIES, holds, N, prices, P), HOLD_DESK_ACCEPTED, 8, 0);
     expect_row("full_plan's holds, of which there is one", holds, HOLDS, N);
-    expect("full_plan's prices", hold_desk_price_check(CAPACITIES, P, FLIGHTS, ENTRIES, holds, N, prices, P));
-    expect("full_plan's prices are above the most", prices[0] <= HOLD_DESK_MOST_TOTAL && prices[1] <= HOLD_DESK_MOST_TOTAL);
+    expect_row("full_plan's prices, the smallest", prices, right, P);
     expect("price_check of 8, 4", hold_desk_price_check(CAPACITIES, P, FLIGHTS, ENTRIES, HOLDS, N, right, P));
+    expect("price_check of 9, 4", hold_desk_price_check(CAPACITIES, P, FLIGHTS, ENTRIES, HOLDS, N, high, P));
     expect("price_check of 7, 4", !hold_desk_price_check(CAPACITIES, P, FLIGHTS, ENTRIES, HOLDS, N, low, P));
     expect("price_check of a shorter row", !hold_desk_price_check(CAPACITIES, P, FLIGHTS, ENTRIES, HOLDS, N, right, P - 1));
     expect("price_check of a bad day", !hold_desk_price_check(CAPACITIES, P, FLIGHTS, ENTRIES - 1, HOLDS, N, right, P));
+}
+
+/* What one more landing in a period saves is its price: case B with a capacity greater by one. */
+static void savings(void)
+{
+    uint32_t holds[N], prices[P];
+    const uint32_t totals[] = { 0, 4 };
+    for (size_t k = 0; k < P; k++) {
+        uint32_t more[P] = { CAPACITIES[0], CAPACITIES[1] };
+        more[k]++;
+        expect_answer("full_plan with one more landing", hold_desk_full_plan(more, P, FLIGHTS, ENTRIES, holds, N, prices, P), HOLD_DESK_ACCEPTED, totals[k], 0);
+    }
 }
 
 /* One place, and two flights that differ in number and late alone: the one that is later lands first. A flight that is late by
@@ -266,6 +278,7 @@ int main(void)
     writing();
     quick();
     full();
+    savings();
     delays();
     rows();
     largest();

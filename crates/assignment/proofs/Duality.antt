@@ -1,5 +1,6 @@
 -- Weak duality: accepted prices show that a plan is cheapest; with one place more in a period, a plan saves its price at the most.
 -- Assumes nothing.
+use mathlib.Core.Path.{_≡_, refl, ap}
 use mathlib.Core.Logic.{inl, inr}
 use Prim.Native.Nat.{ℕ, _+_, _*_, _≤_, _<_}
 use native.Mathlib.Nat.{mul-le-mul-left}
@@ -10,6 +11,14 @@ use Rattle.assignment.specs.Assignment.{Instance, In, Plan, Legal, total
 use Rattle.assignment.specs.Instances.{more}
 use Rattle.assignment.proofs.Tests.{lt?, gate-ge}
 use Rattle.assignment.proofs.Sums.{sum-le, sum-add, sum-pick, exchange-all, gate-one}
+
+-- a plan is legal where windows and capacities are no smaller
+pub legal-in : (a b : Instance) {x : Plan} → a .n ≡ b .n → ((i : ℕ) → b .lo i ≤ a .lo i) → ((i : ℕ) → a .hi i ≤ b .hi i)
+    → ((k : ℕ) → a .cap k ≤ b .cap k) → Legal a x → Legal b x
+legal-in a b {x} same lo hi cap legal = record {
+  window = λ i l. let w = legal .window i (omega arith) in record { from = omega (arith, lo i, w .from); to = omega (arith, hi i, w .to) };
+  room = λ k. omega (arith, legal .room k, cap k, ap (λ n. count n x k) same);
+}
 
 -- The proof on paper. Let x be accepted with prices p, and z a plan that is legal if period a has one place more. Each flight pays, cost and
 -- price together, no more in x than in z; add up over the flights. The prices paid, added up by periods, are price times landings. In no
@@ -49,16 +58,9 @@ module _ (d : Instance) (x p z : ℕ → ℕ) (a : ℕ) (said : Accepted d x p) 
     sum-pick (d .m) a p,
   )
 
--- a plan of the day is one of the day with more places
-wider : (d : Instance) (z : Plan) (k : ℕ) → Legal d z → Legal (more d k) z
-wider d z k l = record {
-  window = λ i b. record { from = l .window i b .from; to = l .window i b .to };
-  room = λ j. omega (arith, l .room j);
-}
-
 -- weak duality: the case in which a is no period of the day, so that nothing is added
 pub accepted-is-cheapest : (d : Instance) (x p : ℕ → ℕ) → Accepted d x p → Cheapest d x
 accepted-is-cheapest d x p said = record {
   legal = said .legal;
-  least = λ z legal. omega (arith, dual d x p z (d .m) said (wider d z (d .m) legal), gate-ge (d .m) (d .m) (p (d .m)) (omega arith));
+  least = λ z legal. omega (arith, dual d x p z (d .m) said (legal-in d (more d (d .m)) refl (λ i. omega arith) (λ i. omega arith) (λ j. omega arith) legal), gate-ge (d .m) (d .m) (p (d .m)) (omega arith));
 }

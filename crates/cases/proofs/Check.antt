@@ -14,7 +14,7 @@ use Rattle.assignment.specs.Rows.{row}
 use Rattle.assignment.proofs.Rows.{row-at}
 use Rattle.assignment.proofs.Tests.{lt?, and-true, true-and}
 use Rattle.day.specs.Day.{Day, P, N, number, due, ofPeriod, capacity, cost, latest, Window, hold, land, landings, total, all, valid}
-use Rattle.day.specs.Plan.{Accepted, oneMore, Saves, Picked, Short, mustLand, room, firstBreak}
+use Rattle.day.specs.Plan.{Accepted, oneMore, Saves, PricesSave, Picked, Short, mustLand, room, firstBreak}
 use Rattle.day.proofs.Tests.{all-at}
 use Rattle.day.proofs.Valid.{valid-means}
 use Rattle.day.proofs.Instance.{accepted-is-cheapest, short-has-no-plan}
@@ -135,11 +135,10 @@ module _ (d : Day) (holds prices : List ℕ) (plans : List (List ℕ)) where
   unfolding savesAll
   smallest-prices v e saved =
       let said = gets-yes d holds prices v e in
-      let saves : (k : ℕ) → 1 ≤ k → k ≤ P d → Saves d (total d holds) k (ofPeriod prices k) = at-each said in
-      let best = saved-smallest (valid-means v) said saves in
-      record { smallest = best; only = λ others row other. one-row other best; saves = saves }
+      let best = saved-smallest (valid-means v) said (at-each said) in
+      record { smallest = best; only = λ others row other. one-row other best; saves = at-each said }
     where
-      at-each : Accepted d holds prices → (k : ℕ) → 1 ≤ k → k ≤ P d → Saves d (total d holds) k (ofPeriod prices k)
+      at-each : Accepted d holds prices → PricesSave d (total d holds) prices
       at-each said zero from to = absurd (omega arith)
       at-each said (suc j) from to = saves-at v said j (all-at (P d) savesAt saved j to) to
 

@@ -3,11 +3,11 @@
 use mathlib.Core.Path.{_≡_}
 use mathlib.Core.Bool.{true, _||_}
 use mathlib.Core.List.{List, [], _∷_, _++_}
-use Prim.Native.Nat.{ℕ, _≤_, _<_}
+use Prim.Native.Nat.{ℕ, _<_}
 use lib.Dec.{eqb}
-use Rattle.day.specs.Day.{Day, day, P, N, number, ofPeriod, cost, total, valid}
+use Rattle.day.specs.Day.{Day, day, N, number, cost, total, valid}
 use Rattle.day.specs.Flights.{numbersOf}
-use Rattle.day.specs.Plan.{Legal, Cheapest, Accepted, Smallest, Saves, Picked}
+use Rattle.day.specs.Plan.{Legal, Cheapest, Accepted, Smallest, PricesSave, Picked}
 use Rattle.quick_plan.specs.Quick.{operates, quick}
 
 -- ---- what a case says of its day
@@ -37,7 +37,7 @@ pub record TotalIsLeast (d : Day) (t : ℕ) (holds prices : List ℕ) : Type 0 w
 pub record PricesAre (d : Day) (holds prices : List ℕ) : Type 0 where
   pub smallest : Smallest d holds prices
   pub only : (others row : List ℕ) → Smallest d others row → row ≡ prices
-  pub saves : (k : ℕ) → 1 ≤ k → k ≤ P d → Saves d (total d holds) k (ofPeriod prices k)
+  pub saves : PricesSave d (total d holds) prices
 
 pub record NoneIsLegal (d : Day) (first last : ℕ) : Type 0 where
   pub picked : Picked d first last

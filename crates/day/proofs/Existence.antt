@@ -9,12 +9,10 @@ use native.Mathlib.Omega.{arith}
 use lib.Dec.{leb, le→leb}
 use Rattle.assignment.specs.Sum.{gate}
 use Rattle.assignment.specs.Assignment as A
-use Rattle.assignment.specs.Rows.{row}
 use Rattle.assignment.proofs.Tests.{lt?, gate-on, gate-le}
-use Rattle.assignment.proofs.Sums.{sum-most, sum-member, count-ext}
-use Rattle.assignment.proofs.Rows.{row-length, row-at}
+use Rattle.assignment.proofs.Sums.{sum-most, sum-member}
 use Rattle.assignment.proofs.Existence as existence
-use Rattle.day.specs.Day.{Day, P, N, due, takes, land}
+use Rattle.day.specs.Day.{Day, P, N, due, takes}
 use Rattle.day.specs.Plan.{Legal, Short, Picked}
 use Rattle.day.specs.Valid.{Valid}
 use Rattle.day.specs.Instance.{instance, last}

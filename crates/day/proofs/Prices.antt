@@ -4,7 +4,7 @@
 use mathlib.Core.Path.{_≡_, refl, sym, ap, _∙_}
 use mathlib.Core.Logic.{inl, inr}
 use mathlib.Core.List.{List}
-use Prim.Native.Nat.{ℕ, suc, _+_, _-_, _≤_, _<_}
+use Prim.Native.Nat.{ℕ, suc, _+_, _-_, _≤_}
 use native.Mathlib.Omega.{arith}
 use lib.ListN.{length, length-set}
 use lib.Seq.{ext-getD}
@@ -14,15 +14,15 @@ use Rattle.assignment.specs.Assignment as A
 use Rattle.assignment.specs.Instances.{more}
 use Rattle.assignment.specs.Insertion.{Sound}
 use Rattle.assignment.proofs.Tests.{lt?, eq?, gate-eq, gate-ne, gate-le}
-use Rattle.assignment.proofs.Duality.{dual}
+use Rattle.assignment.proofs.Duality.{legal-in, dual}
 use Rattle.assignment.proofs.Saving.{saved, saved-legal}
-use Rattle.day.specs.Day.{Day, P, N, ofPeriod, capacity, takes, latest, land, total}
-use Rattle.day.specs.Plan.{Legal, Accepted, Smallest, oneMore, Saves}
+use Rattle.day.specs.Day.{Day, P, N, ofPeriod, capacity, takes, land, total}
+use Rattle.day.specs.Plan.{Legal, Accepted, Smallest, oneMore, Saves, PricesSave}
 use Rattle.day.specs.Valid.{ValidFlights, Valid}
 use Rattle.day.specs.Instance.{last, instance}
 use Rattle.day.proofs.Costs.{period-out, period-moved}
 use Rattle.day.proofs.Valid.{valid-flights}
-use Rattle.day.proofs.Instance.{total-instance, legal-instance, holdsOf, holds-legal, holds-total, accepted-instance, instance-accepted, accepted-is-cheapest}
+use Rattle.day.proofs.Instance.{total-instance, legal-instance, holds-legal, holds-total, accepted-instance, instance-accepted, accepted-is-cheapest}
 
 -- ---- the day with one more landing in period k, as an assignment problem
 
@@ -49,16 +49,10 @@ module _ (d : Day) (k : ℕ) where
 
     -- one more place in the assignment problem
     more-places : {x : ℕ → ℕ} → A.Legal (instance (oneMore d k)) x → A.Legal (more (instance d) k) x
-    more-places legal = record {
-      window = λ i l. let w = legal .window i l in record { from = w .from; to = omega (arith, w .to, same-last i) };
-      room = λ j. omega (arith, legal .room j, more-takes j);
-    }
+    more-places = legal-in (instance (oneMore d k)) (more (instance d) k) refl (λ i. omega arith) (λ i. omega (arith, same-last i)) (λ j. omega (arith, more-takes j))
 
     places-more : {x : ℕ → ℕ} → A.Legal (more (instance d) k) x → A.Legal (instance (oneMore d k)) x
-    places-more legal = record {
-      window = λ i l. let w = legal .window i l in record { from = w .from; to = omega (arith, w .to, same-last i) };
-      room = λ j. omega (arith, legal .room j, more-takes j);
-    }
+    places-more = legal-in (more (instance d) k) (instance (oneMore d k)) refl (λ i. omega arith) (λ i. omega (arith, same-last i)) (λ j. omega (arith, more-takes j))
 
 -- ---- savings
 
@@ -88,7 +82,7 @@ module _ {d : Day} (v : Valid d) {h p : List ℕ} (said : Accepted d h p) where
 -- Prices that are saved in full are the smallest. Let a row be accepted for another plan. Both plans are cheapest, so their totals are the
 -- same. The plan that saves the price of k with one more landing there saves at most the price that the other row has for k.
 pub saved-smallest : {d : Day} → Valid d → {h p : List ℕ} → Accepted d h p
-    → ((k : ℕ) → 1 ≤ k → k ≤ P d → Saves d (total d h) k (ofPeriod p k)) → Smallest d h p
+    → PricesSave d (total d h) p → Smallest d h p
 saved-smallest {d} v {h} {p} said saves = record { accepted = said; lowest = lowest }
   where
     lowest : (g r : List ℕ) → Accepted d g r → (k : ℕ) → ofPeriod p k ≤ ofPeriod r k
@@ -116,10 +110,10 @@ one-row {d} {h} {p} {g} {r} a b =
 
 module _ {d : Day} (v : Valid d) (h p : List ℕ) (holds : length h ≡ N d) (prices : length p ≡ P d)
     (s : Sound (instance d) (land d h) (ofPeriod p)) where
-  pub sound-accepted : Accepted d h p
+  sound-accepted : Accepted d h p
   sound-accepted = instance-accepted holds prices (s .accepted)
 
-  pub sound-saves : (k : ℕ) → 1 ≤ k → k ≤ P d → Saves d (total d h) k (ofPeriod p k)
+  pub sound-saves : PricesSave d (total d h) p
   unfolding A.total
   sound-saves k from to =
       let legal = places-more d k from to (saved-legal s k) in

@@ -49,6 +49,10 @@ pub record Saves (d : Day) (leastTotal k price : ℕ) : Type 0 where
   pub cheapest : Cheapest (oneMore d k) plan
   pub falls-by : total (oneMore d k) plan + price ≡ leastTotal
 
+-- so it is in every period of 1 to P, with its price
+abbrev pub PricesSave : Day → ℕ → List ℕ → Type 0
+PricesSave d leastTotal prices = (k : ℕ) → 1 ≤ k → k ≤ P d → Saves d leastTotal k (ofPeriod prices k)
+
 -- the flights that must land in the periods a to b: "those with due at least a and due + limit at most b, a missing limit reaching past P"
 unfoldable pub mustLand : Day → ℕ → ℕ → ℕ
 mustLand d a b = sum (N d) (λ i. gate (leb a (due d i) && leb (latest d i) b) 1)

@@ -3,13 +3,13 @@
 use mathlib.Core.Path.{_≡_}
 use mathlib.Core.Bool.{cond}
 use mathlib.Core.List.{List}
-use Prim.Native.Nat.{ℕ, _≤_}
+use Prim.Native.Nat.{ℕ}
 use lib.ListN.{length}
 use lib.Dec.{eqb}
 use Rattle.answers.specs.declared.Answer.{Answer}
 use Rattle.answers.specs.declared.Answer.the-variants.{Planned, BadDay, BadLength, NoPlan}
-use Rattle.day.specs.Day.{Day, P, N, ofPeriod, total, valid}
-use Rattle.day.specs.Plan.{Cheapest, Smallest, Saves, Picked}
+use Rattle.day.specs.Day.{Day, P, N, total, valid}
+use Rattle.day.specs.Plan.{Cheapest, Smallest, PricesSave, Picked}
 
 -- what is left to the program is named here: which cheapest plan (legal, and no legal plan costs less). The prices follow from the day: they
 -- are the smallest that the price check accepts, and one more landing in a period would save its price (#103)
@@ -17,7 +17,7 @@ pub record BestPlan (d : Day) (answer : Answer) (holds prices : List ℕ) : Type
   pub total-is : answer ≡ Planned (total d holds)
   pub cheapest : Cheapest d holds
   pub smallest : Smallest d holds prices
-  pub saves : (k : ℕ) → 1 ≤ k → k ≤ P d → Saves d (total d holds) k (ofPeriod prices k)
+  pub saves : PricesSave d (total d holds) prices
 
 -- no legal plan: the stretch that answer 9 names, and both rows as they were
 pub record NoLegalPlan (d : Day) (answer : Answer) (holds₀ prices₀ holds prices : List ℕ) : Type 0 where

@@ -12,7 +12,7 @@ use Rattle.assignment.specs.Moves.{Moved, put}
 use Rattle.assignment.specs.Orders.{Permuted}
 use Rattle.assignment.specs.Insertion.{Sound, Going}
 use Rattle.day.specs.Day.{Day, P, N, mostPeriods, mostFlights, periodRow, width, flightCount, ofPeriod, due, total, takes, dueOf}
-use Rattle.day.specs.Plan.{Smallest, Saves, Short}
+use Rattle.day.specs.Plan.{Smallest, PricesSave, Short}
 use Rattle.day.specs.Valid.{Valid}
 use Rattle.path.specs.Path.{far, away, begun, landing, Table, Chained}
 
@@ -166,4 +166,4 @@ pub record CanInsert (d : Day) (holds prices : List ℕ) : Type 0 where
 pub record Planned (d : Day) (holds prices : List ℕ) (cost : ℕ) : Type 0 where
   pub is-total : cost ≡ total d holds
   pub smallest : Smallest d holds prices
-  pub saves : (k : ℕ) → 1 ≤ k → k ≤ P d → Saves d (total d holds) k (ofPeriod prices k)
+  pub saves : PricesSave d (total d holds) prices
