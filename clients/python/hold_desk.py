@@ -52,7 +52,7 @@ def accepted(answer):
 
 
 def plan_sheet(library, sheet):
-    """(total, [(lands, flight, hold)], prices) of a sheet's bytes, or Refused."""
+    """(total, [(lands, flight, hold)], prices) of a sheet's bytes, or Refused. A price is what one more landing would save."""
     capacities, lent_capacities = row([0] * MOST_PERIODS)
     flights, lent_flights = row([0] * (MOST_FLIGHTS * FLIGHT_WIDTH))
     text = ctypes.create_string_buffer(sheet, max(len(sheet), 1))

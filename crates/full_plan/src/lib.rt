@@ -1,4 +1,5 @@
-// The full plan of a day: a cheapest legal plan and prices that show it, or the short stretch that leaves none.
+// The full plan of a day: a cheapest legal plan, and prices that show it and say what one more landing would save; or the short stretch that
+// leaves none.
 ghost use Rattle.day.specs.Day.{lent};
 ghost use Rattle.full_plan.specs.FullPlan.{FullPlan};
 use answers::Answer;

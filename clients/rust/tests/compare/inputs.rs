@@ -126,7 +126,7 @@ pub fn wide_day(seed: &Seed) -> Day {
 
 /// A day on which all periods but the last few are closed and flights are due early, so that limits near the day's length bind.
 pub fn day_open_at_its_end(seed: &Seed) -> Day {
-    let periods = seed.between(90, 96);
+    let periods = seed.pick(&[96, seed.between(90, 96)]);
     let count = seed.between(1, 16);
     let long = Style { due: (1, 2), rate: (1, 10_000), after: (90, 96), jump: (0, 1_000_000), limit: (periods - 3, 96), unlimited: 8, late: (0, 8) };
     let flights = numbers(seed, count).into_iter().map(|number| flight(seed, number, periods, &long)).collect();

@@ -192,8 +192,8 @@ fn large_days() {
     for round in 0..days() / 2 {
         let day = match round % 16 {
             0 => inputs::heavy_day(&run.seed),
-            1 => inputs::day_open_at_its_end(&run.seed),
-            2..=6 => inputs::day_of_size(&run.seed, 96, 128),
+            1..=2 => inputs::day_open_at_its_end(&run.seed),
+            3..=7 => inputs::day_of_size(&run.seed, 96, 128),
             _ => inputs::random_day(&run.seed, 96, 128),
         };
         every_call_of_a_day(&mut run, &day);
