@@ -49,7 +49,7 @@ pub record Saves (d : Day) (leastTotal k price : ℕ) : Type 0 where
   pub cheapest : Cheapest (oneMore d k) plan
   pub falls-by : total (oneMore d k) plan + price ≡ leastTotal
 
--- so it is in every period of 1 to P, with its price
+-- one more landing in a period of 1 to P saves its price
 abbrev pub PricesSave : Day → ℕ → List ℕ → Type 0
 PricesSave d leastTotal prices = (k : ℕ) → 1 ≤ k → k ≤ P d → Saves d leastTotal k (ofPeriod prices k)
 
