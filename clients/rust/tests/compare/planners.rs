@@ -33,21 +33,28 @@ fn plan_by_moves(day: &Day) -> Option<Vec<u32>> {
         for k in f.due..=f.last(p) {
             more[k as usize] = (cost(new, k), new);
         }
+        // at which of these sums each flight was gone over last
+        let mut looked = vec![i64::MAX; lands.len()];
         let (mut cheaper, mut rounds) = (true, 0);
         while cheaper {
             (cheaper, rounds) = (false, rounds + 1);
             assert!(rounds <= p + 3, "a plan that was not cheapest before");
             for (i, &at) in lands.iter().enumerate() {
                 let (sum, _) = more[at as usize];
+                if std::mem::replace(&mut looked[i], sum) == sum {
+                    continue;
+                }
                 for k in day.flights[i].due..=day.flights[i].last(p) {
-                    if sum < i64::MAX && sum - cost(i, at) + cost(i, k) < more[k as usize].0 {
+                    if sum - cost(i, at) + cost(i, k) < more[k as usize].0 {
                         more[k as usize] = (sum - cost(i, at) + cost(i, k), i);
                         cheaper = true;
                     }
                 }
             }
         }
-        let free = |k: &u32| lands.iter().filter(|&at| at == k).count() < room(*k) as usize && more[*k as usize].0 < i64::MAX;
+        let mut landed = vec![0; p as usize + 2];
+        lands.iter().for_each(|&at| landed[at as usize] += 1);
+        let free = |k: &u32| landed[*k as usize] < room(*k) && more[*k as usize].0 < i64::MAX;
         let mut to = (1..=p + 1).filter(free).min_by_key(|&k| more[k as usize].0)?;
         lands.push(0);
         while to != 0 {
