@@ -26,6 +26,12 @@
  * may save less than their prices add up to: plan the changed day to know. The day alone decides the prices, whichever cheapest
  * plan is returned.
  *
+ * FORECASTS. A forecast is a row of P capacities with a weight, its odds in thousandths. Table order is landing priority, first
+ * highest. A flight held on the ground for h periods is held to period due + h, and lands in the first period from there on in
+ * which, under the forecast, the flights above it in the table leave it room, else in the closing period. What it waits after the
+ * period that it is held to, it waits in the air, and a period in the air costs air factor * rate. Its expected cost is the sum over
+ * the forecasts of weight * (rate * h + air factor * rate * periods in the air), in thousandths.
+ *
  * ROWS. A row or a buffer is a pointer and its number of entries. Every call takes rows of any content and any length, always
  * returns, and keeps nothing. What the caller answers for:
  *   - the pointer is aligned for its type, and all of its entries may be read, and written if the row is lent for writing
@@ -48,9 +54,14 @@
  *    9  no legal plan                                                    first and last period of the short stretch
  *   10  hold row not legal                                               table place of the first flight that breaks it, 0
  *   11  card: period 0 or above P                                        P, 0
+ *   12  forecasts: weights that do not add up to 1,000, or a forecast
+ *       capacity above 255                                               0, 0
+ *   13  forecasts: a jump above 0, or an air factor or a count of
+ *       forecasts out of range                                           0, 0
  *
  * Where several apply, the first of 6, 7 (hold row before price or board row), 8, 10, 11, 9 is given; a text's length comes
  * last. hold_desk_read_sheet tests 7 (capacity row first), 1, then the lines from the top, in each line 5, 2, 3, 4.
+ * hold_desk_forecast_plan tests 6, 13, 7 (hold, weight, forecast row), 12.
  */
 #ifndef HOLD_DESK_H
 #define HOLD_DESK_H
@@ -71,6 +82,10 @@ extern "C" {
 #define HOLD_DESK_MOST_SHEET_BYTES 8192   /* no longer sheet is read; no day's sheet is longer */
 #define HOLD_DESK_MOST_PLAN_BYTES 2859    /* no plan's text is longer */
 #define HOLD_DESK_MOST_TOTAL 250880000    /* no total is greater, and no price of the full plan */
+#define HOLD_DESK_MOST_FORECASTS 8        /* forecasts of a forecast plan; there is at least one */
+#define HOLD_DESK_MOST_AIR_FACTOR 10      /* a period in the air costs 1 to 10 times the rate */
+#define HOLD_DESK_ALL_WEIGHTS 1000        /* what the weights of the forecasts add up to */
+#define HOLD_DESK_MOST_EXPECTED 1228800000000   /* no expected total is greater, in thousandths */
 
 /* A flight's seven numbers: the due period of the flight at table place i is flights[i * HOLD_DESK_FLIGHT_WIDTH + HOLD_DESK_DUE]. */
 enum hold_desk_field {
@@ -96,7 +111,9 @@ enum hold_desk_refusal {
     HOLD_DESK_JUMP_OR_LIMIT = 8,
     HOLD_DESK_NO_PLAN = 9,
     HOLD_DESK_NOT_LEGAL = 10,
-    HOLD_DESK_BAD_PERIOD = 11
+    HOLD_DESK_BAD_PERIOD = 11,
+    HOLD_DESK_BAD_FORECASTS = 12,
+    HOLD_DESK_BAD_TERMS = 13
 };
 
 typedef struct { uint64_t number, first, second; } hold_desk_answer;
@@ -166,6 +183,21 @@ hold_desk_answer hold_desk_plan_text(const uint32_t *capacities, size_t capaciti
                                      const uint32_t *flights, size_t flights_len,
                                      const uint32_t *holds, size_t holds_len,
                                      uint8_t *text, size_t text_len, size_t place);
+
+/* Holds for a day whose capacities are known by count forecasts only, 1 to 8 of them: the day's own capacities give P and nothing
+ * else. weights has an entry for each forecast, and forecasts the P capacities of the first, then of the second, and so on.
+ * air_factor is 1 to 10. Flights get their holds one after another in table order: each the hold of least expected cost, given the
+ * holds of the flights above it, among those that its limit allows and that hold it to P+1 at most; the shortest of several.
+ * Only each flight's own least is claimed: the total of another row may be less. Lates and afters play no part, and a forecast of
+ * weight 0 is tested like the others. Fills a hold row of N. Accepted: 0 with the total of the expected costs, in thousandths.
+ * Refusals 6, 13, 7 (hold row of N, weight row of count, forecast row of count * P, in this order), 12.
+ * The holds need not be legal for the day's own capacities: hold_desk_board and hold_desk_plan_text may refuse them with 10. */
+hold_desk_answer hold_desk_forecast_plan(const uint32_t *capacities, size_t capacities_len,
+                                         const uint32_t *flights, size_t flights_len,
+                                         uint32_t count, uint32_t air_factor,
+                                         const uint32_t *weights, size_t weights_len,
+                                         const uint32_t *forecasts, size_t forecasts_len,
+                                         uint32_t *holds, size_t holds_len);
 
 #ifdef __cplusplus
 }

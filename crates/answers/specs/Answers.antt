@@ -1,5 +1,7 @@
--- What the calls answer, as document 01 numbers it: the table under "Turned down", and 0 for an accepted call.
+-- What the calls answer, as documents 01 ("Turned down") and 02 number it, with 0 for an accepted call, and what a call that fills a hold
+-- row comes to.
 -- Assumes nothing.
+use mathlib.Core.List.{List}
 use Prim.Native.Nat.{ℕ}
 use Rattle.answers.specs.declared.Answer.{Answer}
 use Rattle.answers.specs.declared.Answer.the-variants.{
@@ -18,6 +20,8 @@ use Rattle.answers.specs.declared.Answer.the-variants.{
   NoPlan,
   NotLegal,
   NoSuchPeriod,
+  BadForecasts,
+  BadTerms,
 }
 use Rattle.answers.specs.declared.Code.{Code}
 
@@ -41,3 +45,13 @@ codeOf (JumpOrLimit place) = code 8 place 0
 codeOf (NoPlan first last) = code 9 first last
 codeOf (NotLegal place) = code 10 place 0
 codeOf (NoSuchPeriod periods) = code 11 periods 0
+codeOf BadForecasts = code 12 0 0
+codeOf BadTerms = code 13 0 0
+
+-- an answer, and the hold row after the call
+pub record Outcome : Type 0 where
+  pub answer : Answer
+  pub holds : List ℕ
+
+abbrev pub outcome : Answer → List ℕ → Outcome
+outcome answer holds = record { answer = answer; holds = holds }

@@ -1,4 +1,4 @@
-// What the calls answer, and the number and two values that document 01 gives for each case.
+// What the calls answer, and the number and two values that documents 01 and 02 give for each case.
 ghost use mathlib.Core.Path.{_≡_};
 ghost use Rattle.answers.specs.Answers.{code, codeOf};
 
@@ -19,9 +19,11 @@ pub enum Answer {
     NoPlan { first: usize, last: usize },
     NotLegal { place: usize },
     NoSuchPeriod { periods: usize },
+    BadForecasts,
+    BadTerms,
 }
 
-// The answer as document 01 numbers it.
+// The answer as documents 01 and 02 number it.
 #[repr(C)]
 pub struct Code {
     pub number: u64,
@@ -58,5 +60,7 @@ pub fn code_of(answer: Answer) -> Code
         Answer::NoPlan { first, last } => coded(9, first, last),
         Answer::NotLegal { place } => coded(10, place, 0),
         Answer::NoSuchPeriod { periods } => coded(11, periods, 0),
+        Answer::BadForecasts => coded(12, 0, 0),
+        Answer::BadTerms => coded(13, 0, 0),
     }
 }

@@ -12,10 +12,10 @@ use Rattle.assignment.specs.Assignment as A
 use Rattle.assignment.proofs.Tests.{lt?, gate-on, gate-le}
 use Rattle.assignment.proofs.Sums.{sum-most, sum-member}
 use Rattle.assignment.proofs.Existence as existence
-use Rattle.day.specs.Day.{Day, P, N, due, takes}
+use Rattle.day.specs.Day.{Day, P, N, due, takes, last}
 use Rattle.day.specs.Plan.{Legal, Short, Picked}
 use Rattle.day.specs.Valid.{Valid}
-use Rattle.day.specs.Instance.{instance, last}
+use Rattle.day.specs.Instance.{instance}
 use Rattle.day.proofs.Costs.{takes-closing, due-latest}
 use Rattle.day.proofs.Instance.{holdsOf, holds-legal, instance-short, short-has-no-plan}
 

@@ -18,12 +18,12 @@ use Rattle.assignment.proofs.Sums.{sum-ext, sum-zero, sum-most, count-le, count
 use Rattle.assignment.proofs.Rows.{row-length, row-at}
 use Rattle.assignment.proofs.Duality as duality
 use Rattle.assignment.proofs.Stretch as stretch
-use Rattle.day.specs.Day.{Day, P, N, due, rate, ofPeriod, capacity, takes, cost, latest, Window, hold, land, totalOf, total}
+use Rattle.day.specs.Day.{Day, P, N, due, rate, ofPeriod, capacity, takes, cost, latest, Window, hold, land, totalOf, total, last}
 use Rattle.day.specs.Plan.{Legal, Cheapest, Accepted, mustLand, room, Short}
 use borrow.Author.Tests.{le-leb, lt-leb}
 use Rattle.day.proofs.Costs.{takes-in, takes-closing, period-out, cost-most}
 use Rattle.day.specs.Valid.{ValidFlights, Valid}
-use Rattle.day.specs.Instance.{last, last-to, instance}
+use Rattle.day.specs.Instance.{last-to, instance}
 use Rattle.day.proofs.Valid.{valid-flights}
 
 pub last-latest : (d : Day) (i : ℕ) → last d i ≤ latest d i

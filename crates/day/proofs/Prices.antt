@@ -16,10 +16,10 @@ use Rattle.assignment.specs.Insertion.{Sound}
 use Rattle.assignment.proofs.Tests.{lt?, eq?, gate-eq, gate-ne, gate-le}
 use Rattle.assignment.proofs.Duality.{legal-in, dual}
 use Rattle.assignment.proofs.Saving.{saved, saved-legal}
-use Rattle.day.specs.Day.{Day, P, N, ofPeriod, capacity, takes, land, total}
+use Rattle.day.specs.Day.{Day, P, N, ofPeriod, capacity, takes, land, total, last}
 use Rattle.day.specs.Plan.{Legal, Accepted, Smallest, oneMore, Saves, PricesSave}
 use Rattle.day.specs.Valid.{ValidFlights, Valid}
-use Rattle.day.specs.Instance.{last, instance}
+use Rattle.day.specs.Instance.{instance}
 use Rattle.day.proofs.Costs.{period-out, period-moved}
 use Rattle.day.proofs.Valid.{valid-flights}
 use Rattle.day.proofs.Instance.{total-instance, legal-instance, holds-legal, holds-total, accepted-instance, instance-accepted, accepted-is-cheapest}

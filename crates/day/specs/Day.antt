@@ -3,7 +3,7 @@
 -- Assumes nothing.
 use mathlib.Core.Bool.{Bool, true, cond, not, _&&_, _||_}
 use mathlib.Core.List.{List, _∷_}
-use Prim.Native.Nat.{ℕ, zero, suc, _+_, _*_, _/_, _≤_}
+use Prim.Native.Nat.{ℕ, zero, suc, _+_, _*_, _/_, _≤_, min}
 use denote.Ref.{RefT, now}
 use lib.ListN.{length, getD}
 use lib.Dec.{leb, ltb, eqb}
@@ -144,6 +144,10 @@ pub record Window (d : Day) (i k : ℕ) : Type 0 where
   pub closing : k ≤ P d + 1
   pub limited : k ≤ latest d i
 
+-- the last period of flight i's window
+unfoldable pub last : Day → ℕ → ℕ
+last d i = min (latest d i) (P d + 1)
+
 -- "A flight with hold h lands in period due + h."
 abbrev pub hold : List ℕ → ℕ → ℕ
 hold holds i = getD holds i 0
@@ -180,6 +184,10 @@ flightFits p f =
     inside 1 9999 (f .number) && inside 1 p (f .due) && inside 1 10000 (f .rate) && leb (f .after) 96 && leb (f .jump) 1000000
     && (leb (f .limit) 96 || missing (f .limit)) && leb (f .late) 255
 
+-- a row of capacities is within the table's range
+abbrev pub capacitiesFit : List ℕ → Bool
+capacitiesFit row = all (length row) (λ k. leb (getD row k 0) 255)
+
 -- of the flight at table place i, on a day of p periods
 abbrev pub inRange : ℕ → List ℕ → ℕ → Bool
 inRange p flights i = flightFits p (flightAt flights i)
@@ -194,4 +202,4 @@ unfoldable pub valid : Day → Bool
 unfolding flightCount all flightFits isNew
 valid d =
     inside 1 mostPeriods (P d) && eqb (length (d .flights)) (N d * width) && leb (N d) mostFlights
-    && all (P d) (λ k. leb (getD (d .capacities) k 0) 255) && all (N d) (inRange (P d) (d .flights)) && all (N d) (isNew (d .flights))
+    && capacitiesFit (d .capacities) && all (N d) (inRange (P d) (d .flights)) && all (N d) (isNew (d .flights))

@@ -1,14 +1,10 @@
 -- A day as an assignment problem in which the closing period is one more period, of capacity 256: no day can fill it. Only inner contracts
 -- cite it.
 -- Assumes nothing.
-use Prim.Native.Nat.{ℕ, _+_, _-_, _≤_, min}
+use Prim.Native.Nat.{ℕ, _+_, _-_, _≤_}
 use native.Mathlib.Omega.{arith}
 use Rattle.assignment.specs.Assignment as A
-use Rattle.day.specs.Day.{Day, P, N, due, takes, cost, latest}
-
--- the last period of flight i's window
-unfoldable pub last : Day → ℕ → ℕ
-last d i = min (latest d i) (P d + 1)
+use Rattle.day.specs.Day.{Day, P, N, due, takes, cost, last}
 
 pub last-to : (d : Day) (i : ℕ) → last d i ≤ P d + 1
 unfolding last

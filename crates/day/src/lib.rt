@@ -4,7 +4,7 @@ ghost use mathlib.Core.Bool.{true, false, _&&_, _||_};
 ghost use Prim.Native.Nat.{_+_, _*_, _/_, _%_, _^_, _<_, _≤_};
 ghost use lib.ListN.{getD, length};
 ghost use lib.Dec.{leb};
-ghost use Rattle.day.specs.Day.{lent, mostPeriods, mostFlights, column, numberOf, dueOf, rateOf, limitOf, width, flightAt, flightCount, ofPeriod, takes, holdCost, landOf, latestOf, all, inside, missing, flightFits, inRange, isNew, valid};
+ghost use Rattle.day.specs.Day.{lent, mostPeriods, mostFlights, column, numberOf, dueOf, rateOf, limitOf, width, flightAt, flightCount, ofPeriod, takes, holdCost, landOf, latestOf, all, inside, missing, flightFits, capacitiesFit, inRange, isNew, valid};
 ghost use Rattle.day.specs.Flights.{withFlight};
 ghost use Rattle.day.specs.Chains.{chains, Linked, Passed};
 
@@ -219,8 +219,9 @@ pub fn flight_fits(periods: usize, f: Flight) -> bool
     both(both(priced, limit_fits(f.limit)), f.late <= 255)
 }
 
-fn capacities_fit(capacities: &[u32]) -> bool
-    ensures { λ r. ⌜ r ≡ all (length (now (capacities .entry))) (λ k. leb (getD (now (capacities .entry)) k 0) 255) ⌝ }
+// A row of capacities is within the table's range.
+pub fn capacities_fit(capacities: &[u32]) -> bool
+    ensures { λ r. ⌜ r ≡ capacitiesFit (now (capacities .entry)) ⌝ }
 {
     let mut k = 0;
     while k < capacities.len() {

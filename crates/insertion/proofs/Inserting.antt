@@ -23,8 +23,8 @@ use Rattle.assignment.proofs.Closed.{open-cost, shut-cost, opened-short, lands-
 use Rattle.assignment.proofs.Permuted.{permuted-short, reordered-sound, reordered-total}
 use Rattle.assignment.proofs.Restricted.{Rising, until-near, restrict, widen, widen-short}
 use Rattle.assignment.proofs.Rows.{set-moved}
-use Rattle.day.specs.Day.{Day, width, P, N, mostFlights, periodRow, ofPeriod, takes, due, cost}
-use Rattle.day.specs.Instance.{instance, last, last-to}
+use Rattle.day.specs.Day.{Day, width, P, N, mostFlights, periodRow, ofPeriod, takes, due, cost, last}
+use Rattle.day.specs.Instance.{instance, last-to}
 use Rattle.day.proofs.Costs.{takes-closing, due-latest, cost-grows}
 use Rattle.day.proofs.Instance.{cost-le, instance-short}
 use Rattle.path.specs.Path.{far, away, dear, begun, scope, landing, Table, Scene, Searched, CanSearchSome, SearchedAll}

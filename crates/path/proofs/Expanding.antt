@@ -18,8 +18,8 @@ use Rattle.assignment.proofs.Closed.{open-cost, shut-cost}
 use Rattle.assignment.proofs.Restricted.{until-near}
 use Rattle.assignment.proofs.Rows.{set-moved}
 use Rattle.day.specs.declared.Flight.{Flight}
-use Rattle.day.specs.Day.{Day, P, N, day, mostFlights, periodRow, width, ofPeriod, due, holdCost, latestOf, cost, flightAt}
-use Rattle.day.specs.Instance.{instance, last}
+use Rattle.day.specs.Day.{Day, P, N, day, mostFlights, periodRow, width, ofPeriod, due, holdCost, latestOf, cost, flightAt, last}
+use Rattle.day.specs.Instance.{instance}
 use Rattle.day.proofs.Costs.{takes-in}
 use Rattle.day.proofs.Flights.{due-read}
 use Rattle.path.specs.declared.Origin.{Origin}

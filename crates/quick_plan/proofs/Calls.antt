@@ -8,17 +8,13 @@ use Prim.Native.Nat.{ℕ, _≤_, _<_}
 use native.Mathlib.Omega.{arith}
 use lib.ListN.{length}
 use borrow.Author.Tests.{eq-eqb, ne-eqb, lt-ltb, le-ltb}
-use Rattle.answers.specs.declared.Answer.{Answer}
+use Rattle.answers.specs.Answers.{outcome}
 use Rattle.answers.specs.declared.Answer.the-variants.{Planned, BadDay, BadLength, JumpOrLimit}
 use Rattle.day.specs.Day.{Day, P, N, valid, total}
 use Rattle.day.specs.Plan.{firstJumpOrLimit}
 use Rattle.quick_plan.specs.Loop.{rowTo}
-use Rattle.quick_plan.specs.Calls.{Outcome, outcome, quickPlan}
+use Rattle.quick_plan.specs.Calls.{quickPlan}
 use Rattle.quick_plan.proofs.Rows.{rowTo-quick}
-
--- an outcome, taken apart as the contract has it
-pub says : {o : Outcome} {a : Answer} {x : List ℕ} → o ≡ outcome a x → (a ≡ o .answer) × (x ≡ o .holds)
-says e = (ap (λ o. o .answer) (sym e), ap (λ o. o .holds) (sym e))
 
 module _ (d : Day) (h : List ℕ) where
   pub bad-day : valid d ≡ false → quickPlan d h ≡ outcome BadDay h

@@ -12,6 +12,7 @@ use Rattle.assignment.specs.Sum.{gate, sum}
 use Rattle.assignment.specs.Rows.{row}
 use Rattle.assignment.proofs.Sums.{sum-ext}
 use Rattle.assignment.proofs.Rows.{row-ext}
+use Rattle.answers.specs.Answers.{outcome}
 use Rattle.answers.specs.declared.Answer.the-variants.{Planned, BadLength, JumpOrLimit}
 use Rattle.day.specs.Day.{Day, day, P, N, width, due, rate, capacity, cost, hold, flightAt, flightCount, totalOf, total, valid}
 use Rattle.day.specs.Flights.{SameBut}
@@ -19,7 +20,7 @@ use Rattle.day.specs.Plan.{firstOf, jumpOrLimit, firstJumpOrLimit}
 use Rattle.day.proofs.Costs.{cost-plain}
 use Rattle.day.proofs.Tests.{first-same, first-le}
 use Rattle.quick_plan.specs.Quick.{aheadOf, ahead, goingBefore, highest, eligible, operates, lands, quick}
-use Rattle.quick_plan.specs.Calls.{outcome, quickPlan}
+use Rattle.quick_plan.specs.Calls.{quickPlan}
 use Rattle.quick_plan.proofs.Applies.{no-jump}
 
 -- two rows of flights that differ in column 6, late, alone

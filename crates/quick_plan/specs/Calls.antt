@@ -5,19 +5,11 @@ use mathlib.Core.List.{List}
 use Prim.Native.Nat.{ℕ}
 use lib.ListN.{length}
 use lib.Dec.{ltb, eqb}
-use Rattle.answers.specs.declared.Answer.{Answer}
+use Rattle.answers.specs.Answers.{Outcome, outcome}
 use Rattle.answers.specs.declared.Answer.the-variants.{Planned, BadDay, BadLength, JumpOrLimit}
 use Rattle.day.specs.Day.{Day, N, valid, total}
 use Rattle.day.specs.Plan.{firstJumpOrLimit}
 use Rattle.quick_plan.specs.Quick.{quick}
-
--- an answer, and the hold row after the call
-pub record Outcome : Type 0 where
-  pub answer : Answer
-  pub holds : List ℕ
-
-abbrev pub outcome : Answer → List ℕ → Outcome
-outcome answer holds = record { answer = answer; holds = holds }
 
 -- the quick plan: refusals 6, 7 and 8 in this order, which leave the row as it was
 unfoldable pub quickPlan : Day → List ℕ → Outcome

@@ -1,6 +1,8 @@
 -- Each arm gives the numbers that the definition gives for its case.
 -- Assumes nothing.
+use mathlib.Core.Path.{ap, sym, _∙_}
 use borrow.Author.Needs.{needs}
+use Rattle.answers.specs.Answers.{codeOf}
 use Rattle.answers.proofs.code_of.Statement.{statement}
 use Rattle.answers.proofs.code_of.Tie as tie
 
@@ -94,8 +96,20 @@ enum-known-answer-12 c = search needs
 coded-requires-15 : tie.Need-coded-requires-15
 coded-requires-15 c κs = search needs
 
+enum-told-4 : tie.Need-enum-told-4
+enum-told-4 c = search needs
+
+coded-requires-16 : tie.Need-coded-requires-16
+coded-requires-16 c κs = search needs
+
+enum-told-5 : tie.Need-enum-told-5
+enum-told-5 c = search needs
+
+coded-requires-17 : tie.Need-coded-requires-17
+coded-requires-17 c κs = search needs
+
 returns : tie.Need-returns
-returns c = cc
+returns c = c .coded .ensures ∙ ap codeOf (sym (c .before .before .answer .given .1))
 
 returns-2 : tie.Need-returns-2
 returns-2 c = cc
@@ -131,13 +145,19 @@ returns-12 : tie.Need-returns-12
 returns-12 c = cc
 
 returns-13 : tie.Need-returns-13
-returns-13 c = cc
+returns-13 c = c .coded13 .ensures ∙ ap codeOf (sym (c .before .before .answer10 .given .1))
 
 returns-14 : tie.Need-returns-14
 returns-14 c = cc
 
 returns-15 : tie.Need-returns-15
 returns-15 c = cc
+
+returns-16 : tie.Need-returns-16
+returns-16 c = cc
+
+returns-17 : tie.Need-returns-17
+returns-17 c = cc
 
 pub code-of-spec : {M : Type 1} → statement M
 code-of-spec =
@@ -173,6 +193,10 @@ code-of-spec =
     coded-requires-14
     enum-known-answer-12
     coded-requires-15
+    enum-told-4
+    coded-requires-16
+    enum-told-5
+    coded-requires-17
     returns
     returns-2
     returns-3
@@ -187,4 +211,6 @@ code-of-spec =
     returns-12
     returns-13
     returns-14
-    returns-15)
+    returns-15
+    returns-16
+    returns-17)

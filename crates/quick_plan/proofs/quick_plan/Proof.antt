@@ -2,7 +2,8 @@
 -- Assumes nothing.
 use borrow.Author.Tests.{not-true, not-false}
 use mathlib.Core.Path.{sym, _∙_}
-use Rattle.quick_plan.proofs.Calls.{says, bad-day, bad-length, jump-or-limit, planned}
+use Rattle.answers.proofs.Outcomes.{says}
+use Rattle.quick_plan.proofs.Calls.{bad-day, bad-length, jump-or-limit, planned}
 use Rattle.legality.proofs.Laws.{can-sum}
 use borrow.Author.Needs.{needs}
 use Rattle.quick_plan.proofs.quick_plan.Statement.{statement}
