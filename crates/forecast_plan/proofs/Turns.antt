@@ -53,6 +53,12 @@ module _ (heldTo others : ℕ → ℕ) (capacities : List ℕ) (from : ℕ) (sam
   unfolding waiting
   waiting-same j some b = rw (same j some b, left-over-same (j - 1) (omega arith))
 
+pub waiting-everywhere : (heldTo others : ℕ → ℕ) (capacities : List ℕ) → ((k : ℕ) → heldTo k ≡ others k) → (j : ℕ)
+    → waiting heldTo capacities j ≡ waiting others capacities j
+unfolding waiting
+waiting-everywhere heldTo others capacities same j =
+    rw (same j, left-over-same heldTo others capacities (suc j) (λ k some l. same k) (j - 1) (omega arith))
+
 -- ---- the row of a forecast
 
 module _ {heldTo capacities waits : List ℕ} {from : ℕ} (t : Turn heldTo capacities waits from) where

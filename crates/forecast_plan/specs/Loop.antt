@@ -6,8 +6,18 @@ use Prim.Native.Nat.{ℕ, _+_, _-_, _*_, _≤_, _<_}
 use lib.ListN.{length, getD}
 use Rattle.assignment.specs.Sum.{sum}
 use Rattle.assignment.specs.Rows.{el}
-use Rattle.day.specs.Day.{mostPeriods, mostFlights, periodRow}
-use Rattle.forecast_plan.specs.Forecast.{forecastAt, waiting, firstRoom}
+use Rattle.day.specs.Day.{Day, P, mostPeriods, mostFlights, periodRow}
+use Rattle.day.specs.Valid.{Valid}
+use Rattle.forecast_plan.specs.Forecast.{Forecasts, weight, forecastAt, waiting, firstRoom}
+
+-- a day and forecasts that no refusal stops, but for jumps and the forecasts' capacities, which the program need not know of
+pub record Fit (d : Day) (f : Forecasts) : Type 0 where
+  pub good : Valid d
+  pub factor-to : f .airFactor ≤ 10
+  pub count-to : f .count ≤ 8
+  pub weights-are : length (f .weights) ≡ f .count
+  pub rows-are : length (f .rows) ≡ f .count * P d
+  pub add-up : sum (f .count) (weight f) ≡ 1000
 
 -- who waits under one forecast is known for the periods before `from`
 pub record Known (heldTo : ℕ → ℕ) (capacities : List ℕ) (waits : ℕ → ℕ) (from : ℕ) : Type 0 where

@@ -1,0 +1,43 @@
+-- What the forecast plan says, in document 02's words: each flight "takes the hold of least expected cost given those before it, smallest on
+-- a tie, within its limit". No row but the plan's is so, and its total fits.
+-- Assumes nothing.
+use mathlib.Core.Path.{_≡_}
+use mathlib.Core.List.{List}
+use Prim.Native.Nat.{ℕ, _+_, _-_, _≤_, _<_}
+use native.Mathlib.Omega.{arith}
+use lib.ListN.{length}
+use Rattle.assignment.proofs.Sums.{sum-most}
+use Rattle.day.specs.Day.{Day, N, due, Window, hold, land}
+use Rattle.day.specs.Valid.{Valid}
+use Rattle.forecast_plan.specs.Forecast.{Forecasts, expected, forecastHolds, expectedTotal}
+use Rattle.forecast_plan.specs.Loop.{Fit}
+use Rattle.forecast_plan.proofs.Holds.{holds-length, each-least, only-row, hold-window, window-hold, expected-most}
+
+-- a row of holds, each in its flight's window, none of the window less, and every smaller one more, "given those before it"
+pub record EachLeast (d : Day) (f : Forecasts) (holds : List ℕ) : Type 0 where
+  pub each : length holds ≡ N d
+  pub window : (i : ℕ) → i < N d → Window d i (land d holds i)
+  pub none-less : (i k : ℕ) → i < N d → Window d i k → expected d f holds i (hold holds i) ≤ expected d f holds i (k - due d i)
+  pub smaller-more : (i h : ℕ) → i < N d → h < hold holds i → expected d f holds i (hold holds i) < expected d f holds i h
+
+-- the forecast plan is such a row
+pub plan-is-least : {d : Day} (f : Forecasts) → Valid d → EachLeast d f (forecastHolds d f)
+plan-is-least {d} f v = record {
+  each = holds-length d f (N d);
+  window = λ i l. hold-window d i (v .flight i l) (each-least d f i l .within);
+  none-less = λ i k l w. each-least d f i l .none-less (k - due d i) (window-hold d i (v .flight i l) w);
+  smaller-more = λ i h l b. each-least d f i l .smaller-more h b;
+}
+
+-- and no other is
+pub only-plan : {d : Day} (f : Forecasts) (holds : List ℕ) → Valid d → EachLeast d f holds → holds ≡ forecastHolds d f
+only-plan {d} f holds v e = only-row d f holds (e .each) (λ i l. record {
+  within = let same : land d holds i - due d i ≡ hold holds i = omega arith in rw same at (window-hold d i (v .flight i l) (e .window i l));
+  none-less = λ g to. let same : due d i + g - due d i ≡ g = omega arith in rw same at (e .none-less i (due d i + g) l (hold-window d i (v .flight i l) to));
+  smaller-more = λ g b. e .smaller-more i g l b;
+})
+
+-- "The total is answered in thousandths": at most 128 flights of 9,600,000,000
+pub total-most : {d : Day} {f : Forecasts} → Fit d f → expectedTotal d f (forecastHolds d f) ≤ 1228800000000
+unfolding expectedTotal
+total-most {d} {f} fit = omega (arith, fit .good .flights-to, sum-most (N d) 9600000000 _ (λ i l. expected-most fit (forecastHolds d f) i l _ (each-least d f i l .within)))
