@@ -5,10 +5,12 @@ use mathlib.Core.Bool.{Bool, true, false, cond}
 use mathlib.Core.List.{List}
 use Prim.Native.Nat.{ℕ, zero, suc, _+_, _-_, _≤_, _<_}
 use native.Mathlib.Omega.{arith}
-use lib.ListN.{length}
+use lib.ListN.{length, getD}
 use lib.Dec.{ltb}
+use borrow.Author.Tests.{lt-ltb, le-ltb}
 use Rattle.day.specs.Day.{ofPeriod}
 use Rattle.day.specs.Plan.{firstOf}
+use Rattle.day.proofs.Costs.{period-in}
 use Rattle.day.proofs.Tests.{first-le, first-same}
 use Rattle.forecast_plan.specs.Forecast.{firstRoom}
 
@@ -35,6 +37,17 @@ module _ (waits : ℕ → ℕ) (capacities : List ℕ) where
           ≡ cond b q (q + 1 + firstOf (length capacities - q) (λ t. test (q + 1 + t)))
       go true = omega arith
       go false = omega (arith, first-same (length capacities - q) (λ t. test (q + suc t)) (λ t. test (q + 1 + t)) (λ t b. ap test (omega arith)))
+
+  -- as the program goes from the back
+  module _ {j c : ℕ} (some : 1 ≤ j) (in-day : j ≤ length capacities) (e : c ≡ getD capacities (j - 1) 0) where
+    capacity-is : ofPeriod capacities j ≡ c
+    capacity-is = period-in capacities j (λ z. omega arith) ∙ sym e
+
+    pub room-here : waits j < c → j ≡ firstRoom waits capacities j
+    room-here l = sym (room-step j in-day ∙ rw (capacity-is, lt-ltb (waits j) c l))
+
+    pub room-further : {next : ℕ} → c ≤ waits j → next ≡ firstRoom waits capacities (j + 1) → next ≡ firstRoom waits capacities j
+    room-further l n = n ∙ sym (room-step j in-day ∙ rw (capacity-is, le-ltb (waits j) c l))
 
   pub room-from : (q : ℕ) → q ≤ firstRoom waits capacities q
   unfolding firstRoom

@@ -5,3 +5,7 @@ pub mod Least
 pub mod Expected
 pub mod Holds
 pub mod Meaning
+pub mod Choosing
+pub mod Air
+pub mod Parts
+pub mod Refreshing

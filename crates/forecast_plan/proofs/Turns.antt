@@ -11,10 +11,10 @@ use Rattle.assignment.specs.Rows.{el}
 use Rattle.assignment.specs.Moves.{Moved}
 use Rattle.assignment.proofs.Rows.{set-moved}
 use Rattle.assignment.proofs.Tests.{eq?}
-use Rattle.day.specs.Day.{mostFlights, ofPeriod}
+use Rattle.day.specs.Day.{ofPeriod}
 use Rattle.day.proofs.Costs.{period-in}
 use Rattle.forecast_plan.specs.Forecast.{leftOver, waiting}
-use Rattle.forecast_plan.specs.Loop.{Known, Turn}
+use Rattle.forecast_plan.specs.Loop.{Turn}
 
 module _ (heldTo : ℕ → ℕ) (capacities : List ℕ) where
   pub none-left-over : (j : ℕ) → j ≡ 0 → 0 ≡ leftOver heldTo capacities j

@@ -2,13 +2,16 @@
 -- Assumes nothing.
 use mathlib.Core.Path.{_≡_}
 use mathlib.Core.List.{List}
-use Prim.Native.Nat.{ℕ, _+_, _-_, _*_, _≤_, _<_}
+use Prim.Native.Nat.{ℕ, _+_, _-_, _*_, _≤_, _<_, min}
 use lib.ListN.{length, getD}
 use Rattle.assignment.specs.Sum.{sum}
 use Rattle.assignment.specs.Rows.{el}
-use Rattle.day.specs.Day.{Day, P, mostPeriods, mostFlights, periodRow}
+use Rattle.day.specs.Day.{Day, P, N, mostPeriods, mostFlights, periodRow, latestOf, hold}
 use Rattle.day.specs.Valid.{Valid}
-use Rattle.forecast_plan.specs.Forecast.{Forecasts, weight, forecastAt, waiting, firstRoom}
+use Rattle.day.specs.declared.Flight.{Flight}
+use Rattle.forecast_plan.specs.declared.Chosen.{Chosen}
+use Rattle.forecast_plan.specs.declared.Terms.{Terms}
+use Rattle.forecast_plan.specs.Forecast.{Forecasts, weight, forecastAt, held, waiting, firstRoom, expected, leastHold, forecastHolds}
 
 -- a day and forecasts that no refusal stops, but for jumps and the forecasts' capacities, which the program need not know of
 pub record Fit (d : Day) (f : Forecasts) : Type 0 where
@@ -44,3 +47,51 @@ pub record Turns (p n : ℕ) (rows heldTo waits : List ℕ) (from : ℕ) : Type 
   pub sizes : length waits ≡ 8 * periodRow
   pub few : (k : ℕ) → el heldTo k ≤ mostFlights
   pub known : (s : ℕ) → s < n → Known (el heldTo) (forecastAt p rows s) (waitsOf waits s) from
+
+-- a row of periods in the air by weight, for one forecast: from `due` on, what a flight held to a period waits in the air is added
+pub record Adding (capacities waits : List ℕ) (weight due : ℕ) (air₀ air : List ℕ) (j : ℕ) : Type 0 where
+  pub periods : length capacities ≤ mostPeriods
+  pub waited : length waits ≡ periodRow
+  pub sizes : length air ≡ periodRow
+  pub odds : weight ≤ 1000
+  pub low : (q : ℕ) → due ≤ q → q ≤ length capacities → el air₀ q ≤ 768000
+  pub from : 1 ≤ due
+  pub downto : due ≤ j
+  pub upto : j ≤ length capacities + 1
+  pub added : (q : ℕ) → j ≤ q → q ≤ length capacities + 1 → el air q ≡ el air₀ q + weight * (firstRoom (el waits) capacities q - q)
+  pub others : (q : ℕ) → q < j → el air q ≡ el air₀ q
+
+-- the periods in the air of a flight held to period q under the first n forecasts, by weight
+abbrev pub airborne : ℕ → (weights rows waits : List ℕ) → ℕ → ℕ → ℕ
+airborne p weights rows waits n q = sum n (λ s. el weights s * (firstRoom (waitsOf waits s) (forecastAt p rows s) q - q))
+
+-- a row of them, from `due` on
+pub record Weighed (p : ℕ) (weights rows waits : List ℕ) (due : ℕ) (air : List ℕ) (n : ℕ) : Type 0 where
+  pub periods : p ≤ mostPeriods
+  pub forecasts : length weights ≤ 8
+  pub whole : length rows ≡ length weights * p
+  pub waited : length waits ≡ 8 * periodRow
+  pub odds : (s : ℕ) → el weights s ≤ 1000
+  pub from : 1 ≤ due
+  pub to : due ≤ p
+  pub sizes : length air ≡ periodRow
+  pub upto : n ≤ length weights
+  pub sums : (q : ℕ) → due ≤ q → q ≤ p + 1 → el air q ≡ airborne p weights rows waits n q
+
+-- what a flight's hold is expected to cost, in thousandths, from the periods in the air by weight
+unfoldable pub weighed : Flight → ℕ → (ℕ → ℕ) → ℕ → ℕ
+weighed f airFactor air h = 1000 * f .rate * h + airFactor * f .rate * air (f .due + h)
+
+-- numbers so low that it fits 64 bits
+pub record Low (f : Flight) (airFactor last : ℕ) (air : List ℕ) : Type 0 where
+  pub rate-to : f .rate ≤ 10000
+  pub factor-to : airFactor ≤ 10
+  pub window : f .due ≤ last
+  pub last-to : last < periodRow
+  pub sizes : length air ≡ periodRow
+  pub low : (q : ℕ) → f .due ≤ q → q ≤ last → el air q ≤ 768000
+
+-- the hold of least cost of 0 to n, and its cost
+pub record Chooses (n : ℕ) (cost : ℕ → ℕ) (c : Chosen) : Type 0 where
+  pub hold-is : c .hold ≡ leastHold n cost
+  pub cost-is : c .cost ≡ cost (c .hold)

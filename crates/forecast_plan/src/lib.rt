@@ -1,13 +1,36 @@
 // The forecast plan: flights get their holds one after another, each the hold of least expected cost given those before it, where the
 // capacities of the day are known by forecasts with odds only.
+use day::Flight;
 use day::PERIOD_ROW;
+use day::latest_of;
 use day::wide;
 ghost use mathlib.Core.Path.{_≡_};
-ghost use Prim.Native.Nat.{_+_, _*_, _≤_, _<_};
-ghost use lib.ListN.{length};
+ghost use mathlib.Core.Bool.{cond};
+ghost use Prim.Native.Nat.{_+_, _-_, _*_, _≤_, _<_, min};
+ghost use lib.ListN.{length, getD};
+ghost use lib.Dec.{ltb};
 ghost use Rattle.assignment.specs.Rows.{el};
-ghost use Rattle.forecast_plan.specs.Forecast.{leftOver, waiting};
-ghost use Rattle.forecast_plan.specs.Loop.{Turn, Turns};
+ghost use Rattle.day.specs.Day.{mostPeriods, periodRow, latestOf};
+ghost use Rattle.forecast_plan.specs.Forecast.{forecastAt, leftOver, waiting, firstRoom};
+ghost use Rattle.forecast_plan.specs.Loop.{Turn, Turns, Adding, Weighed, weighed, Low, Chooses};
+
+// The most forecasts.
+const FORECASTS: usize = 8;
+
+// What their weights add up to.
+const ALL_WEIGHTS: usize = 1000;
+
+// The number of periods, and what a period in the air costs, in rates.
+struct Terms {
+    periods: usize,
+    factor: usize,
+}
+
+// A hold, and what it is expected to cost in thousandths.
+struct Chosen {
+    hold: usize,
+    cost: usize,
+}
 
 // Who waits in period j for a place under a forecast: those held to it, and those left over from the period before. The row `waits` has
 // who waits before period `from`; it gets the periods to j too, each on the way back.
@@ -51,4 +74,148 @@ fn left_over(
         return 0;
     }
     here - capacity
+}
+
+// The capacities of forecast s.
+fn forecast_at(forecasts: &[u32], periods: usize, s: usize) -> &[u32]
+    requires { ⌜ s * periods + periods ≤ length (now forecasts) ⌝ }
+    ensures { λ r. ⌜ now r ≡ forecastAt periods (now (forecasts .entry)) s ⌝ }
+{
+    let first = s * periods;
+    &forecasts[first..first + periods]
+}
+
+// Brings the rows of all forecasts up to date where flights were held to period `from` and none to an earlier one since.
+fn refresh(
+    terms: Terms,
+    count: usize,
+    forecasts: &[u32],
+    held: &[usize],
+    waits: &mut [usize],
+    from: usize,
+)
+    requires { ⌜ Turns (terms .periods) count (now forecasts) (now held) (now waits) from × (1 ≤ terms .periods) ⌝ }
+    ensures { λ _. ⌜ Turns (terms .periods) count (now (forecasts .entry)) (now (held .entry)) (now (waits .exit)) (terms .periods + 1) ⌝ }
+{
+    let periods = terms.periods;
+    let mut s = 0;
+    while s < count {
+        let forecast = forecast_at(forecasts, periods, s);
+        let place = s * PERIOD_ROW;
+        waiting(
+            held,
+            forecast,
+            &mut waits[place..place + PERIOD_ROW],
+            from,
+            periods,
+        );
+        s += 1;
+    }
+}
+
+// Where a flight held to period j lands, if one held to the next period lands in `next`.
+fn lands_at(forecast: &[u32], waits: &[usize], j: usize, next: usize) -> usize
+    requires { ⌜ (1 ≤ j) × (j ≤ length (now forecast)) × (j < length (now waits)) × (next ≡ firstRoom (el (now waits)) (now forecast) (j + 1)) ⌝ }
+    ensures { λ r. ⌜ r ≡ firstRoom (el (now (waits .entry))) (now (forecast .entry)) j ⌝ }
+{
+    if waits[j] < wide(forecast[j - 1]) {
+        return j;
+    }
+    next
+}
+
+// Adds what a flight held to each period from `due` on waits in the air under one forecast, times its weight: from the back, so that every
+// period's landing is found from the next one's.
+fn add_air(forecast: &[u32], waits: &[usize], weight: usize, due: usize, air: &mut [usize])
+    requires { ⌜ Adding (now forecast) (now waits) weight due (now air) (now air) (length (now forecast) + 1) ⌝ }
+    ensures { λ _. ⌜ Adding (now (forecast .entry)) (now (waits .entry)) weight due (now (air .entry)) (now (air .exit)) due ⌝ }
+{
+    let mut j = forecast.len() + 1;
+    let mut lands = j;
+    while due < j {
+        j -= 1;
+        lands = lands_at(forecast, waits, j, lands);
+        air[j] = air[j] + weight * (lands - j);
+    }
+}
+
+// The same for all forecasts.
+fn weigh_air(
+    periods: usize,
+    weights: &[u32],
+    forecasts: &[u32],
+    waits: &[usize],
+    due: usize,
+    air: &mut [usize],
+)
+    requires { ⌜ Weighed periods (now weights) (now forecasts) (now waits) due (now air) 0 ⌝ }
+    ensures { λ _. ⌜ Weighed periods (now (weights .entry)) (now (forecasts .entry)) (now (waits .entry)) due (now (air .exit)) (length (now (weights .entry))) ⌝ }
+{
+    let mut s = 0;
+    while s < weights.len() {
+        let forecast = forecast_at(forecasts, periods, s);
+        let place = s * PERIOD_ROW;
+        add_air(
+            forecast,
+            &waits[place..place + PERIOD_ROW],
+            wide(weights[s]),
+            due,
+            air,
+        );
+        s += 1;
+    }
+}
+
+// What a hold is expected to cost a flight. The weights add up to 1,000, so that the ground is paid 1,000 times.
+fn cost_in(f: Flight, factor: usize, air: &[usize], hold: usize) -> usize
+    requires { ⌜ (f .rate ≤ 10000) × (factor ≤ 10) × (f .due + hold < length (now air)) × (hold < periodRow) × (el (now air) (f .due + hold) ≤ 768000) ⌝ }
+    ensures { λ r. ⌜ r ≡ weighed f factor (el (now (air .entry))) hold ⌝ }
+{
+    let rate = wide(f.rate);
+    let held_to = wide(f.due) + hold;
+    ALL_WEIGHTS * rate * hold + factor * rate * air[held_to]
+}
+
+// The cheaper of two holds; of equal ones the first.
+fn cheaper(best: Chosen, next: Chosen) -> Chosen
+    ensures { λ r. ⌜ r ≡ cond (ltb (next .cost) (best .cost)) next best ⌝ }
+{
+    if next.cost < best.cost {
+        return next;
+    }
+    best
+}
+
+// The hold of least expected cost that takes a flight to period `last` at most.
+fn least_hold(f: Flight, factor: usize, air: &[usize], last: usize) -> Chosen
+    requires { ⌜ Low f factor last (now air) ⌝ }
+    ensures { λ r. ⌜ Chooses (last - f .due) (weighed f factor (el (now (air .entry)))) r ⌝ }
+{
+    let longest = last - wide(f.due);
+    let mut hold = 0;
+    let mut best = Chosen {
+        hold,
+        cost: cost_in(f, factor, air, hold),
+    };
+    while hold < longest {
+        hold += 1;
+        let next = Chosen {
+            hold,
+            cost: cost_in(f, factor, air, hold),
+        };
+        best = cheaper(best, next);
+    }
+    best
+}
+
+// The last period of a flight's window.
+fn last_of(periods: usize, f: Flight) -> usize
+    requires { ⌜ periods ≤ mostPeriods ⌝ }
+    ensures { λ r. ⌜ r ≡ min (latestOf periods f) (periods + 1) ⌝ }
+{
+    let latest = latest_of(periods, f);
+    if periods + 1 < latest {
+        return periods + 1;
+    }
+    latest
 }

@@ -1,0 +1,109 @@
+-- The rows of all forecasts, brought up to date one after another.
+-- Assumes nothing.
+use mathlib.Core.Path.{_≡_, ap, sym, subst, _∙_}
+use mathlib.Core.Logic.{inl, inr}
+use mathlib.Core.List.{List, _++_}
+use Prim.Native.Nat.{ℕ, _+_, _-_, _*_, _≤_, _<_}
+use native.Mathlib.Omega.{arith}
+use lib.ListN.{length, take, drop, length-drop}
+use lib.Seq.{length-take-le}
+use borrow.Rule.Slice.PartMut.{putMid, same-len-mid}
+use Rattle.assignment.specs.Rows.{el}
+use Rattle.assignment.proofs.Tests.{eq?}
+use Rattle.day.specs.Day.{mostPeriods, mostFlights, periodRow}
+use Rattle.forecast_plan.specs.Forecast.{forecastAt, waiting}
+use Rattle.forecast_plan.specs.Loop.{Known, Turn, waitsOf, Turns}
+use Rattle.forecast_plan.proofs.Parts.{part-in, part-size, part-at, put-here, put-others}
+use Rattle.forecast_plan.proofs.Turns.{waiting-same}
+use Rattle.forecast_plan.proofs.Holds.{forecast-length}
+
+-- those of the first s forecasts are known to the end, the others before `from`
+pub record Refreshed (p n : ℕ) (rows heldTo waits : List ℕ) (from s : ℕ) : Type 0 where
+  pub some : 1 ≤ p
+  pub periods : p ≤ mostPeriods
+  pub forecasts : n ≤ 8
+  pub whole : length rows ≡ n * p
+  pub places : length heldTo ≡ periodRow
+  pub sizes : length waits ≡ 8 * periodRow
+  pub few : (k : ℕ) → el heldTo k ≤ mostFlights
+  pub upto : s ≤ n
+  pub done : (t : ℕ) → t < s → Known (el heldTo) (forecastAt p rows t) (waitsOf waits t) (p + 1)
+  pub others : (t : ℕ) → s ≤ t → t < n → Known (el heldTo) (forecastAt p rows t) (waitsOf waits t) from
+
+-- a row that has the same entries knows as much
+known-same : {heldTo : ℕ → ℕ} {capacities : List ℕ} {waits other : ℕ → ℕ} {from : ℕ} → length capacities < periodRow
+    → ((k : ℕ) → k < periodRow → other k ≡ waits k) → Known heldTo capacities waits from → Known heldTo capacities other from
+known-same short same known = record { each = λ k some b in-day. same k (omega arith) ∙ known .each k some b in-day }
+
+module _ {p n : ℕ} {rows heldTo waits : List ℕ} {from : ℕ} where
+  pub refreshed-none : Turns p n rows heldTo waits from → 1 ≤ p → Refreshed p n rows heldTo waits from 0
+  refreshed-none t some = record {
+    some = some;
+    periods = t .periods;
+    forecasts = t .forecasts;
+    whole = t .whole;
+    places = t .places;
+    sizes = t .sizes;
+    few = t .few;
+    upto = omega arith;
+    done = λ s b. absurd (omega arith);
+    others = λ s b l. t .known s l;
+  }
+
+  module _ {s : ℕ} (r : Refreshed p n rows heldTo waits from s) where
+    pub refreshed-all : n ≤ s → Turns p n rows heldTo waits (p + 1)
+    refreshed-all l = record {
+      periods = r .periods;
+      forecasts = r .forecasts;
+      whole = r .whole;
+      places = r .places;
+      sizes = r .sizes;
+      few = r .few;
+      known = λ t b. r .done t (omega arith);
+    }
+
+    module _ (l : s < n) where
+      pub refreshed-rows : s * p + p ≤ length rows
+      refreshed-rows = part-in p n rows (r .whole) s l
+
+      pub refreshed-part : s * 98 + 98 ≤ length waits
+      refreshed-part = omega (arith, r .sizes, r .forecasts)
+
+      module _ {capacities : List ℕ} (is : capacities ≡ forecastAt p rows s) where
+        days : length capacities ≡ p
+        days = ap length is ∙ forecast-length p n rows (r .whole) s l
+
+        -- a forecast's turn
+        pub refreshed-turn : Turn heldTo capacities (take (s * 98 + 98 - s * 98) (drop (s * 98) waits)) from × (1 ≤ p) × (p ≤ length capacities)
+        refreshed-turn = rw (part-size s) (
+          record {
+            periods = omega (arith, days, r .periods);
+            places = r .places;
+            sizes = length-take-le 98 (drop (s * 98) waits) (rw length-drop (omega (arith, refreshed-part)));
+            few = r .few;
+            known = known-same (omega (arith, days, r .periods)) (λ k b. part-at (s * 98) 98 waits k b) (rw is (r .others s (omega arith) l));
+          },
+          r .some,
+          omega (arith, days),
+        )
+
+        pub refreshed-next : {part : List ℕ} → Turn heldTo capacities part (p + 1)
+            → Refreshed p n rows heldTo (putMid (s * 98) (s * 98 + 98 - s * 98) waits part) from (s + 1)
+        refreshed-next {part} t = rw (part-size s) (record {
+          some = r .some;
+          periods = r .periods;
+          forecasts = r .forecasts;
+          whole = r .whole;
+          places = r .places;
+          sizes = same-len-mid (s * 98) 98 waits part (t .sizes ∙ sym (length-take-le 98 (drop (s * 98) waits) (rw length-drop (omega (arith, refreshed-part))))) ∙ r .sizes;
+          few = r .few;
+          upto = omega arith;
+          done = λ o b. elim (eq? o s) [
+            | inl e ↦ rw e (known-same (short s l) (λ k c. put-here (s * 98) 98 waits part refreshed-part (t .sizes) k c) (rw (sym is) (t .known)))
+            | inr other ↦ known-same (short o (omega arith)) (λ k c. put-others 98 s o waits part refreshed-part (t .sizes) other k c) (r .done o (omega arith))
+          ];
+          others = λ o b c. known-same (short o c) (λ k e. put-others 98 s o waits part refreshed-part (t .sizes) (λ y. omega arith) k e) (r .others o (omega arith) c);
+        })
+          where
+            short : (o : ℕ) → o < n → length (forecastAt p rows o) < periodRow
+            short o b = omega (arith, r .periods, forecast-length p n rows (r .whole) o b)
