@@ -67,16 +67,21 @@ module _ {capacities waits : List ℕ} {weight due : ℕ} {air₀ air : List ℕ
 
 -- ---- all forecasts
 
+module _ {p : ℕ} {weights rows waits : List ℕ} {due : ℕ} {air : List ℕ} {s : ℕ} (w : Weighed p weights rows waits due air s) where
+  -- the periods in the air under s forecasts are at most 96 for each thousandth
+  pub weighed-low : (q : ℕ) → due ≤ q → q ≤ p + 1 → el air q ≤ s * 96000
+  weighed-low q from to =
+      omega (arith, w .sums q from to, sum-most s 96000 (λ t. el weights t * (firstRoom (waitsOf waits t) (forecastAt p rows t) q - q)) (λ t b.
+        let days = forecast-length p (length weights) rows (w .whole) t (omega (arith, w .upto)) in
+        omega (arith, mul-le-mul {n₁ = el weights t} {m₁ = firstRoom (waitsOf waits t) (forecastAt p rows t) q - q} {n₂ = 1000} {m₂ = 96} (w .odds t) (omega (arith, days, w .from, w .periods, room-to (waitsOf waits t) (forecastAt p rows t) q (omega (arith, days)))))))
+
+  pub weighed-all : length weights ≤ s → Weighed p weights rows waits due air (length weights)
+  weighed-all l = subst (λ n. Weighed p weights rows waits due air n) (omega (arith, w .upto)) w
+
+-- the next forecast
 module _ {p : ℕ} {weights rows waits : List ℕ} {due : ℕ} {air : List ℕ} {s : ℕ} (w : Weighed p weights rows waits due air s) (l : s < length weights) where
   pub weighed-rows : s * p + p ≤ length rows
   weighed-rows = part-in p (length weights) rows (w .whole) s l
-
-  -- the periods in the air under s forecasts are at most 96 for each thousandth
-  airborne-most : (q : ℕ) → due ≤ q → q ≤ p + 1 → airborne p weights rows waits s q ≤ s * 96000
-  airborne-most q from to =
-      sum-most s 96000 _ (λ t b.
-        let days = forecast-length p (length weights) rows (w .whole) t (omega arith) in
-        omega (arith, mul-le-mul {n₁ = el weights t} {m₁ = firstRoom (waitsOf waits t) (forecastAt p rows t) q - q} {n₂ = 1000} {m₂ = 96} (w .odds t) (omega (arith, days, w .from, w .periods, room-to (waitsOf waits t) (forecastAt p rows t) q (omega (arith, days))))))
 
   module _ {capacities : List ℕ} (is : capacities ≡ forecastAt p rows s) {v : ℕ} (odds : v ≡ el weights s) where
     days : length capacities ≡ p
@@ -92,7 +97,7 @@ module _ {p : ℕ} {weights rows waits : List ℕ} {due : ℕ} {air : List ℕ} 
       waited = part-length;
       sizes = w .sizes;
       odds = omega (arith, odds, w .odds s);
-      low = λ q from to. omega (arith, days, w .sums q from (omega (arith, days)), airborne-most q from (omega (arith, days)), w .forecasts);
+      low = λ q from to. omega (arith, weighed-low w q from (omega (arith, days)), w .forecasts);
       from = w .from;
       downto = omega (arith, days, w .to);
       upto = omega arith;
@@ -121,7 +126,3 @@ module _ {p : ℕ} {weights rows waits : List ℕ} {due : ℕ} {air : List ℕ} 
         next q from to =
             let same = room-same (el (take 98 (drop (s * 98) waits))) (waitsOf waits s) (forecastAt p rows s) q (λ k f t. part-at (s * 98) 98 waits k (omega (arith, sym (ap length is) ∙ days, w .periods))) in
             rw (part-size s, odds, is, same, w .sums q from to, add-one)
-
-pub weighed-all : {p : ℕ} {weights rows waits : List ℕ} {due : ℕ} {air : List ℕ} {s : ℕ} → Weighed p weights rows waits due air s
-    → length weights ≤ s → Weighed p weights rows waits due air (length weights)
-weighed-all {p} {weights} {rows} {waits} {due} {air} w l = subst (λ n. Weighed p weights rows waits due air n) (omega (arith, w .upto)) w

@@ -9,3 +9,5 @@ pub mod Choosing
 pub mod Air
 pub mod Parts
 pub mod Refreshing
+pub mod Holding
+pub mod Placing

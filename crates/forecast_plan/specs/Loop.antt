@@ -3,6 +3,7 @@
 use mathlib.Core.Path.{_≡_}
 use mathlib.Core.List.{List}
 use Prim.Native.Nat.{ℕ, _+_, _-_, _*_, _≤_, _<_, min}
+use denote.Ref.{RefT, now}
 use lib.ListN.{length, getD}
 use Rattle.assignment.specs.Sum.{sum}
 use Rattle.assignment.specs.Rows.{el}
@@ -10,8 +11,11 @@ use Rattle.day.specs.Day.{Day, P, N, mostPeriods, mostFlights, periodRow, lates
 use Rattle.day.specs.Valid.{Valid}
 use Rattle.day.specs.declared.Flight.{Flight}
 use Rattle.forecast_plan.specs.declared.Chosen.{Chosen}
-use Rattle.forecast_plan.specs.declared.Terms.{Terms}
-use Rattle.forecast_plan.specs.Forecast.{Forecasts, weight, forecastAt, held, waiting, firstRoom, expected, leastHold, forecastHolds}
+use Rattle.forecast_plan.specs.Forecast.{Forecasts, forecasts, weight, forecastAt, held, waiting, firstRoom, expected, leastHold, forecastHolds}
+
+-- forecasts as many as there are weights
+abbrev pub odds : ℕ → (weights rows : RefT (List ℕ)) → Forecasts
+odds factor weights rows = forecasts (length (now weights)) factor weights rows
 
 -- a day and forecasts that no refusal stops, but for jumps and the forecasts' capacities, which the program need not know of
 pub record Fit (d : Day) (f : Forecasts) : Type 0 where
@@ -95,3 +99,26 @@ pub record Low (f : Flight) (airFactor last : ℕ) (air : List ℕ) : Type 0 whe
 pub record Chooses (n : ℕ) (cost : ℕ → ℕ) (c : Chosen) : Type 0 where
   pub hold-is : c .hold ≡ leastHold n cost
   pub cost-is : c .cost ≡ cost (c .hold)
+
+-- what a flight's hold asks for, on a day of p periods
+pub record Ready (f : Flight) (factor p : ℕ) (weights rows waits : List ℕ) : Type 0 where
+  pub periods : p ≤ mostPeriods
+  pub forecasts : length weights ≤ 8
+  pub whole : length rows ≡ length weights * p
+  pub waited : length waits ≡ 8 * periodRow
+  pub odds : (s : ℕ) → el weights s ≤ 1000
+  pub factor-to : factor ≤ 10
+  pub rate-to : f .rate ≤ 10000
+  pub due-from : 1 ≤ f .due
+  pub due-to : f .due ≤ p
+  pub reach : f .due ≤ latestOf p f
+
+-- the flights above table place i have the plan's holds, and are counted and summed
+pub record Placed (d : Day) (f : Forecasts) (holds heldTo waits : List ℕ) (from total i : ℕ) : Type 0 where
+  pub fit : Fit d f
+  pub each : length holds ≡ N d
+  pub upto : i ≤ N d
+  pub turns : Turns (P d) (f .count) (f .rows) heldTo waits from
+  pub counted : (k : ℕ) → k < periodRow → el heldTo k ≡ held d (forecastHolds d f) i k
+  pub filled : (j : ℕ) → j < i → hold holds j ≡ hold (forecastHolds d f) j
+  pub summed : total ≡ sum i (λ j. expected d f (forecastHolds d f) j (hold (forecastHolds d f) j))

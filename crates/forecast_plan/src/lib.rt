@@ -2,6 +2,7 @@
 // capacities of the day are known by forecasts with odds only.
 use day::Flight;
 use day::PERIOD_ROW;
+use day::flight_at;
 use day::latest_of;
 use day::wide;
 ghost use mathlib.Core.Path.{_≡_};
@@ -10,21 +11,17 @@ ghost use Prim.Native.Nat.{_+_, _-_, _*_, _≤_, _<_, min};
 ghost use lib.ListN.{length, getD};
 ghost use lib.Dec.{ltb};
 ghost use Rattle.assignment.specs.Rows.{el};
-ghost use Rattle.day.specs.Day.{mostPeriods, periodRow, latestOf};
-ghost use Rattle.forecast_plan.specs.Forecast.{forecastAt, leftOver, waiting, firstRoom};
-ghost use Rattle.forecast_plan.specs.Loop.{Turn, Turns, Adding, Weighed, weighed, Low, Chooses};
+ghost use Rattle.day.specs.Day.{lent, N, mostPeriods, periodRow, latestOf};
+ghost use Rattle.forecast_plan.specs.Forecast.{forecastAt, leftOver, waiting, firstRoom, forecastHolds, expectedTotal};
+ghost use Rattle.forecast_plan.specs.Loop.{Turn, Turns, Adding, airborne, Weighed, weighed, Low, Chooses, Ready, odds, Fit, Placed};
 
-// The most forecasts.
+// The most forecasts, and a row that has a part for each.
 const FORECASTS: usize = 8;
+
+const WAITS: usize = FORECASTS * PERIOD_ROW;
 
 // What their weights add up to.
 const ALL_WEIGHTS: usize = 1000;
-
-// The number of periods, and what a period in the air costs, in rates.
-struct Terms {
-    periods: usize,
-    factor: usize,
-}
 
 // A hold, and what it is expected to cost in thousandths.
 struct Chosen {
@@ -87,17 +84,16 @@ fn forecast_at(forecasts: &[u32], periods: usize, s: usize) -> &[u32]
 
 // Brings the rows of all forecasts up to date where flights were held to period `from` and none to an earlier one since.
 fn refresh(
-    terms: Terms,
+    periods: usize,
     count: usize,
     forecasts: &[u32],
     held: &[usize],
     waits: &mut [usize],
     from: usize,
 )
-    requires { ⌜ Turns (terms .periods) count (now forecasts) (now held) (now waits) from × (1 ≤ terms .periods) ⌝ }
-    ensures { λ _. ⌜ Turns (terms .periods) count (now (forecasts .entry)) (now (held .entry)) (now (waits .exit)) (terms .periods + 1) ⌝ }
+    requires { ⌜ Turns periods count (now forecasts) (now held) (now waits) from × (1 ≤ periods) ⌝ }
+    ensures { λ _. ⌜ Turns periods count (now (forecasts .entry)) (now (held .entry)) (now (waits .exit)) (periods + 1) ⌝ }
 {
-    let periods = terms.periods;
     let mut s = 0;
     while s < count {
         let forecast = forecast_at(forecasts, periods, s);
@@ -218,4 +214,76 @@ fn last_of(periods: usize, f: Flight) -> usize
         return periods + 1;
     }
     latest
+}
+
+// A flight's hold, from who waits under each forecast.
+fn hold_of(
+    f: Flight,
+    factor: usize,
+    periods: usize,
+    weights: &[u32],
+    forecasts: &[u32],
+    waits: &[usize],
+) -> Chosen
+    requires { ⌜ Ready f factor periods (now weights) (now forecasts) (now waits) ⌝ }
+    ensures { λ r. ⌜ Chooses (min (latestOf periods f) (periods + 1) - f .due) (weighed f factor (airborne periods (now (weights .entry)) (now (forecasts .entry)) (now (waits .entry)) (length (now (weights .entry))))) r ⌝ }
+{
+    let due = wide(f.due);
+    let mut air = [0; PERIOD_ROW];
+    weigh_air(periods, weights, forecasts, waits, due, &mut air);
+    least_hold(f, factor, &air, last_of(periods, f))
+}
+
+// Holds the flights one after another and sums what they are expected to cost, with rows in which those held to each period are counted
+// and those who wait there are kept. A flight held to a period changes nothing before it.
+fn hold_all(
+    capacities: &[u32],
+    flights: &[u32],
+    factor: usize,
+    weights: &[u32],
+    forecasts: &[u32],
+    holds: &mut [u32],
+    held: &mut [usize],
+    waits: &mut [usize],
+) -> usize
+    requires { ⌜ Placed (lent capacities flights) (odds factor weights forecasts) (now holds) (now held) (now waits) (length (now capacities) + 1) 0 0 ⌝ }
+    ensures { λ r. ⌜ r ≡ expectedTotal (lent (capacities .entry) (flights .entry)) (odds factor (weights .entry) (forecasts .entry)) (forecastHolds (lent (capacities .entry) (flights .entry)) (odds factor (weights .entry) (forecasts .entry))) ⌝ }
+    ensures { λ _. ⌜ now (holds .exit) ≡ forecastHolds (lent (capacities .entry) (flights .entry)) (odds factor (weights .entry) (forecasts .entry)) ⌝ }
+{
+    let periods = capacities.len();
+    let mut from = periods + 1;
+    let mut total = 0;
+    let mut i = 0;
+    while i < holds.len() {
+        refresh(periods, weights.len(), forecasts, held, waits, from);
+        let f = flight_at(flights, i);
+        let chosen = hold_of(f, factor, periods, weights, forecasts, waits);
+        let hold = chosen.hold;
+        from = wide(f.due) + hold;
+        held[from] = held[from] + 1;
+        holds[i] = hold as u32;
+        total += chosen.cost;
+        i += 1;
+    }
+    total
+}
+
+// The same, with rows of its own.
+fn hold_flights(
+    capacities: &[u32],
+    flights: &[u32],
+    factor: usize,
+    weights: &[u32],
+    forecasts: &[u32],
+    holds: &mut [u32],
+) -> usize
+    requires { ⌜ Fit (lent capacities flights) (odds factor weights forecasts) × (length (now holds) ≡ N (lent capacities flights)) ⌝ }
+    ensures { λ r. ⌜ r ≡ expectedTotal (lent (capacities .entry) (flights .entry)) (odds factor (weights .entry) (forecasts .entry)) (forecastHolds (lent (capacities .entry) (flights .entry)) (odds factor (weights .entry) (forecasts .entry))) ⌝ }
+    ensures { λ _. ⌜ now (holds .exit) ≡ forecastHolds (lent (capacities .entry) (flights .entry)) (odds factor (weights .entry) (forecasts .entry)) ⌝ }
+{
+    let mut held = [0; PERIOD_ROW];
+    let mut waits = [0; WAITS];
+    hold_all(
+        capacities, flights, factor, weights, forecasts, holds, &mut held, &mut waits,
+    )
 }

@@ -8,12 +8,13 @@ use Prim.Native.Nat.{ℕ, suc, _+_, _*_, _≤_, _<_}
 use native.Mathlib.Nat.{mul-le-mul}
 use native.Mathlib.Numerals.{add-one}
 use native.Mathlib.Omega.{arith}
-use lib.ListN.{length, getD, set, length-set, replicate, length-replicate, getD-replicate, List·getD-eq-default}
+use lib.ListN.{length, getD, set, length-set, replicate}
 use lib.Seq.{getD-set-same, getD-set-other}
 use lib.Dec.{ltb}
 use borrow.Author.Tests.{ltb-false, le-ltb, lt-leb, le-leb, eq-eqb, ne-eqb}
 use Rattle.assignment.specs.Sum.{gate, sum, count}
 use Rattle.assignment.proofs.Tests.{lt?, eq?, gate-eq, gate-ne}
+use Rattle.assignment.proofs.Rows.{blank-at}
 use Rattle.assignment.proofs.Sums.{count-suc, count-zero, count-le}
 use Rattle.day.specs.Day.{Day, day, P, N, periodRow, mostFlights, column, flightCount, flightAt, takes, latest, land, hold, holdCost, totalOf, total, valid, width}
 use Rattle.day.specs.Plan.{tooLong, overCapacity, breaks, firstBreak}
@@ -153,12 +154,6 @@ module _ {f h : List ℕ} {s i : ℕ} (m : Summed f h s i) where
   sum-end l = let e : i ≡ flightCount f = omega (arith, m .can .each, m .upto) in m .costs ∙ ap (λ n. sum n (λ j. holdCost (flightAt f j) (hold h j))) e
 
 -- ---- the starts
-
-blank-at : (m k : ℕ) → getD (replicate {A = ℕ} m 0) k 0 ≡ 0
-blank-at m k = elim (lt? k m) [
-  | inl l ↦ getD-replicate {A = ℕ} m k 0 0 l
-  | inr l ↦ List·getD-eq-default (replicate m 0) 0 (omega (arith, length-replicate {A = ℕ} m 0))
-]
 
 module _ {d : Day} {h : List ℕ} (good : valid d ≡ true) (each : length h ≡ N d) where
   pub walk-start : Walked d h (replicate periodRow 0) 0

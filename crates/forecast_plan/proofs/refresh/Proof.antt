@@ -13,10 +13,10 @@ use Rattle.forecast_plan.proofs.forecast_at.Reads as forecast-at-reads
 use Rattle.forecast_plan.proofs.waiting.Reads as waiting-reads
 
 abbrev Inv-loop : tie.InvT-loop
-Inv-loop count forecasts held waits₀ from periods s₀ waits s = Refreshed periods count forecasts held waits from s
+Inv-loop periods count forecasts held waits₀ from s₀ waits s = Refreshed periods count forecasts held waits from s
 
 abbrev μ-loop : tie.MeasureT-loop
-μ-loop count forecasts held waits₀ from periods s₀ waits s = count - s
+μ-loop periods count forecasts held waits₀ from s₀ waits s = count - s
 
 -- src/lib.rt:102:5
 loop-holds : tie.Need-loop-holds Inv-loop μ-loop
