@@ -10,8 +10,13 @@ use lib.Dec.{lit<}
 use lib.Seq.{getD-drop, getD-take, sets-eq, getD-append-add, length-take-le, take-suc}
 use Rattle.assignment.specs.Rows.{row as entries}
 use Rattle.day.specs.declared.Flight.{Flight}
-use Rattle.day.specs.Day.{width, column, flightAt}
+use Rattle.day.specs.Day.{width, column, flightAt, flightCount}
 use Rattle.day.specs.Flights.{firstFlights, numbersOf, rowOf, withFlight}
+
+-- the row has the numbers of every flight
+pub there : (row : List ℕ) (i : ℕ) → i < flightCount row → (i + 1) * width ≤ length row
+unfolding flightCount
+there row i l = omega arith
 
 -- a flight that was read has the due period of its column
 pub due-read : (f : Flight) (row : List ℕ) (i : ℕ) → f ≡ flightAt row i → f .due ≡ column 1 row i

@@ -194,7 +194,8 @@ fn both(a: bool, b: bool) -> bool
     a && b
 }
 
-fn is_inside(low: usize, high: usize, x: usize) -> bool
+// A number from low to high.
+pub fn is_inside(low: usize, high: usize, x: usize) -> bool
     ensures { λ r. ⌜ r ≡ inside low high x ⌝ }
 {
     low <= x && x <= high

@@ -11,3 +11,4 @@ pub mod Parts
 pub mod Refreshing
 pub mod Holding
 pub mod Placing
+pub mod Tests

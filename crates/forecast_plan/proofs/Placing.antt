@@ -4,7 +4,6 @@ use mathlib.Core.Path.{_≡_, refl, ap, sym, subst, _∙_}
 use mathlib.Core.Logic.{inl, inr}
 use mathlib.Core.List.{List}
 use Prim.Native.Nat.{ℕ, zero, suc, _+_, _-_, _*_, _≤_, _<_, min}
-use native.Mathlib.Nat.{mul-le-mul-right}
 use native.Mathlib.Numerals.{add-one}
 use native.Mathlib.Omega.{arith}
 use lib.ListN.{length, getD, set, replicate, length-set, length-replicate, List·getD-eq-default}
@@ -18,6 +17,7 @@ use Rattle.assignment.proofs.Tests.{eq?, lt?, gate-eq, gate-ne}
 use Rattle.day.specs.Day.{Day, P, N, width, mostFlights, periodRow, due, rate, flightAt, latestOf, last, hold, land}
 use Rattle.day.specs.declared.Flight.{Flight}
 use Rattle.day.proofs.Costs.{due-latest}
+use Rattle.day.proofs.Flights.{there, due-read}
 use Rattle.forecast_plan.specs.declared.Chosen.{Chosen}
 use Rattle.forecast_plan.specs.Forecast.{Forecasts, weight, forecast, held, waiting, firstRoom, lands, expected, leastHold, longest, forecastHolds, expectedTotal}
 use Rattle.forecast_plan.specs.Loop.{Known, Turns, waitsOf, airborne, weighed, Chooses, Ready, Fit, Placed}
@@ -35,7 +35,7 @@ weight-to {d} {f} fit s = elim (lt? s (f .count)) [
   | inr l ↦ omega (arith, List·getD-eq-default (f .weights) 0 {n = s} (omega (arith, fit .weights-are)))
 ]
 
--- a row for periods has at most as many as there are flights in an entry, if it counts flights
+-- a row for periods has at most as many as in-table are flights in an entry, if it counts flights
 few-held : (heldTo : List ℕ) (n : ℕ) (x : ℕ → ℕ) → length heldTo ≡ periodRow → n ≤ mostFlights
     → ((k : ℕ) → k < periodRow → el heldTo k ≡ count n x k) → (k : ℕ) → el heldTo k ≤ mostFlights
 few-held heldTo n x size most counted k = elim (lt? k periodRow) [
@@ -44,11 +44,11 @@ few-held heldTo n x size most counted k = elim (lt? k periodRow) [
 ]
 
 module _ {d : Day} {f : Forecasts} {holds heldTo waits : List ℕ} {from total i : ℕ} (p : Placed d f holds heldTo waits from total i) (l : i < length holds) where
-  there : i < N d
-  there = omega (arith, p .each)
+  in-table : i < N d
+  in-table = omega (arith, p .each)
 
   pub placed-flight : (i + 1) * width ≤ length (d .flights)
-  placed-flight = omega (arith, p .fit .good .whole, mul-le-mul-right {m = i + 1} {n = N d} width (omega (arith, there)))
+  placed-flight = there (d .flights) i in-table
 
   -- with the rows brought up to date
   module _ {waits₂ : List ℕ} (t : Turns (P d) (f .count) (f .rows) heldTo waits₂ (P d + 1)) {x : Flight} (x-is : x ≡ flightAt (d .flights) i) where
@@ -61,10 +61,10 @@ module _ {d : Day} {f : Forecasts} {holds heldTo waits : List ℕ} {from total i
       waited = t .sizes;
       odds = weight-to (p .fit);
       factor-to = p .fit .factor-to;
-      rate-to = p .fit .good .flight i there .rate-to;
-      due-from = p .fit .good .flight i there .due-from;
-      due-to = p .fit .good .flight i there .due-to;
-      reach = due-latest d i (p .fit .good .flight i there .due-to);
+      rate-to = p .fit .good .flight i in-table .rate-to;
+      due-from = p .fit .good .flight i in-table .due-from;
+      due-to = p .fit .good .flight i in-table .due-to;
+      reach = due-latest d i (p .fit .good .flight i in-table .due-to);
     })
 
     -- a flight held to a period lands where the definition says
@@ -73,7 +73,7 @@ module _ {d : Day} {f : Forecasts} {holds heldTo waits : List ℕ} {from total i
     same-lands s q b from =
         let days = forecast-length (P d) (f .count) (f .rows) (p .fit .rows-are) s b in
         sym (room-same (waitsOf waits₂ s) (waiting (held d (forecastHolds d f) i) (forecast d f s)) (forecast d f s) q (λ k after to.
-          let some : 1 ≤ k = omega (arith, p .fit .good .flight i there .due-from) in
+          let some : 1 ≤ k = omega (arith, p .fit .good .flight i in-table .due-from) in
           t .known s b .each k some (omega (arith, days)) to
           ∙ waiting-same (el heldTo) (held d (forecastHolds d f) i) (forecast d f s) (P d + 1) (λ o one c. p .counted o (omega (arith, p .fit .good .periods-to))) k some (omega (arith, days))))
 
@@ -93,7 +93,7 @@ module _ {d : Day} {f : Forecasts} {holds heldTo waits : List ℕ} {from total i
       same-choice = chooses-same same-cost (rw x-is at chosen)
 
       pub placed-hold : c .hold ≡ hold (forecastHolds d f) i
-      placed-hold = same-choice .hold-is ∙ sym (each-hold d f (N d) i there)
+      placed-hold = same-choice .hold-is ∙ sym (each-hold d f (N d) i in-table)
 
       pub placed-cost : c .cost ≡ expected d f (forecastHolds d f) i (hold (forecastHolds d f) i)
       placed-cost = same-choice .cost-is ∙ ap (expected d f (forecastHolds d f) i) placed-hold
@@ -101,11 +101,19 @@ module _ {d : Day} {f : Forecasts} {holds heldTo waits : List ℕ} {from total i
       placed-short : c .hold ≤ longest d i
       placed-short = rw (same-choice .hold-is) (is-least (expected d f (forecastHolds d f) i) (longest d i) .within)
 
-      pub placed-to : due d i + c .hold ≤ P d + 1
-      placed-to = hold-window d i (p .fit .good .flight i there) placed-short .closing
+      placed-to : due d i + c .hold ≤ P d + 1
+      placed-to = hold-window d i (p .fit .good .flight i in-table) placed-short .closing
+
+      -- the period that it is held to, as the program reads it
+      module _ {w : ℕ} (w-is : w ≡ x .due) where
+        pub placed-lands : w + c .hold ≡ due d i + c .hold
+        placed-lands = ap (λ z. z + c .hold) (w-is ∙ due-read x (d .flights) i x-is)
+
+        pub placed-due : w + c .hold < periodRow
+        placed-due = omega (arith, placed-lands, placed-to, p .fit .good .periods-to)
 
       pub placed-cost-most : c .cost ≤ 9600000000
-      placed-cost-most = rw (same-choice .cost-is) (expected-most (p .fit) (forecastHolds d f) i there (c .hold) placed-short)
+      placed-cost-most = rw (same-choice .cost-is) (expected-most (p .fit) (forecastHolds d f) i in-table (c .hold) placed-short)
 
       -- the flight takes its place
       module _ {q : ℕ} (q-is : q ≡ due d i + c .hold) where
@@ -130,7 +138,7 @@ module _ {d : Day} {f : Forecasts} {holds heldTo waits : List ℕ} {from total i
           whole = t .whole;
           places = length-set heldTo q (el heldTo q + 1) ∙ t .places;
           sizes = t .sizes;
-          few = few-held (set heldTo q (el heldTo q + 1)) (i + 1) (land d (forecastHolds d f)) (length-set heldTo q (el heldTo q + 1) ∙ t .places) (omega (arith, there, p .fit .good .flights-to)) next-counted;
+          few = few-held (set heldTo q (el heldTo q + 1)) (i + 1) (land d (forecastHolds d f)) (length-set heldTo q (el heldTo q + 1) ∙ t .places) (omega (arith, in-table, p .fit .good .flights-to)) next-counted;
           known = λ s b. record { each = λ k some before in-day.
             t .known s b .each k some (omega (arith, q-is, placed-to)) in-day
             ∙ waiting-same (el heldTo) (el (set heldTo q (el heldTo q + 1))) (forecast d f s) q (λ o one c. sym (m .others o (λ z. omega arith))) k some before };
@@ -141,7 +149,7 @@ module _ {d : Day} {f : Forecasts} {holds heldTo waits : List ℕ} {from total i
         placed-next = record {
           fit = p .fit;
           each = length-set holds i (c .hold) ∙ p .each;
-          upto = omega (arith, there);
+          upto = omega (arith, in-table);
           turns = next-turns;
           counted = next-counted;
           filled = λ j b. elim (eq? j i) [
@@ -158,7 +166,7 @@ module _ {d : Day} {f : Forecasts} {holds heldTo waits : List ℕ} {from total i
   pub placed-total : total ≤ i * 9600000000
   placed-total =
       rw (p .summed) (sum-most i 9600000000 _ (λ j b.
-        let to : j < N d = omega (arith, there) in
+        let to : j < N d = omega (arith, in-table) in
         expected-most (p .fit) (forecastHolds d f) j to _ (each-least d f j to .within)))
 
 -- ---- the first and the last

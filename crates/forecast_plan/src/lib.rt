@@ -1,18 +1,24 @@
 // The forecast plan: flights get their holds one after another, each the hold of least expected cost given those before it, where the
 // capacities of the day are known by forecasts with odds only.
+use answers::Answer;
 use day::Flight;
 use day::PERIOD_ROW;
+use day::capacities_fit;
 use day::flight_at;
+use day::flight_count;
+use day::is_inside;
+use day::is_valid;
 use day::latest_of;
 use day::wide;
 ghost use mathlib.Core.Path.{_≡_};
-ghost use mathlib.Core.Bool.{cond};
+ghost use mathlib.Core.Bool.{true, cond};
 ghost use Prim.Native.Nat.{_+_, _-_, _*_, _≤_, _<_, min};
 ghost use lib.ListN.{length, getD};
 ghost use lib.Dec.{ltb};
 ghost use Rattle.assignment.specs.Rows.{el};
-ghost use Rattle.day.specs.Day.{lent, N, mostPeriods, periodRow, latestOf};
-ghost use Rattle.forecast_plan.specs.Forecast.{forecastAt, leftOver, waiting, firstRoom, forecastHolds, expectedTotal};
+ghost use Rattle.day.specs.Day.{lent, N, valid, mostPeriods, periodRow, latestOf};
+ghost use Rattle.forecast_plan.specs.Forecast.{forecasts, forecastAt, leftOver, waiting, firstRoom, forecastHolds, expectedTotal};
+ghost use Rattle.forecast_plan.specs.Calls.{noJumps, termsFit, allWeights, forecastsFit, rowsPlan, forecastPlan};
 ghost use Rattle.forecast_plan.specs.Loop.{Turn, Turns, Adding, airborne, Weighed, weighed, Low, Chooses, Ready, odds, Fit, Placed};
 
 // The most forecasts, and a row that has a part for each.
@@ -74,29 +80,29 @@ fn left_over(
 }
 
 // The capacities of forecast s.
-fn forecast_at(forecasts: &[u32], periods: usize, s: usize) -> &[u32]
-    requires { ⌜ s * periods + periods ≤ length (now forecasts) ⌝ }
-    ensures { λ r. ⌜ now r ≡ forecastAt periods (now (forecasts .entry)) s ⌝ }
+fn forecast_at(rows: &[u32], periods: usize, s: usize) -> &[u32]
+    requires { ⌜ s * periods + periods ≤ length (now rows) ⌝ }
+    ensures { λ r. ⌜ now r ≡ forecastAt periods (now (rows .entry)) s ⌝ }
 {
     let first = s * periods;
-    &forecasts[first..first + periods]
+    &rows[first..first + periods]
 }
 
 // Brings the rows of all forecasts up to date where flights were held to period `from` and none to an earlier one since.
 fn refresh(
     periods: usize,
     count: usize,
-    forecasts: &[u32],
+    rows: &[u32],
     held: &[usize],
     waits: &mut [usize],
     from: usize,
 )
-    requires { ⌜ Turns periods count (now forecasts) (now held) (now waits) from × (1 ≤ periods) ⌝ }
-    ensures { λ _. ⌜ Turns periods count (now (forecasts .entry)) (now (held .entry)) (now (waits .exit)) (periods + 1) ⌝ }
+    requires { ⌜ Turns periods count (now rows) (now held) (now waits) from × (1 ≤ periods) ⌝ }
+    ensures { λ _. ⌜ Turns periods count (now (rows .entry)) (now (held .entry)) (now (waits .exit)) (periods + 1) ⌝ }
 {
     let mut s = 0;
     while s < count {
-        let forecast = forecast_at(forecasts, periods, s);
+        let forecast = forecast_at(rows, periods, s);
         let place = s * PERIOD_ROW;
         waiting(
             held,
@@ -139,17 +145,17 @@ fn add_air(forecast: &[u32], waits: &[usize], weight: usize, due: usize, air: &m
 fn weigh_air(
     periods: usize,
     weights: &[u32],
-    forecasts: &[u32],
+    rows: &[u32],
     waits: &[usize],
     due: usize,
     air: &mut [usize],
 )
-    requires { ⌜ Weighed periods (now weights) (now forecasts) (now waits) due (now air) 0 ⌝ }
-    ensures { λ _. ⌜ Weighed periods (now (weights .entry)) (now (forecasts .entry)) (now (waits .entry)) due (now (air .exit)) (length (now (weights .entry))) ⌝ }
+    requires { ⌜ Weighed periods (now weights) (now rows) (now waits) due (now air) 0 ⌝ }
+    ensures { λ _. ⌜ Weighed periods (now (weights .entry)) (now (rows .entry)) (now (waits .entry)) due (now (air .exit)) (length (now (weights .entry))) ⌝ }
 {
     let mut s = 0;
     while s < weights.len() {
-        let forecast = forecast_at(forecasts, periods, s);
+        let forecast = forecast_at(rows, periods, s);
         let place = s * PERIOD_ROW;
         add_air(
             forecast,
@@ -222,15 +228,15 @@ fn hold_of(
     factor: usize,
     periods: usize,
     weights: &[u32],
-    forecasts: &[u32],
+    rows: &[u32],
     waits: &[usize],
 ) -> Chosen
-    requires { ⌜ Ready f factor periods (now weights) (now forecasts) (now waits) ⌝ }
-    ensures { λ r. ⌜ Chooses (min (latestOf periods f) (periods + 1) - f .due) (weighed f factor (airborne periods (now (weights .entry)) (now (forecasts .entry)) (now (waits .entry)) (length (now (weights .entry))))) r ⌝ }
+    requires { ⌜ Ready f factor periods (now weights) (now rows) (now waits) ⌝ }
+    ensures { λ r. ⌜ Chooses (min (latestOf periods f) (periods + 1) - f .due) (weighed f factor (airborne periods (now (weights .entry)) (now (rows .entry)) (now (waits .entry)) (length (now (weights .entry))))) r ⌝ }
 {
     let due = wide(f.due);
     let mut air = [0; PERIOD_ROW];
-    weigh_air(periods, weights, forecasts, waits, due, &mut air);
+    weigh_air(periods, weights, rows, waits, due, &mut air);
     least_hold(f, factor, &air, last_of(periods, f))
 }
 
@@ -241,23 +247,23 @@ fn hold_all(
     flights: &[u32],
     factor: usize,
     weights: &[u32],
-    forecasts: &[u32],
+    rows: &[u32],
     holds: &mut [u32],
     held: &mut [usize],
     waits: &mut [usize],
 ) -> usize
-    requires { ⌜ Placed (lent capacities flights) (odds factor weights forecasts) (now holds) (now held) (now waits) (length (now capacities) + 1) 0 0 ⌝ }
-    ensures { λ r. ⌜ r ≡ expectedTotal (lent (capacities .entry) (flights .entry)) (odds factor (weights .entry) (forecasts .entry)) (forecastHolds (lent (capacities .entry) (flights .entry)) (odds factor (weights .entry) (forecasts .entry))) ⌝ }
-    ensures { λ _. ⌜ now (holds .exit) ≡ forecastHolds (lent (capacities .entry) (flights .entry)) (odds factor (weights .entry) (forecasts .entry)) ⌝ }
+    requires { ⌜ Placed (lent capacities flights) (odds factor weights rows) (now holds) (now held) (now waits) (length (now capacities) + 1) 0 0 ⌝ }
+    ensures { λ r. ⌜ r ≡ expectedTotal (lent (capacities .entry) (flights .entry)) (odds factor (weights .entry) (rows .entry)) (forecastHolds (lent (capacities .entry) (flights .entry)) (odds factor (weights .entry) (rows .entry))) ⌝ }
+    ensures { λ _. ⌜ now (holds .exit) ≡ forecastHolds (lent (capacities .entry) (flights .entry)) (odds factor (weights .entry) (rows .entry)) ⌝ }
 {
     let periods = capacities.len();
     let mut from = periods + 1;
     let mut total = 0;
     let mut i = 0;
     while i < holds.len() {
-        refresh(periods, weights.len(), forecasts, held, waits, from);
+        refresh(periods, weights.len(), rows, held, waits, from);
         let f = flight_at(flights, i);
-        let chosen = hold_of(f, factor, periods, weights, forecasts, waits);
+        let chosen = hold_of(f, factor, periods, weights, rows, waits);
         let hold = chosen.hold;
         from = wide(f.due) + hold;
         held[from] = held[from] + 1;
@@ -274,16 +280,136 @@ fn hold_flights(
     flights: &[u32],
     factor: usize,
     weights: &[u32],
-    forecasts: &[u32],
+    rows: &[u32],
     holds: &mut [u32],
 ) -> usize
-    requires { ⌜ Fit (lent capacities flights) (odds factor weights forecasts) × (length (now holds) ≡ N (lent capacities flights)) ⌝ }
-    ensures { λ r. ⌜ r ≡ expectedTotal (lent (capacities .entry) (flights .entry)) (odds factor (weights .entry) (forecasts .entry)) (forecastHolds (lent (capacities .entry) (flights .entry)) (odds factor (weights .entry) (forecasts .entry))) ⌝ }
-    ensures { λ _. ⌜ now (holds .exit) ≡ forecastHolds (lent (capacities .entry) (flights .entry)) (odds factor (weights .entry) (forecasts .entry)) ⌝ }
+    requires { ⌜ Fit (lent capacities flights) (odds factor weights rows) × (length (now holds) ≡ N (lent capacities flights)) ⌝ }
+    ensures { λ r. ⌜ r ≡ expectedTotal (lent (capacities .entry) (flights .entry)) (odds factor (weights .entry) (rows .entry)) (forecastHolds (lent (capacities .entry) (flights .entry)) (odds factor (weights .entry) (rows .entry))) ⌝ }
+    ensures { λ _. ⌜ now (holds .exit) ≡ forecastHolds (lent (capacities .entry) (flights .entry)) (odds factor (weights .entry) (rows .entry)) ⌝ }
 {
     let mut held = [0; PERIOD_ROW];
     let mut waits = [0; WAITS];
     hold_all(
-        capacities, flights, factor, weights, forecasts, holds, &mut held, &mut waits,
+        capacities, flights, factor, weights, rows, holds, &mut held, &mut waits,
+    )
+}
+
+// No flight has a jump.
+fn no_jumps(flights: &[u32]) -> bool
+    ensures { λ r. ⌜ r ≡ noJumps (now (flights .entry)) ⌝ }
+{
+    let n = flight_count(flights);
+    let mut i = 0;
+    while i < n {
+        if 0 < flight_at(flights, i).jump {
+            return false;
+        }
+        i += 1;
+    }
+    true
+}
+
+// Refusal 13 is given where this says no.
+fn terms_fit(flights: &[u32], count: usize, factor: usize) -> bool
+    ensures { λ r. ⌜ r ≡ termsFit (now (flights .entry)) count factor ⌝ }
+{
+    if !no_jumps(flights) {
+        return false;
+    }
+    if !is_inside(1, 10, factor) {
+        return false;
+    }
+    is_inside(1, FORECASTS, count)
+}
+
+// What the weights add up to. They are of 32 bits, and their sum may be more.
+fn weight_sum(weights: &[u32]) -> usize
+    requires { ⌜ length (now weights) ≤ 8 ⌝ }
+    ensures { λ r. ⌜ r ≡ allWeights (now (weights .entry)) ⌝ }
+{
+    let mut sum = 0;
+    let mut s = 0;
+    while s < weights.len() {
+        sum += wide(weights[s]);
+        s += 1;
+    }
+    sum
+}
+
+// Refusal 12 is given where this says no.
+fn forecasts_fit(weights: &[u32], rows: &[u32]) -> bool
+    requires { ⌜ length (now weights) ≤ 8 ⌝ }
+    ensures { λ r. ⌜ r ≡ forecastsFit (now (weights .entry)) (now (rows .entry)) ⌝ }
+{
+    if weight_sum(weights) != ALL_WEIGHTS {
+        return false;
+    }
+    capacities_fit(rows)
+}
+
+// The plan for a day and terms that fit, if its rows do: refusals 7 and 12.
+fn plan_rows(
+    capacities: &[u32],
+    flights: &[u32],
+    count: usize,
+    factor: usize,
+    weights: &[u32],
+    rows: &[u32],
+    holds: &mut [u32],
+) -> Answer
+    requires { ⌜ (valid (lent capacities flights) ≡ true) × (termsFit (now flights) count factor ≡ true) ⌝ }
+    ensures { λ r. ⌜ r ≡ rowsPlan (lent (capacities .entry) (flights .entry)) (forecasts count factor (weights .entry) (rows .entry)) (now (holds .entry)) .answer ⌝ }
+    ensures { λ _. ⌜ now (holds .exit) ≡ rowsPlan (lent (capacities .entry) (flights .entry)) (forecasts count factor (weights .entry) (rows .entry)) (now (holds .entry)) .holds ⌝ }
+{
+    let n = flight_count(flights);
+    if holds.len() != n {
+        return Answer::BadLength { needed: n };
+    }
+    if weights.len() != count {
+        return Answer::BadLength { needed: count };
+    }
+    let entries = count * capacities.len();
+    if rows.len() != entries {
+        return Answer::BadLength { needed: entries };
+    }
+    if !forecasts_fit(weights, rows) {
+        return Answer::BadForecasts;
+    }
+    Answer::Planned {
+        total: hold_flights(capacities, flights, factor, weights, rows, holds),
+    }
+}
+
+// Fills the hold row with the forecast plan and answers its expected total, in thousandths. Refusals, in this order: 6, a bad day; 13, a
+// jump, or a count or an air factor out of range; 7, a row of another length, the hold row first, then the weights, then the forecasts;
+// 12, weights that do not add up to 1,000, or a capacity out of range. They leave the row as it was.
+pub fn forecast_plan(
+    capacities: &[u32],
+    flights: &[u32],
+    count: u32,
+    factor: u32,
+    weights: &[u32],
+    rows: &[u32],
+    holds: &mut [u32],
+) -> Answer
+    ensures { λ r. ⌜ r ≡ forecastPlan (lent (capacities .entry) (flights .entry)) (forecasts count factor (weights .entry) (rows .entry)) (now (holds .entry)) .answer ⌝ }
+    ensures { λ _. ⌜ now (holds .exit) ≡ forecastPlan (lent (capacities .entry) (flights .entry)) (forecasts count factor (weights .entry) (rows .entry)) (now (holds .entry)) .holds ⌝ }
+{
+    if !is_valid(capacities, flights) {
+        return Answer::BadDay;
+    }
+    let forecast_count = wide(count);
+    let air_factor = wide(factor);
+    if !terms_fit(flights, forecast_count, air_factor) {
+        return Answer::BadTerms;
+    }
+    plan_rows(
+        capacities,
+        flights,
+        forecast_count,
+        air_factor,
+        weights,
+        rows,
+        holds,
     )
 }

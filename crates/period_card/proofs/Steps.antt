@@ -15,7 +15,7 @@ use Rattle.day.specs.Plan.{firstJumpOrLimit}
 use Rattle.day.proofs.Valid.{valid-means}
 use Rattle.quick_plan.specs.Quick.{eligible}
 use Rattle.quick_plan.specs.Loop.{waiting, rowTo}
-use Rattle.quick_plan.proofs.Applies.{there}
+use Rattle.day.proofs.Flights.{there}
 use Rattle.quick_plan.proofs.Rows.{row-eligible, rowTo-length}
 use Rattle.period_card.specs.PeriodCard.{word, marks, size, card, refused, periodCard}
 use Rattle.period_card.specs.declared.Marks.{Marks}
@@ -38,7 +38,7 @@ marked-start v e = record { is-valid = v; rows = e; within = omega arith; low-ma
 
 module _ {d : Day} {h : List ℕ} {j i low high : ℕ} (s : Marked d h j i low high) where
   pub marked-there : i < length h → (i + 1) * width ≤ length (d .flights)
-  marked-there l = there d i (omega (arith, s .rows))
+  marked-there l = there (d .flights) i (omega (arith, s .rows))
 
   pub marked-small : (length h ≤ mostFlights) × (P d ≤ mostPeriods)
   marked-small = let v = valid-means (s .is-valid) in (omega (arith, s .rows, v .flights-to), v .periods-to)

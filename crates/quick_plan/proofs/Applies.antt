@@ -1,20 +1,14 @@
--- Where the flights of a day stand in their row, and what the walk for jumps and limits shows of them.
+-- What the walk for jumps and limits shows of the flights of a day.
 -- Assumes nothing.
 use mathlib.Core.Path.{_≡_, refl}
 use mathlib.Core.Bool.{Bool, true, false, not, _||_}
-use Prim.Native.Nat.{ℕ, _+_, _*_, _≤_, _<_}
+use Prim.Native.Nat.{ℕ, _<_}
 use native.Mathlib.Omega.{arith}
-use lib.ListN.{length}
 use lib.Dec.{ltb, eqb}
 use borrow.Author.Tests.{eqb-true, ltb-false, not-false}
-use Rattle.day.specs.Day.{Day, N, flightAt, flightCount, width, jump, limit}
+use Rattle.day.specs.Day.{Day, N, flightAt, jump, limit}
 use Rattle.day.specs.Plan.{jumpOrLimit, firstJumpOrLimit}
 use Rattle.day.proofs.Tests.{none-passes}
-
--- the row has the numbers of every flight
-pub there : (d : Day) (i : ℕ) → i < N d → (i + 1) * width ≤ length (d .flights)
-unfolding flightCount
-there d i l = omega arith
 
 -- neither of two tests passes
 neither : (a b : Bool) → (a || b) ≡ false → (a ≡ false) × (b ≡ false)

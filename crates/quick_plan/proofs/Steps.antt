@@ -12,15 +12,15 @@ use lib.Seq.{take-suc-set, take-all}
 use lib.Dec.{ltb, eqb}
 use borrow.Author.Tests.{eq-eqb, ne-eqb, le-leb, lt-leb, le-ltb}
 use Rattle.day.specs.declared.Flight.{Flight}
-use Rattle.day.specs.Day.{Day, day, P, N, width, column, flightAt, flightCount, due, capacity, valid}
+use Rattle.day.specs.Day.{Day, P, N, width, column, flightAt, flightCount, due, capacity, valid}
 use Rattle.day.specs.Plan.{jumpOrLimit, firstJumpOrLimit}
+use Rattle.day.proofs.Flights.{there}
 use Rattle.day.proofs.Tests.{first-at, first-none}
 use Rattle.day.proofs.Valid.{valid-means}
 use Rattle.assignment.specs.Rows.{row}
 use Rattle.assignment.proofs.Tests.{eq?}
 use Rattle.quick_plan.specs.Quick.{aheadOf, ahead}
 use Rattle.quick_plan.specs.Loop.{pick, bestTo, waiting, top, put, landAll, rowTo}
-use Rattle.quick_plan.proofs.Applies.{there}
 use Rattle.quick_plan.proofs.First.{Found, found}
 use Rattle.quick_plan.proofs.Rows.{top-found, waits-due, land-none, land-one}
 
@@ -77,10 +77,10 @@ module _ {d : Day} {h : List ℕ} {j n i b : ℕ} (s : Scan d h j n i b) where
 
   -- the flight looked at, and the best so far, are flights of the row
   pub scan-there : i < n → (i + 1) * width ≤ length (d .flights)
-  scan-there l = there d i (omega (arith, s .size))
+  scan-there l = there (d .flights) i (omega (arith, s .size))
 
   pub best-there : i < n → b ≢ n → (b + 1) * width ≤ length (d .flights)
-  best-there l ne = there d b (omega (arith, s .size, scan-below ne))
+  best-there l ne = there (d .flights) b (omega (arith, s .size, scan-below ne))
 
   module _ {r : Bool} (l : i < n) (er : r ≡ waiting d h j i) where
     pub scan-skip : r ≡ false → Scan d h j n (i + 1) b
@@ -130,7 +130,7 @@ module _ {d : Day} {j m left : ℕ} {h₀ h : List ℕ} (s : Landing d j m h₀ 
     pub landing-flight : b ≢ length h₀ → (b < length h) × ((b + 1) * width ≤ length (d .flights)) × (due d b ≤ j)
     landing-flight q =
         let w = top-lands d h j eb (λ e. q (e ∙ sym (s .rows))) in
-        (omega (arith, w .0, s .same-length, s .rows), there d b (w .0), w .1)
+        (omega (arith, w .0, s .same-length, s .rows), there (d .flights) b (w .0), w .1)
 
     pub landing-more : 0 < left → b ≢ length h₀ → {from : ℕ} → from ≡ due d b → Landing d j m h₀ (left - 1) (set h b (j - from))
     landing-more l q ed = record {
@@ -177,7 +177,7 @@ module _ {d : Day} {h₀ h : List ℕ} {i : ℕ} (s : Started d h₀ h i) where
   started-periods = valid-means (s .is-valid) .periods-to
 
   pub started-there : i < length h → (i + 1) * width ≤ length (d .flights)
-  started-there l = there d i (omega (arith, s .same-length, s .rows))
+  started-there l = there (d .flights) i (omega (arith, s .same-length, s .rows))
 
   pub started-due : {from : ℕ} → i < length h → from ≡ due d i → from ≤ P d + 1
   started-due l e = omega (arith, valid-means (s .is-valid) .flight i (omega (arith, s .same-length, s .rows)) .due-to)
@@ -233,7 +233,7 @@ plain-start e = record { size = e; within = omega arith; none = λ k l. absurd (
 
 module _ {f : List ℕ} {n i : ℕ} (s : Plain f n i) where
   pub plain-there : i < n → (i + 1) * width ≤ length f
-  plain-there l = there (day [] f) i (omega (arith, s .size))
+  plain-there l = there f i (omega (arith, s .size))
 
   module _ (l : i < n) {x : Flight} (read : x ≡ flightAt f i) {t : Bool} (found : t ≡ jumpOrLimit x) where
     pub plain-stop : t ≡ true → i ≡ firstJumpOrLimit f

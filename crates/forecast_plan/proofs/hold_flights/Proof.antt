@@ -1,3 +1,6 @@
+-- Nobody is held yet, and nobody waits.
+-- Assumes nothing.
+use Rattle.forecast_plan.proofs.Placing.{placed-none}
 use borrow.Author.Needs.{needs}
 use Rattle.forecast_plan.proofs.hold_flights.Statement.{statement}
 use Rattle.forecast_plan.proofs.hold_flights.Tie as tie
@@ -15,7 +18,9 @@ slice-aggregate-hold-all-2 c = search needs
 
 -- src/lib.rt:286:5
 hold-all-requires : tie.Need-hold-all-requires
-hold-all-requires c κs = ?
+hold-all-requires c κs =
+    let at-start = c .before .before .before .before .before .before .before .before in
+    placed-none (at-start .pre .0) (at-start .pre .1)
 
 -- src/lib.rt:272:1
 same-length : tie.Need-same-length

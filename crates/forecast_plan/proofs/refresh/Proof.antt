@@ -1,4 +1,4 @@
--- The rows of the first s forecasts are up to date.
+-- The rows of the first s rows are up to date.
 -- Assumes nothing.
 use mathlib.Core.Path.{sym, _∙_}
 use Prim.Native.Nat.{_-_}
@@ -13,10 +13,10 @@ use Rattle.forecast_plan.proofs.forecast_at.Reads as forecast-at-reads
 use Rattle.forecast_plan.proofs.waiting.Reads as waiting-reads
 
 abbrev Inv-loop : tie.InvT-loop
-Inv-loop periods count forecasts held waits₀ from s₀ waits s = Refreshed periods count forecasts held waits from s
+Inv-loop periods count rows held waits₀ from s₀ waits s = Refreshed periods count rows held waits from s
 
 abbrev μ-loop : tie.MeasureT-loop
-μ-loop periods count forecasts held waits₀ from s₀ waits s = count - s
+μ-loop periods count rows held waits₀ from s₀ waits s = count - s
 
 -- src/lib.rt:102:5
 loop-holds : tie.Need-loop-holds Inv-loop μ-loop

@@ -1,4 +1,4 @@
--- The first s forecasts are weighed.
+-- The first s rows are weighed.
 -- Assumes nothing.
 use mathlib.Core.Path.{sym, _∙_}
 use Prim.Native.Nat.{_-_}
@@ -16,10 +16,10 @@ use Rattle.forecast_plan.proofs.add_air.Reads as add-air-reads
 use Rattle.forecast_plan.proofs.forecast_at.Reads as forecast-at-reads
 
 abbrev Inv-loop : tie.InvT-loop
-Inv-loop periods weights forecasts waits due air₀ s₀ air s = Weighed periods weights forecasts waits due air s
+Inv-loop periods weights rows waits due air₀ s₀ air s = Weighed periods weights rows waits due air s
 
 abbrev μ-loop : tie.MeasureT-loop
-μ-loop periods weights forecasts waits due air₀ s₀ air s = length weights - s
+μ-loop periods weights rows waits due air₀ s₀ air s = length weights - s
 
 -- src/lib.rt:155:5
 loop-holds : tie.Need-loop-holds Inv-loop μ-loop
