@@ -71,9 +71,13 @@ module _ {p : ℕ} {weights rows waits : List ℕ} {due : ℕ} {air : List ℕ} 
   -- the periods in the air under s forecasts are at most 96 for each thousandth
   pub weighed-low : (q : ℕ) → due ≤ q → q ≤ p + 1 → el air q ≤ s * 96000
   weighed-low q from to =
-      omega (arith, w .sums q from to, sum-most s 96000 (λ t. el weights t * (firstRoom (waitsOf waits t) (forecastAt p rows t) q - q)) (λ t b.
-        let days = forecast-length p (length weights) rows (w .whole) t (omega (arith, w .upto)) in
-        omega (arith, mul-le-mul {n₁ = el weights t} {m₁ = firstRoom (waitsOf waits t) (forecastAt p rows t) q - q} {n₂ = 1000} {m₂ = 96} (w .odds t) (omega (arith, days, w .from, w .periods, room-to (waitsOf waits t) (forecastAt p rows t) q (omega (arith, days)))))))
+      omega (
+        arith,
+        w .sums q from to,
+        sum-most s 96000 (λ t. el weights t * (firstRoom (waitsOf waits t) (forecastAt p rows t) q - q)) (λ t b.
+            let days = forecast-length p (length weights) rows (w .whole) t (omega (arith, w .upto)) in
+            omega (arith, mul-le-mul {n₁ = el weights t} {m₁ = firstRoom (waitsOf waits t) (forecastAt p rows t) q - q} {n₂ = 1000} {m₂ = 96} (w .odds t) (omega (arith, days, w .from, w .periods, room-to (waitsOf waits t) (forecastAt p rows t) q (omega (arith, days)))))),
+      )
 
   pub weighed-all : length weights ≤ s → Weighed p weights rows waits due air (length weights)
   weighed-all l = subst (λ n. Weighed p weights rows waits due air n) (omega (arith, w .upto)) w

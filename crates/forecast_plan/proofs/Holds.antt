@@ -67,6 +67,7 @@ module _ (d : Day) (f : Forecasts) where
         where
           r : IsLeast (expected d f (forecastHolds d f) i) (longest d i) (hold (forecastHolds d f) i)
           r = each-least i l
+
           at : (h : ℕ) → expected d f holds i h ≡ expected d f (forecastHolds d f) i h
           at h = expected-same d f holds (forecastHolds d f) i h same
 
@@ -112,5 +113,9 @@ module _ {d : Day} {f : Forecasts} (fit : Fit d f) (holds : List ℕ) (i : ℕ) 
   unfolding expected
   expected-most h to =
       let w = hold-window d i (fit .good .flight i l) to in
-      omega (arith, fit .add-up, weigh-most (f .count) (weight f) _ 9600000 (λ s b.
-        cost-most h _ (omega (arith, w .closing, fit .good .periods-to, fit .good .flight i l .due-from)) (lands-by (due d i + h) s (w .closing) b)))
+      omega (
+        arith,
+        fit .add-up,
+        weigh-most (f .count) (weight f) _ 9600000 (λ s b.
+            cost-most h _ (omega (arith, w .closing, fit .good .periods-to, fit .good .flight i l .due-from)) (lands-by (due d i + h) s (w .closing) b)),
+      )

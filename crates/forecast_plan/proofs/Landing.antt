@@ -32,6 +32,7 @@ module _ (waits : ℕ → ℕ) (capacities : List ℕ) where
     where
       test : ℕ → Bool
       test k = ltb (waits k) (ofPeriod capacities k)
+
       go : (b : Bool)
           → q + cond b 0 (suc (firstOf (length capacities - q) (λ t. test (q + suc t))))
           ≡ cond b q (q + 1 + firstOf (length capacities - q) (λ t. test (q + 1 + t)))

@@ -30,15 +30,15 @@ pub record IsLeast (cost : ℕ → ℕ) (n h : ℕ) : Type 0 where
 is-least-next : {cost : ℕ → ℕ} {n h : ℕ} → IsLeast cost n h → IsLeast cost (suc n) (better cost (suc n) h)
 is-least-next {cost} {n} {h} before = elim (lt? (cost (suc n)) (cost h)) [
   | inl less ↦ rw (lt-ltb (cost (suc n)) (cost h) less) (record {
-      within = omega arith;
-      none-less = λ g l. elim (eq? g (suc n)) [ inl e ↦ rw e (omega arith) | inr o ↦ omega (arith, before .none-less g (omega arith)) ];
-      smaller-more = λ g l. omega (arith, before .none-less g (omega arith));
-    })
+    within = omega arith;
+    none-less = λ g l. elim (eq? g (suc n)) [ inl e ↦ rw e (omega arith) | inr o ↦ omega (arith, before .none-less g (omega arith)) ];
+    smaller-more = λ g l. omega (arith, before .none-less g (omega arith));
+  })
   | inr least ↦ rw (le-ltb (cost (suc n)) (cost h) least) (record {
-      within = omega (arith, before .within);
-      none-less = λ g l. elim (eq? g (suc n)) [ inl e ↦ rw e least | inr o ↦ before .none-less g (omega arith) ];
-      smaller-more = before .smaller-more;
-    })
+    within = omega (arith, before .within);
+    none-less = λ g l. elim (eq? g (suc n)) [ inl e ↦ rw e least | inr o ↦ before .none-less g (omega arith) ];
+    smaller-more = before .smaller-more;
+  })
 ]
 
 pub is-least : (cost : ℕ → ℕ) (n : ℕ) → IsLeast cost n (leastHold n cost)

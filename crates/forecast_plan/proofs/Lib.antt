@@ -12,3 +12,4 @@ pub mod Refreshing
 pub mod Holding
 pub mod Placing
 pub mod Tests
+pub mod Calls

@@ -52,7 +52,7 @@ pub put-others : (n s t : ℕ) (l part : List ℕ) → s * n + n ≤ length l �
 put-others n s t l part fits size other k b = elim (lt? t s) [
   | inl l-t ↦ put-before (s * n) n l part fits size (t * n + k) (omega (arith, mul-le-mul-right {m = t + 1} {n = s} n (omega arith)))
   | inr l-s ↦
-    let more = mul-le-mul-right {m = s + 1} {n = t} n (omega arith) in
-    let at : t * n + k ≡ s * n + (n + (t * n + k - (s * n + n))) = omega (arith, more) in
-    rw at (put-behind (s * n) n l part fits size (t * n + k - (s * n + n)))
+      let more = mul-le-mul-right {m = s + 1} {n = t} n (omega arith) in
+      let at : t * n + k ≡ s * n + (n + (t * n + k - (s * n + n))) = omega (arith, more) in
+      rw at (put-behind (s * n) n l part fits size (t * n + k - (s * n + n)))
 ]

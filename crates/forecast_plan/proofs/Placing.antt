@@ -73,9 +73,9 @@ module _ {d : Day} {f : Forecasts} {holds heldTo waits : List ℕ} {from total i
     same-lands s q b from =
         let days = forecast-length (P d) (f .count) (f .rows) (p .fit .rows-are) s b in
         sym (room-same (waitsOf waits₂ s) (waiting (held d (forecastHolds d f) i) (forecast d f s)) (forecast d f s) q (λ k after to.
-          let some : 1 ≤ k = omega (arith, p .fit .good .flight i in-table .due-from) in
-          t .known s b .each k some (omega (arith, days)) to
-          ∙ waiting-same (el heldTo) (held d (forecastHolds d f) i) (forecast d f s) (P d + 1) (λ o one c. p .counted o (omega (arith, p .fit .good .periods-to))) k some (omega (arith, days))))
+        let some : 1 ≤ k = omega (arith, p .fit .good .flight i in-table .due-from) in
+        t .known s b .each k some (omega (arith, days)) to
+        ∙ waiting-same (el heldTo) (held d (forecastHolds d f) i) (forecast d f s) (P d + 1) (λ o one c. p .counted o (omega (arith, p .fit .good .periods-to))) k some (omega (arith, days))))
 
     -- so that its hold costs what the definition says
     same-cost : (h : ℕ) → h ≤ longest d i
@@ -139,9 +139,11 @@ module _ {d : Day} {f : Forecasts} {holds heldTo waits : List ℕ} {from total i
           places = length-set heldTo q (el heldTo q + 1) ∙ t .places;
           sizes = t .sizes;
           few = few-held (set heldTo q (el heldTo q + 1)) (i + 1) (land d (forecastHolds d f)) (length-set heldTo q (el heldTo q + 1) ∙ t .places) (omega (arith, in-table, p .fit .good .flights-to)) next-counted;
-          known = λ s b. record { each = λ k some before in-day.
-            t .known s b .each k some (omega (arith, q-is, placed-to)) in-day
-            ∙ waiting-same (el heldTo) (el (set heldTo q (el heldTo q + 1))) (forecast d f s) q (λ o one c. sym (m .others o (λ z. omega arith))) k some before };
+          known = λ s b. record {
+            each = λ k some before in-day.
+                t .known s b .each k some (omega (arith, q-is, placed-to)) in-day
+                ∙ waiting-same (el heldTo) (el (set heldTo q (el heldTo q + 1))) (forecast d f s) q (λ o one c. sym (m .others o (λ z. omega arith))) k some before;
+          };
         }
 
         pub placed-next : Placed d f (set holds i (c .hold)) (set heldTo q (el heldTo q + 1)) waits₂ q (total + c .cost) (i + 1)
@@ -166,8 +168,8 @@ module _ {d : Day} {f : Forecasts} {holds heldTo waits : List ℕ} {from total i
   pub placed-total : total ≤ i * 9600000000
   placed-total =
       rw (p .summed) (sum-most i 9600000000 _ (λ j b.
-        let to : j < N d = omega (arith, in-table) in
-        expected-most (p .fit) (forecastHolds d f) j to _ (each-least d f j to .within)))
+      let to : j < N d = omega (arith, in-table) in
+      expected-most (p .fit) (forecastHolds d f) j to _ (each-least d f j to .within)))
 
 -- ---- the first and the last
 

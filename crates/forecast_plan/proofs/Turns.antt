@@ -89,10 +89,12 @@ module _ {heldTo capacities waits : List ℕ} {from : ℕ} (t : Turn heldTo capa
     places = t .places;
     sizes = length-set waits j v ∙ t .sizes;
     few = t .few;
-    known = record { each = λ k some l in-day. elim (eq? k j) [
-        inl k-is ↦ rw k-is (m .here ∙ e)
-      | inr other ↦ m .others k other ∙ t .known .each k some (omega arith) in-day
-      ] };
+    known = record {
+      each = λ k some l in-day. elim (eq? k j) [
+        | inl k-is ↦ rw k-is (m .here ∙ e)
+        | inr other ↦ m .others k other ∙ t .known .each k some (omega arith) in-day
+      ];
+    };
   }
     where
       m : Moved (el waits) (el (set waits j v)) j v

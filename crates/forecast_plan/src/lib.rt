@@ -37,13 +37,7 @@ struct Chosen {
 
 // Who waits in period j for a place under a forecast: those held to it, and those left over from the period before. The row `waits` has
 // who waits before period `from`; it gets the periods to j too, each on the way back.
-fn waiting(
-    held: &[usize],
-    forecast: &[u32],
-    waits: &mut [usize],
-    from: usize,
-    j: usize,
-) -> usize
+fn waiting(held: &[usize], forecast: &[u32], waits: &mut [usize], from: usize, j: usize) -> usize
     requires { ⌜ Turn (now held) (now forecast) (now waits) from × (1 ≤ j) × (j ≤ length (now forecast)) ⌝ }
     ensures { λ r. ⌜ r ≡ waiting (el (now (held .entry))) (now (forecast .entry)) j ⌝ }
     ensures { λ _. ⌜ Turn (now (held .entry)) (now (forecast .entry)) (now (waits .exit)) (j + 1) ⌝ }
@@ -57,13 +51,7 @@ fn waiting(
 }
 
 // Who is left over from period j: those who wait there less its capacity. Nobody is before period 1.
-fn left_over(
-    held: &[usize],
-    forecast: &[u32],
-    waits: &mut [usize],
-    from: usize,
-    j: usize,
-) -> usize
+fn left_over(held: &[usize], forecast: &[u32], waits: &mut [usize], from: usize, j: usize) -> usize
     requires { ⌜ Turn (now held) (now forecast) (now waits) from × (j ≤ length (now forecast)) ⌝ }
     ensures { λ r. ⌜ r ≡ leftOver (el (now (held .entry))) (now (forecast .entry)) j ⌝ }
     ensures { λ _. ⌜ Turn (now (held .entry)) (now (forecast .entry)) (now (waits .exit)) (j + 1) ⌝ }
@@ -290,7 +278,14 @@ fn hold_flights(
     let mut held = [0; PERIOD_ROW];
     let mut waits = [0; WAITS];
     hold_all(
-        capacities, flights, factor, weights, rows, holds, &mut held, &mut waits,
+        capacities,
+        flights,
+        factor,
+        weights,
+        rows,
+        holds,
+        &mut held,
+        &mut waits,
     )
 }
 
