@@ -2,7 +2,7 @@
 ghost use mathlib.Core.Path.{_≡_};
 ghost use mathlib.Core.Bool.{true, false, _&&_, _||_};
 ghost use Prim.Native.Nat.{_+_, _*_, _/_, _%_, _^_, _<_, _≤_};
-ghost use lib.ListN.{getD, length};
+ghost use lib.ListN.{length};
 ghost use lib.Dec.{leb};
 ghost use Rattle.day.specs.Day.{lent, mostPeriods, mostFlights, column, numberOf, dueOf, rateOf, limitOf, width, flightAt, flightCount, ofPeriod, takes, holdCost, landOf, latestOf, all, inside, missing, flightFits, capacitiesFit, inRange, isNew, valid};
 ghost use Rattle.day.specs.Flights.{withFlight};

@@ -1,4 +1,4 @@
-// The core for other languages: each export hands its rows to the core's call and gives the answer in document 01's numbers.
+// The core for other languages: each export hands its rows to the core's call and gives the answer in the numbers of documents 01 and 02.
 // include/hold_desk.h documents them for C.
 ghost use mathlib.Core.Path.{_≡_};
 ghost use mathlib.Core.Bool.{true};
@@ -13,6 +13,8 @@ ghost use Rattle.price_check.specs.Decides.{Decides};
 ghost use Rattle.choice.specs.Choice.{choice};
 ghost use Rattle.board.specs.Board.{boardAnswer, boardAfter};
 ghost use Rattle.plan_text.specs.PlanText.{planTextAnswer, planTextAfter};
+ghost use Rattle.forecast_plan.specs.Forecast.{forecasts};
+ghost use Rattle.forecast_plan.specs.Calls.{forecastPlan};
 ghost use Rattle.desk.specs.Desk.{rowNumber, cardCode, Exported};
 use answers::Code;
 use answers::code_of;
@@ -155,4 +157,20 @@ pub extern "C" fn hold_desk_plan_text(
     ensures { λ _. ⌜ now (text .exit) ≡ planTextAfter (lent (capacities .entry) (flights .entry)) (now (holds .entry)) (now (text .entry)) place ⌝ }
 {
     code_of(plan_text::write_plan(capacities, flights, holds, text, place))
+}
+
+#[no_mangle]
+pub extern "C" fn hold_desk_forecast_plan(
+    capacities: &[u32],
+    flights: &[u32],
+    count: u32,
+    factor: u32,
+    weights: &[u32],
+    rows: &[u32],
+    holds: &mut [u32],
+) -> Code
+    ensures { λ r. ⌜ r ≡ codeOf (forecastPlan (lent (capacities .entry) (flights .entry)) (forecasts count factor (weights .entry) (rows .entry)) (now (holds .entry)) .answer) ⌝ }
+    ensures { λ _. ⌜ now (holds .exit) ≡ forecastPlan (lent (capacities .entry) (flights .entry)) (forecasts count factor (weights .entry) (rows .entry)) (now (holds .entry)) .holds ⌝ }
+{
+    code_of(forecast_plan::forecast_plan(capacities, flights, count, factor, weights, rows, holds))
 }

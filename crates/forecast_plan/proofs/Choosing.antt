@@ -4,7 +4,7 @@ use mathlib.Core.Path.{_≡_, refl, ap, sym, _∙_}
 use mathlib.Core.Logic.{inl, inr}
 use mathlib.Core.Bool.{cond}
 use mathlib.Core.List.{List}
-use Prim.Native.Nat.{ℕ, zero, suc, _+_, _-_, _*_, _≤_, _<_}
+use Prim.Native.Nat.{ℕ, _+_, _-_, _*_, _≤_, _<_}
 use native.Mathlib.Nat.{mul-le-mul}
 use native.Mathlib.Omega.{arith}
 use lib.ListN.{length}
@@ -16,7 +16,7 @@ use Rattle.day.specs.Day.{periodRow}
 use Rattle.day.specs.declared.Flight.{Flight}
 use Rattle.forecast_plan.specs.declared.Chosen.{Chosen}
 use Rattle.forecast_plan.specs.Forecast.{leastHold}
-use Rattle.forecast_plan.specs.Loop.{weighed, Low, Chooses}
+use Rattle.forecast_plan.specs.Loop.{Low, Chooses}
 use Rattle.forecast_plan.proofs.Least.{least-next, least-stays}
 
 -- ---- numbers that fit

@@ -1,17 +1,16 @@
 -- The laws of the expected cost: what it depends on, how the program works it out, and how great it can be.
 -- Assumes nothing.
-use mathlib.Core.Path.{_≡_, refl, ap, sym, _∙_}
+use mathlib.Core.Path.{_≡_, ap, sym, _∙_}
 use mathlib.Core.List.{List}
 use Prim.Native.Nat.{ℕ, zero, suc, _+_, _-_, _*_, _≤_, _<_}
-use native.Mathlib.Nat.{mul-le-mul, mul-le-mul-left}
+use native.Mathlib.Nat.{mul-le-mul-left}
 use native.Mathlib.Omega.{arith}
-use lib.ListN.{length, getD}
 use Rattle.assignment.specs.Sum.{sum, count}
-use Rattle.assignment.proofs.Sums.{sum-ext, sum-le, count-ext}
-use Rattle.day.specs.Day.{Day, P, N, due, rate, hold, land}
-use Rattle.forecast_plan.specs.Forecast.{Forecasts, weight, forecast, held, waiting, firstRoom, lands, costIf, expected}
+use Rattle.assignment.proofs.Sums.{sum-ext, count-ext}
+use Rattle.day.specs.Day.{Day, due, rate, hold, land}
+use Rattle.forecast_plan.specs.Forecast.{Forecasts, weight, forecast, held, lands, costIf, expected}
 use Rattle.forecast_plan.proofs.Turns.{waiting-everywhere}
-use Rattle.forecast_plan.proofs.Landing.{room-same, room-from, room-to}
+use Rattle.forecast_plan.proofs.Landing.{room-same}
 
 -- ---- sums by weight
 

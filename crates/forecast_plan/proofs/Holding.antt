@@ -1,8 +1,8 @@
 -- One flight's hold, from a blank row of periods in the air to the least hold.
 -- Assumes nothing.
-use mathlib.Core.Path.{_≡_, refl, ap, sym, subst, _∙_}
+use mathlib.Core.Path.{_≡_, ap, subst, _∙_}
 use mathlib.Core.List.{List}
-use Prim.Native.Nat.{ℕ, _+_, _-_, _*_, _≤_, _<_, min}
+use Prim.Native.Nat.{ℕ, _+_, _-_, _*_, _≤_, min}
 use native.Mathlib.Omega.{arith}
 use lib.ListN.{length, replicate, length-replicate}
 use Rattle.assignment.specs.Sum.{sum}
@@ -11,7 +11,6 @@ use Rattle.assignment.proofs.Rows.{blank-at}
 use Rattle.day.specs.Day.{periodRow, latestOf}
 use Rattle.day.specs.declared.Flight.{Flight}
 use Rattle.forecast_plan.specs.declared.Chosen.{Chosen}
-use Rattle.forecast_plan.specs.Forecast.{leastHold}
 use Rattle.forecast_plan.specs.Loop.{airborne, Weighed, weighed, Low, Chooses, Ready}
 use Rattle.forecast_plan.proofs.Least.{is-least, least-same}
 use Rattle.forecast_plan.proofs.Air.{weighed-low}

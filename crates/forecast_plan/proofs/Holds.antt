@@ -1,22 +1,20 @@
 -- The row of holds: each is the least one given those before it, no other row is so, and how great a cost can be.
 -- Assumes nothing.
-use mathlib.Core.Path.{_≡_, refl, ap, sym, _∙_}
+use mathlib.Core.Path.{_≡_, refl, sym, _∙_}
 use mathlib.Core.Logic.{inl, inr}
-use mathlib.Core.List.{List, [], _∷_}
-use Prim.Native.Nat.{ℕ, zero, suc, _+_, _-_, _*_, _≤_, _<_, min}
+use mathlib.Core.List.{List, []}
+use Prim.Native.Nat.{ℕ, zero, suc, _+_, _-_, _*_, _≤_, _<_}
 use native.Mathlib.Nat.{mul-le-mul}
 use native.Mathlib.Omega.{arith}
-use lib.ListN.{length, getD, take, drop, length-append, length-drop, List·getD-append}
+use lib.ListN.{length, drop, length-append, length-drop, List·getD-append}
 use lib.Seq.{getD-at, ext-getD, length-take-le}
-use Rattle.assignment.specs.Sum.{sum}
-use Rattle.assignment.proofs.Sums.{sum-most}
 use Rattle.assignment.proofs.Tests.{eq?}
-use Rattle.day.specs.Day.{Day, P, N, due, rate, latest, last, Window, hold, land}
+use Rattle.day.specs.Day.{Day, P, N, due, rate, last, Window, hold}
 use Rattle.day.specs.Valid.{InRange}
 use Rattle.day.proofs.Costs.{due-latest}
-use Rattle.forecast_plan.specs.Forecast.{Forecasts, weight, forecastAt, forecast, held, waiting, lands, costIf, expected, leastHold, longest, withNext, holdsTo, forecastHolds, expectedTotal}
+use Rattle.forecast_plan.specs.Forecast.{Forecasts, weight, forecastAt, forecast, held, waiting, lands, costIf, expected, leastHold, longest, holdsTo, forecastHolds}
 use Rattle.forecast_plan.specs.Loop.{Fit}
-use Rattle.forecast_plan.proofs.Landing.{room-from, room-to}
+use Rattle.forecast_plan.proofs.Landing.{room-to}
 use Rattle.forecast_plan.proofs.Least.{IsLeast, is-least, least-only, least-same}
 use Rattle.forecast_plan.proofs.Expected.{weigh-most, expected-same}
 

@@ -1,12 +1,12 @@
 -- The flights held one after another: what the program knows of the flights above is what the definition says of them.
 -- Assumes nothing.
-use mathlib.Core.Path.{_≡_, refl, ap, sym, subst, _∙_}
+use mathlib.Core.Path.{_≡_, refl, ap, sym, _∙_}
 use mathlib.Core.Logic.{inl, inr}
 use mathlib.Core.List.{List}
-use Prim.Native.Nat.{ℕ, zero, suc, _+_, _-_, _*_, _≤_, _<_, min}
+use Prim.Native.Nat.{ℕ, _+_, _-_, _*_, _≤_, _<_, min}
 use native.Mathlib.Numerals.{add-one}
 use native.Mathlib.Omega.{arith}
-use lib.ListN.{length, getD, set, replicate, length-set, length-replicate, List·getD-eq-default}
+use lib.ListN.{length, set, replicate, length-set, length-replicate, List·getD-eq-default}
 use lib.Seq.{ext-getD}
 use Rattle.assignment.specs.Sum.{sum, count}
 use Rattle.assignment.specs.Rows.{el}
@@ -19,8 +19,8 @@ use Rattle.day.specs.declared.Flight.{Flight}
 use Rattle.day.proofs.Costs.{due-latest}
 use Rattle.day.proofs.Flights.{there, due-read}
 use Rattle.forecast_plan.specs.declared.Chosen.{Chosen}
-use Rattle.forecast_plan.specs.Forecast.{Forecasts, weight, forecast, held, waiting, firstRoom, lands, expected, leastHold, longest, forecastHolds, expectedTotal}
-use Rattle.forecast_plan.specs.Loop.{Known, Turns, waitsOf, airborne, weighed, Chooses, Ready, Fit, Placed}
+use Rattle.forecast_plan.specs.Forecast.{Forecasts, weight, forecast, held, waiting, firstRoom, lands, expected, longest, forecastHolds, expectedTotal}
+use Rattle.forecast_plan.specs.Loop.{Turns, waitsOf, airborne, weighed, Chooses, Ready, Fit, Placed}
 use Rattle.forecast_plan.proofs.Turns.{waiting-same, left-over-most}
 use Rattle.forecast_plan.proofs.Landing.{room-same}
 use Rattle.forecast_plan.proofs.Least.{is-least}

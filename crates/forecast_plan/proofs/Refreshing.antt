@@ -1,8 +1,8 @@
 -- The rows of all forecasts, brought up to date one after another.
 -- Assumes nothing.
-use mathlib.Core.Path.{_≡_, ap, sym, subst, _∙_}
+use mathlib.Core.Path.{_≡_, ap, sym, _∙_}
 use mathlib.Core.Logic.{inl, inr}
-use mathlib.Core.List.{List, _++_}
+use mathlib.Core.List.{List}
 use Prim.Native.Nat.{ℕ, _+_, _-_, _*_, _≤_, _<_}
 use native.Mathlib.Omega.{arith}
 use lib.ListN.{length, take, drop, length-drop}
@@ -11,10 +11,9 @@ use borrow.Rule.Slice.PartMut.{putMid, same-len-mid}
 use Rattle.assignment.specs.Rows.{el}
 use Rattle.assignment.proofs.Tests.{eq?}
 use Rattle.day.specs.Day.{mostPeriods, mostFlights, periodRow}
-use Rattle.forecast_plan.specs.Forecast.{forecastAt, waiting}
+use Rattle.forecast_plan.specs.Forecast.{forecastAt}
 use Rattle.forecast_plan.specs.Loop.{Known, Turn, waitsOf, Turns}
 use Rattle.forecast_plan.proofs.Parts.{part-in, part-size, part-at, put-here, put-others}
-use Rattle.forecast_plan.proofs.Turns.{waiting-same}
 use Rattle.forecast_plan.proofs.Holds.{forecast-length}
 
 -- those of the first s forecasts are known to the end, the others before `from`

@@ -2,7 +2,7 @@
 -- and reversed, whatever the hold row was.
 -- Assumes nothing.
 use mathlib.Core.Path.{_≡_, refl}
-use mathlib.Core.List.{List, [], _∷_}
+use mathlib.Core.List.{[], _∷_}
 use Prim.Native.Nat.{ℕ}
 use Rattle.assignment.specs.Sum.{sum, count}
 use Rattle.answers.specs.Answers.{outcome}

@@ -1,7 +1,7 @@
 -- #104, forecasts with odds, after the report's section 3.2: who waits for whom under a forecast, what a hold is expected to cost, and the
 -- holds of a day's flights, one after another. "Table order is landing priority, first highest."
 -- Assumes nothing.
-use mathlib.Core.Bool.{Bool, cond}
+use mathlib.Core.Bool.{cond}
 use mathlib.Core.List.{List, [], _∷_, _++_}
 use Prim.Native.Nat.{ℕ, zero, suc, _+_, _-_, _*_}
 use denote.Ref.{RefT, now}

@@ -13,7 +13,7 @@ use day::wide;
 ghost use mathlib.Core.Path.{_≡_};
 ghost use mathlib.Core.Bool.{true, cond};
 ghost use Prim.Native.Nat.{_+_, _-_, _*_, _≤_, _<_, min};
-ghost use lib.ListN.{length, getD};
+ghost use lib.ListN.{length};
 ghost use lib.Dec.{ltb};
 ghost use Rattle.assignment.specs.Rows.{el};
 ghost use Rattle.day.specs.Day.{lent, N, valid, mostPeriods, periodRow, latestOf};

@@ -34,7 +34,6 @@ waiting-at t = and 3 waiting-kinds.ps (is 3 waiting-kinds.ps μ-waiting t) waiti
 abbrev waiting-below : ℕ → In 3 waiting-kinds.ps
 waiting-below t = and 3 waiting-kinds.ps (falls 3 waiting-kinds.ps _<_ μ-waiting t) waiting.Pre
 
--- src/lib.rt:46:9
 left-over-returns : (t : ℕ) → left-over-lts.Need-returns (
   waiting-below t,
   waiting.Post,
@@ -45,7 +44,6 @@ left-over-returns t c =
     let at-start = c .before .before .before .before in
     (none-left-over _ _ _ (c .if1 .taken), turn-none (at-start .pre .1 .0) (c .if1 .taken))
 
--- src/lib.rt:48:9
 left-over-waiting-requires : (t : ℕ) → left-over-lts.Need-waiting-requires (
   waiting-below t,
   waiting.Post,
@@ -56,7 +54,6 @@ left-over-waiting-requires t c κs =
     let at-start = c .before .before .before .before .before in
     (omega (arith, at-start .pre .0), (at-start .pre .1 .0, omega arith, at-start .pre .1 .1))
 
--- src/lib.rt:49:34
 left-over-sub-wide : (t : ℕ) → left-over-lts.Need-sub-wide (
   waiting-below t,
   waiting.Post,
@@ -65,7 +62,6 @@ left-over-sub-wide : (t : ℕ) → left-over-lts.Need-sub-wide (
 ) (left-over-at t) left-over.Post
 left-over-sub-wide t c = omega arith
 
--- src/lib.rt:49:25
 left-over-mul-wide : (t : ℕ) → left-over-lts.Need-mul-wide (
   waiting-below t,
   waiting.Post,
@@ -74,7 +70,6 @@ left-over-mul-wide : (t : ℕ) → left-over-lts.Need-mul-wide (
 ) (left-over-at t) left-over.Post
 left-over-mul-wide t c = omega (arith, c .before .before .before .before .before .before .before .before .pre .1 .0 .periods)
 
--- src/lib.rt:49:25
 left-over-shared-slice-read-wide : (t : ℕ) → left-over-lts.Need-shared-slice-read-wide (
   waiting-below t,
   waiting.Post,
@@ -83,7 +78,6 @@ left-over-shared-slice-read-wide : (t : ℕ) → left-over-lts.Need-shared-slice
 ) (left-over-at t) left-over.Post
 left-over-shared-slice-read-wide t c = omega (arith, c .before .before .before .before .before .before .before .before .before .pre .1 .1)
 
--- src/lib.rt:49:9
 left-over-wide-requires : (t : ℕ) → left-over-lts.Need-wide-requires (
   waiting-below t,
   waiting.Post,
@@ -92,7 +86,6 @@ left-over-wide-requires : (t : ℕ) → left-over-lts.Need-wide-requires (
 ) (left-over-at t) left-over.Post
 left-over-wide-requires t c κs = search needs
 
--- src/lib.rt:51:9
 left-over-same-length : (t : ℕ) → left-over-lts.Need-same-length (
   waiting-below t,
   waiting.Post,
@@ -101,7 +94,6 @@ left-over-same-length : (t : ℕ) → left-over-lts.Need-same-length (
 ) (left-over-at t) left-over.Post
 left-over-same-length t c = c .before .before .before .before .before .waiting .kept .1 .1 .0
 
--- src/lib.rt:51:9
 left-over-returns-2 : (t : ℕ) → left-over-lts.Need-returns-2 (
   waiting-below t,
   waiting.Post,
@@ -115,7 +107,6 @@ left-over-returns-2 t c =
     let at-start = at-if1 .before .before .before .before in
     (omega (arith, left-over-here _ _ (at-start .args .j) (omega arith) (at-waiting .waiting .ensures .0) (at-wide .wide .ensures)), at-waiting .waiting .ensures .1)
 
--- src/lib.rt:34:1
 left-over-same-length-2 : (t : ℕ) → left-over-lts.Need-same-length-2 (
   waiting-below t,
   waiting.Post,
@@ -124,7 +115,6 @@ left-over-same-length-2 : (t : ℕ) → left-over-lts.Need-same-length-2 (
 ) (left-over-at t) left-over.Post
 left-over-same-length-2 t c = c .before .before .before .before .before .waiting .kept .1 .1 .0
 
--- src/lib.rt:34:1
 left-over-returns-3 : (t : ℕ) → left-over-lts.Need-returns-3 (
   waiting-below t,
   waiting.Post,
@@ -138,20 +128,17 @@ left-over-returns-3 t c =
     let at-start = at-if1 .before .before .before .before in
     (left-over-here _ _ (at-start .args .j) (omega arith) (at-waiting .waiting .ensures .0) (at-wide .wide .ensures), at-waiting .waiting .ensures .1)
 
--- src/lib.rt:26:16
 waiting-mul-result :
     (t : ℕ) →
     waiting-lts.Need-mul-result (left-over-below t, left-over.Post) (waiting-at t) waiting.Post
 waiting-mul-result t c = search needs
 
--- src/lib.rt:26:16
 waiting-slice-read-result : (t : ℕ) → waiting-lts.Need-slice-read-result (
   left-over-below t,
   left-over.Post,
 ) (waiting-at t) waiting.Post
 waiting-slice-read-result t c = search needs
 
--- src/lib.rt:26:9
 waiting-returns :
     (t : ℕ) →
     waiting-lts.Need-returns (left-over-below t, left-over.Post) (waiting-at t) waiting.Post
@@ -159,27 +146,23 @@ waiting-returns t c =
     let at-start = c .before .before .before .before .before in
     (at-start .pre .1 .0 .known .each _ (at-start .pre .1 .1) (c .before .if1 .taken) (at-start .pre .1 .2), turn-to (at-start .pre .1 .0) (c .before .if1 .taken))
 
--- src/lib.rt:28:16
 waiting-mul-here :
     (t : ℕ) →
     waiting-lts.Need-mul-here (left-over-below t, left-over.Post) (waiting-at t) waiting.Post
 waiting-mul-here t c = search needs
 
--- src/lib.rt:28:16
 waiting-shared-slice-read-here : (t : ℕ) → waiting-lts.Need-shared-slice-read-here (
   left-over-below t,
   left-over.Post,
 ) (waiting-at t) waiting.Post
 waiting-shared-slice-read-here t c = search needs
 
--- src/lib.rt:28:65
 waiting-sub-left-over : (t : ℕ) → waiting-lts.Need-sub-left-over (
   left-over-below t,
   left-over.Post,
 ) (waiting-at t) waiting.Post
 waiting-sub-left-over t c = search needs
 
--- src/lib.rt:28:26
 waiting-left-over-requires : (t : ℕ) → waiting-lts.Need-left-over-requires (
   left-over-below t,
   left-over.Post,
@@ -188,7 +171,6 @@ waiting-left-over-requires t c κs =
     let at-start = c .before .before .before .before .before .before in
     (omega (arith, at-start .pre .0), (at-start .pre .1 .0, omega arith))
 
--- src/lib.rt:28:16
 waiting-add-here :
     (t : ℕ) →
     waiting-lts.Need-add-here (left-over-below t, left-over.Post) (waiting-at t) waiting.Post
@@ -198,13 +180,11 @@ waiting-add-here t c =
     let turn = at-start .pre .1 .0 in
     omega (arith, turn .periods, turn .few (at-start .args .j), left-over-most _ (at-start .args .forecast .now) 128 (turn .few) (at-start .args .j - 1), at-left-over .left-over .ensures .0)
 
--- src/lib.rt:29:5
 waiting-mul-waits :
     (t : ℕ) →
     waiting-lts.Need-mul-waits (left-over-below t, left-over.Post) (waiting-at t) waiting.Post
 waiting-mul-waits t c = search needs
 
--- src/lib.rt:29:5
 waiting-slice-write-waits : (t : ℕ) → waiting-lts.Need-slice-write-waits (
   left-over-below t,
   left-over.Post,
@@ -214,13 +194,11 @@ waiting-slice-write-waits t c =
     let at-start = at-left-over .before .before .before .before .before .before .before in
     omega (arith, at-left-over .left-over .ensures .1 .sizes, at-start .pre .1 .0 .periods, at-start .pre .1 .2)
 
--- src/lib.rt:14:1
 waiting-same-length :
     (t : ℕ) →
     waiting-lts.Need-same-length (left-over-below t, left-over.Post) (waiting-at t) waiting.Post
 waiting-same-length t c = simp length-set (c .before .before .left-over .kept .1 .1 .0)
 
--- src/lib.rt:14:1
 waiting-returns-2 :
     (t : ℕ) →
     waiting-lts.Need-returns-2 (left-over-below t, left-over.Post) (waiting-at t) waiting.Post

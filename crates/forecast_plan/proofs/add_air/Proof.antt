@@ -1,7 +1,7 @@
 -- The landing from period j is known, and every period from j on has its part.
 -- Assumes nothing.
-use mathlib.Core.Path.{_≡_, ap, sym, _∙_}
-use Prim.Native.Nat.{_-_, _≤_}
+use mathlib.Core.Path.{_≡_, sym}
+use Prim.Native.Nat.{_-_}
 use native.Mathlib.Omega.{arith}
 use borrow.Author.Needs.{needs}
 use Rattle.assignment.specs.Rows.{el}
@@ -11,9 +11,6 @@ use Rattle.forecast_plan.proofs.Landing.{room-closing}
 use Rattle.forecast_plan.proofs.Air.{adding-there, adding-lands, adding-fits, adding-low, adding-next, adding-end}
 use Rattle.forecast_plan.proofs.add_air.Statement.{statement}
 use Rattle.forecast_plan.proofs.add_air.Tie as tie
-use Rattle.forecast_plan.proofs.add_air.Reads as reads
-use Rattle.forecast_plan.proofs.add_air.Lts as lts
-use Rattle.forecast_plan.proofs.lands_at.Reads as lands-at-reads
 
 abbrev Inv-loop : tie.InvT-loop
 Inv-loop forecast waits weight due air₀ j₀ lands₀ air j lands =
@@ -22,39 +19,30 @@ Inv-loop forecast waits weight due air₀ j₀ lands₀ air j lands =
 abbrev μ-loop : tie.MeasureT-loop
 μ-loop forecast waits weight due air₀ j₀ lands₀ air j lands = j
 
--- src/lib.rt:124:17
 add-j : tie.Need-add-j Inv-loop μ-loop
 add-j c = search needs
 
--- src/lib.rt:126:5
 loop-holds : tie.Need-loop-holds Inv-loop μ-loop
 loop-holds c = (sym (room-closing _ _ _ (omega arith)), c .before .before .before .pre)
 
--- src/lib.rt:127:9
 sub-j : tie.Need-sub-j Inv-loop μ-loop
 sub-j c = search needs
 
--- src/lib.rt:128:9
 lands-at-requires : tie.Need-lands-at-requires Inv-loop μ-loop
 lands-at-requires c κs = adding-there (c .before .loop .inv .1) (c .before .loop .inv .0) (c .loop-test .taken)
 
--- src/lib.rt:129:18
 mul-air : tie.Need-mul-air Inv-loop μ-loop
 mul-air c = search needs
 
--- src/lib.rt:129:18
 slice-read-air : tie.Need-slice-read-air Inv-loop μ-loop
 slice-read-air c = search needs
 
--- src/lib.rt:129:37
 sub-air : tie.Need-sub-air Inv-loop μ-loop
 sub-air c = adding-lands (c .before .before .before .loop .inv .1) (c .before .lands-at .ensures) (c .before .before .loop-test .taken)
 
--- src/lib.rt:129:27
 mul-air-2 : tie.Need-mul-air-2 Inv-loop μ-loop
 mul-air-2 c = omega (arith, adding-fits (c .before .before .before .loop .inv .1) (c .before .lands-at .ensures) (c .before .before .loop-test .taken))
 
--- src/lib.rt:129:18
 add-air : tie.Need-add-air Inv-loop μ-loop
 add-air c =
     let a = c .before .before .before .loop .inv .1 in
@@ -62,27 +50,21 @@ add-air c =
     let l = c .before .before .loop-test .taken in
     omega (arith, adding-low a e l, adding-fits a e l)
 
--- src/lib.rt:129:9
 mul-air-3 : tie.Need-mul-air-3 Inv-loop μ-loop
 mul-air-3 c = search needs
 
--- src/lib.rt:129:9
 slice-write-air : tie.Need-slice-write-air Inv-loop μ-loop
 slice-write-air c = search needs
 
--- src/lib.rt:126:5
 loop-less : tie.Need-loop-less Inv-loop μ-loop
 loop-less c = search needs
 
--- src/lib.rt:126:5
 loop-again : tie.Need-loop-again Inv-loop μ-loop
 loop-again c = (c .before .lands-at .ensures, adding-next (c .before .before .before .loop .inv .1) (c .before .lands-at .ensures) (c .before .before .loop-test .taken))
 
--- src/lib.rt:120:1
 same-length : tie.Need-same-length Inv-loop μ-loop
 same-length c = search needs
 
--- src/lib.rt:120:1
 returns : tie.Need-returns Inv-loop μ-loop
 returns c = adding-end (c .before .loop .inv .1) (c .loop-test .left)
 

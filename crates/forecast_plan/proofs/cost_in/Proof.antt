@@ -8,47 +8,35 @@ use Rattle.forecast_plan.proofs.Choosing.{ground-fits, rates-fit, air-f
 use borrow.Author.Needs.{needs}
 use Rattle.forecast_plan.proofs.cost_in.Statement.{statement}
 use Rattle.forecast_plan.proofs.cost_in.Tie as tie
-use Rattle.forecast_plan.proofs.cost_in.Reads as reads
-use Rattle.forecast_plan.proofs.cost_in.Lts as lts
-use Rattle.day.proofs.wide.Reads as wide-reads
 
--- src/lib.rt:165:9
 wide-requires : tie.Need-wide-requires
 wide-requires c κs = search needs
 
--- src/lib.rt:166:19
 wide-requires-2 : tie.Need-wide-requires-2
 wide-requires-2 c κs = search needs
 
--- src/lib.rt:166:19
 add-held-to : tie.Need-add-held-to
 add-held-to c = search needs
 
--- src/lib.rt:167:5
 mul-result : tie.Need-mul-result
 mul-result c = search needs
 
--- src/lib.rt:167:5
 mul-result-2 : tie.Need-mul-result-2
 mul-result-2 c =
     let p = c .before .before .before .pre in
     omega (arith, ground-fits {rate = c .before .wide .result} (omega (arith, c .before .wide .ensures, p .0)) (p .3))
 
--- src/lib.rt:167:33
 mul-result-3 : tie.Need-mul-result-3
 mul-result-3 c =
     let p = c .before .before .before .pre in
     omega (arith, rates-fit {rate = c .before .wide .result} (omega (arith, c .before .wide .ensures, p .0)) (p .1))
 
--- src/lib.rt:167:49
 mul-result-4 : tie.Need-mul-result-4
 mul-result-4 c = search needs
 
--- src/lib.rt:167:49
 shared-slice-read-result : tie.Need-shared-slice-read-result
 shared-slice-read-result c = search needs
 
--- src/lib.rt:167:33
 mul-result-5 : tie.Need-mul-result-5
 mul-result-5 c =
     let at-wide = c .before .before in
@@ -56,7 +44,6 @@ mul-result-5 c =
     let air = rw (sym (c .before .wide2 .ensures)) at (p .4) in
     omega (arith, air-fits {rate = at-wide .wide .result} (omega (arith, at-wide .wide .ensures, p .0)) (p .1) air)
 
--- src/lib.rt:167:5
 add-result : tie.Need-add-result
 add-result c =
     let at-wide = c .before .before in
@@ -65,7 +52,6 @@ add-result c =
     let rate : at-wide .wide .result ≤ 10000 = omega (arith, at-wide .wide .ensures, p .0) in
     omega (arith, ground-fits {rate = at-wide .wide .result} rate (p .3), air-fits {rate = at-wide .wide .result} rate (p .1) air)
 
--- src/lib.rt:161:1
 returns : tie.Need-returns
 unfolding weighed
 returns c = rw (c .before .before .wide .ensures, c .before .wide2 .ensures)

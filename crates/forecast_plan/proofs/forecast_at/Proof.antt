@@ -6,34 +6,25 @@ use native.Mathlib.Omega.{arith}
 use borrow.Author.Needs.{needs}
 use Rattle.forecast_plan.proofs.forecast_at.Statement.{statement}
 use Rattle.forecast_plan.proofs.forecast_at.Tie as tie
-use Rattle.forecast_plan.proofs.forecast_at.Reads as reads
-use Rattle.forecast_plan.proofs.forecast_at.Lts as lts
 
--- src/lib.rt:84:17
 mul-first : tie.Need-mul-first
 mul-first c = search needs
 
--- src/lib.rt:85:23
 add-result : tie.Need-add-result
 add-result c = search needs
 
--- src/lib.rt:85:5
 mul-result : tie.Need-mul-result
 mul-result c = search needs
 
--- src/lib.rt:85:5
 sub-result : tie.Need-sub-result
 sub-result c = search needs
 
--- src/lib.rt:85:5
 part-result-start : tie.Need-part-result-start
 part-result-start c = search needs
 
--- src/lib.rt:85:5
 part-result-end : tie.Need-part-result-end
 part-result-end c = search needs
 
--- src/lib.rt:80:1
 returns : tie.Need-returns
 returns c =
     let e : c .before .args .s * c .before .args .periods + c .before .args .periods - c .before .args .s * c .before .args .periods ≡ c .before .args .periods = omega arith in

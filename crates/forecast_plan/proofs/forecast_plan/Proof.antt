@@ -7,34 +7,22 @@ use Rattle.forecast_plan.proofs.Calls.{bad-day, bad-terms, by-rows}
 use borrow.Author.Needs.{needs}
 use Rattle.forecast_plan.proofs.forecast_plan.Statement.{statement}
 use Rattle.forecast_plan.proofs.forecast_plan.Tie as tie
-use Rattle.forecast_plan.proofs.forecast_plan.Reads as reads
-use Rattle.forecast_plan.proofs.forecast_plan.Lts as lts
-use Rattle.day.proofs.is_valid.Reads as is-valid-reads
-use Rattle.day.proofs.wide.Reads as wide-reads
-use Rattle.forecast_plan.proofs.plan_rows.Reads as plan-rows-reads
-use Rattle.forecast_plan.proofs.terms_fit.Reads as terms-fit-reads
 
--- src/lib.rt:398:9
 is-valid-requires : tie.Need-is-valid-requires
 is-valid-requires c κs = search needs
 
--- src/lib.rt:399:9
 returns : tie.Need-returns
 returns c = says (bad-day _ _ _ (sym (c .before .is-valid .ensures) ∙ not-true _ (c .if1 .taken)))
 
--- src/lib.rt:401:9
 wide-requires : tie.Need-wide-requires
 wide-requires c κs = search needs
 
--- src/lib.rt:402:9
 wide-requires-2 : tie.Need-wide-requires-2
 wide-requires-2 c κs = search needs
 
--- src/lib.rt:403:9
 terms-fit-requires : tie.Need-terms-fit-requires
 terms-fit-requires c κs = search needs
 
--- src/lib.rt:404:9
 returns-2 : tie.Need-returns-2
 returns-2 c =
     let at-terms-fit = c .before in
@@ -42,18 +30,15 @@ returns-2 c =
     let at-if1 = at-wide2 .before .before in
     says (bad-terms _ _ _ (sym (at-if1 .before .is-valid .ensures) ∙ not-false _ (at-if1 .if1 .left)) (at-wide2 .before .wide .ensures) (at-wide2 .wide2 .ensures) (sym (at-terms-fit .terms-fit .ensures) ∙ not-true _ (c .if2 .taken)))
 
--- src/lib.rt:406:5
 plan-rows-requires : tie.Need-plan-rows-requires
 plan-rows-requires c κs =
     let at-if2 = c .before in
     let at-if1 = at-if2 .before .before .before .before in
     (sym (at-if1 .before .is-valid .ensures) ∙ not-false _ (at-if1 .if1 .left), sym (at-if2 .before .terms-fit .ensures) ∙ not-false _ (at-if2 .if2 .left))
 
--- src/lib.rt:386:1
 same-length : tie.Need-same-length
 same-length c = search needs
 
--- src/lib.rt:386:1
 returns-3 : tie.Need-returns-3
 returns-3 c =
     let at-plan-rows = c .before .before in

@@ -5,24 +5,16 @@ use Rattle.forecast_plan.proofs.Calls.{bad-sum, sum-fits}
 use borrow.Author.Needs.{needs}
 use Rattle.forecast_plan.proofs.forecasts_fit.Statement.{statement}
 use Rattle.forecast_plan.proofs.forecasts_fit.Tie as tie
-use Rattle.forecast_plan.proofs.forecasts_fit.Reads as reads
-use Rattle.forecast_plan.proofs.forecasts_fit.Lts as lts
-use Rattle.day.proofs.capacities_fit.Reads as capacities-fit-reads
-use Rattle.forecast_plan.proofs.weight_sum.Reads as weight-sum-reads
 
--- src/lib.rt:344:8
 weight-sum-requires : tie.Need-weight-sum-requires
 weight-sum-requires c κs = search needs
 
--- src/lib.rt:345:9
 returns : tie.Need-returns
 returns c = sym (bad-sum _ _ (c .before .weight-sum .ensures) (c .if1 .taken))
 
--- src/lib.rt:347:5
 capacities-fit-requires : tie.Need-capacities-fit-requires
 capacities-fit-requires c κs = search needs
 
--- src/lib.rt:340:1
 returns-2 : tie.Need-returns-2
 returns-2 c = c .capacities-fit .ensures ∙ sym (sum-fits _ _ (c .before .before .weight-sum .ensures) (c .before .if1 .left))
 

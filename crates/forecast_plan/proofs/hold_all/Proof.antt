@@ -1,6 +1,5 @@
 -- The flights above table place i are placed.
 -- Assumes nothing.
-use mathlib.Core.Path.{_≡_, sym, ap, _∙_}
 use Prim.Native.Nat.{_+_, _-_}
 use native.Mathlib.Omega.{arith}
 use lib.ListN.{length, length-set}
@@ -11,12 +10,6 @@ use Rattle.forecast_plan.proofs.Placing.{placed-ready, placed-lands, pl
 use borrow.Author.Needs.{needs}
 use Rattle.forecast_plan.proofs.hold_all.Statement.{statement}
 use Rattle.forecast_plan.proofs.hold_all.Tie as tie
-use Rattle.forecast_plan.proofs.hold_all.Reads as reads
-use Rattle.forecast_plan.proofs.hold_all.Lts as lts
-use Rattle.day.proofs.flight_at.Reads as flight-at-reads
-use Rattle.day.proofs.wide.Reads as wide-reads
-use Rattle.forecast_plan.proofs.hold_of.Reads as hold-of-reads
-use Rattle.forecast_plan.proofs.refresh.Reads as refresh-reads
 
 abbrev Inv-loop : tie.InvT-loop
 Inv-loop capacities flights factor weights rows holds₀ held₀ waits₀ periods from₀ total₀ i₀ holds held waits from total i =
@@ -25,23 +18,18 @@ Inv-loop capacities flights factor weights rows holds₀ held₀ waits₀ period
 abbrev μ-loop : tie.MeasureT-loop
 μ-loop capacities flights factor weights rows holds₀ held₀ waits₀ periods from₀ total₀ i₀ holds held waits from total i = length holds - i
 
--- src/lib.rt:254:20
 add-from : tie.Need-add-from Inv-loop μ-loop
 add-from c = search needs
 
--- src/lib.rt:257:5
 loop-holds : tie.Need-loop-holds Inv-loop μ-loop
 loop-holds c = search needs
 
--- src/lib.rt:258:9
 refresh-requires : tie.Need-refresh-requires Inv-loop μ-loop
 refresh-requires c κs = search needs
 
--- src/lib.rt:259:13
 flight-at-requires : tie.Need-flight-at-requires Inv-loop μ-loop
 flight-at-requires c κs = search needs
 
--- src/lib.rt:260:13
 hold-of-requires : tie.Need-hold-of-requires Inv-loop μ-loop
 hold-of-requires c κs =
     let at-flight-at = c .before in
@@ -49,11 +37,9 @@ hold-of-requires c κs =
     let at-test = at-refresh .before .before .before in
     placed-ready (at-test .before .loop .inv) (at-test .loop-test .taken) (at-refresh .refresh .ensures) (at-flight-at .flight-at .ensures)
 
--- src/lib.rt:262:16
 wide-requires : tie.Need-wide-requires Inv-loop μ-loop
 wide-requires c κs = search needs
 
--- src/lib.rt:262:16
 add-from-2 : tie.Need-add-from-2 Inv-loop μ-loop
 add-from-2 c =
     let at-hold-of = c .before in
@@ -67,7 +53,6 @@ add-from-2 c =
     let chosen = at-hold-of .hold-of .ensures in
     omega (arith, placed-due placed test turns flight chosen (c .wide .ensures))
 
--- src/lib.rt:263:22
 mul-held : tie.Need-mul-held Inv-loop μ-loop
 mul-held c =
     let at-hold-of = c .before in
@@ -81,7 +66,6 @@ mul-held c =
     let chosen = at-hold-of .hold-of .ensures in
     omega (arith, placed-due placed test turns flight chosen (c .wide .ensures))
 
--- src/lib.rt:263:22
 slice-read-held : tie.Need-slice-read-held Inv-loop μ-loop
 slice-read-held c =
     let at-hold-of = c .before .before in
@@ -95,7 +79,6 @@ slice-read-held c =
     let chosen = at-hold-of .hold-of .ensures in
     omega (arith, placed-due placed test turns flight chosen (c .before .wide .ensures), placed .turns .places)
 
--- src/lib.rt:263:22
 add-held : tie.Need-add-held Inv-loop μ-loop
 add-held c =
     let at-hold-of = c .before .before in
@@ -109,7 +92,6 @@ add-held c =
     let chosen = at-hold-of .hold-of .ensures in
     omega (arith, placed .turns .few (c .before .wide .result + at-hold-of .hold-of .result .hold))
 
--- src/lib.rt:263:9
 mul-held-2 : tie.Need-mul-held-2 Inv-loop μ-loop
 mul-held-2 c =
     let at-hold-of = c .before .before in
@@ -123,7 +105,6 @@ mul-held-2 c =
     let chosen = at-hold-of .hold-of .ensures in
     omega (arith, placed-due placed test turns flight chosen (c .before .wide .ensures))
 
--- src/lib.rt:263:9
 slice-write-held : tie.Need-slice-write-held Inv-loop μ-loop
 slice-write-held c =
     let at-hold-of = c .before .before in
@@ -137,7 +118,6 @@ slice-write-held c =
     let chosen = at-hold-of .hold-of .ensures in
     omega (arith, placed-due placed test turns flight chosen (c .before .wide .ensures), placed .turns .places)
 
--- src/lib.rt:264:20
 cast-holds : tie.Need-cast-holds Inv-loop μ-loop
 cast-holds c =
     let at-hold-of = c .before .before in
@@ -151,15 +131,12 @@ cast-holds c =
     let chosen = at-hold-of .hold-of .ensures in
     omega (arith, placed-due placed test turns flight chosen (c .before .wide .ensures))
 
--- src/lib.rt:264:9
 mul-holds : tie.Need-mul-holds Inv-loop μ-loop
 mul-holds c = search needs
 
--- src/lib.rt:264:9
 slice-write-holds : tie.Need-slice-write-holds Inv-loop μ-loop
 slice-write-holds c = search needs
 
--- src/lib.rt:265:9
 add-total : tie.Need-add-total Inv-loop μ-loop
 add-total c =
     let at-hold-of = c .before .before .before in
@@ -173,15 +150,12 @@ add-total c =
     let chosen = at-hold-of .hold-of .ensures in
     omega (arith, placed-total placed test, placed-cost-most placed test turns flight chosen, placed .upto, placed .fit .good .flights-to)
 
--- src/lib.rt:266:9
 add-i : tie.Need-add-i Inv-loop μ-loop
 add-i c = search needs
 
--- src/lib.rt:257:5
 loop-less : tie.Need-loop-less Inv-loop μ-loop
 loop-less c = simp length-set (omega arith)
 
--- src/lib.rt:257:5
 loop-again : tie.Need-loop-again Inv-loop μ-loop
 loop-again c =
     let at-hold-of = c .before .before .before in
@@ -195,19 +169,15 @@ loop-again c =
     let chosen = at-hold-of .hold-of .ensures in
     placed-next placed test turns flight chosen (placed-lands placed test turns flight chosen (c .before .before .wide .ensures))
 
--- src/lib.rt:239:1
 same-length : tie.Need-same-length Inv-loop μ-loop
 same-length c = search needs
 
--- src/lib.rt:239:1
 same-length-2 : tie.Need-same-length-2 Inv-loop μ-loop
 same-length-2 c = search needs
 
--- src/lib.rt:239:1
 same-length-3 : tie.Need-same-length-3 Inv-loop μ-loop
 same-length-3 c = search needs
 
--- src/lib.rt:239:1
 returns : tie.Need-returns Inv-loop μ-loop
 returns c = placed-all (c .before .loop .inv) (c .loop-test .left)
 

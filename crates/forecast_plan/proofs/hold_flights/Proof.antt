@@ -4,29 +4,21 @@ use Rattle.forecast_plan.proofs.Placing.{placed-none}
 use borrow.Author.Needs.{needs}
 use Rattle.forecast_plan.proofs.hold_flights.Statement.{statement}
 use Rattle.forecast_plan.proofs.hold_flights.Tie as tie
-use Rattle.forecast_plan.proofs.hold_flights.Reads as reads
-use Rattle.forecast_plan.proofs.hold_flights.Lts as lts
-use Rattle.forecast_plan.proofs.hold_all.Reads as hold-all-reads
 
--- src/lib.rt:287:65
 slice-aggregate-hold-all : tie.Need-slice-aggregate-hold-all
 slice-aggregate-hold-all c = search needs
 
--- src/lib.rt:287:76
 slice-aggregate-hold-all-2 : tie.Need-slice-aggregate-hold-all-2
 slice-aggregate-hold-all-2 c = search needs
 
--- src/lib.rt:286:5
 hold-all-requires : tie.Need-hold-all-requires
 hold-all-requires c κs =
     let at-start = c .before .before .before .before .before .before .before .before in
     placed-none (at-start .pre .0) (at-start .pre .1)
 
--- src/lib.rt:272:1
 same-length : tie.Need-same-length
 same-length c = search needs
 
--- src/lib.rt:272:1
 returns : tie.Need-returns
 returns c = search needs
 

@@ -4,41 +4,28 @@ use Rattle.forecast_plan.proofs.Holding.{ready-none, ready-low, ready-c
 use borrow.Author.Needs.{needs}
 use Rattle.forecast_plan.proofs.hold_of.Statement.{statement}
 use Rattle.forecast_plan.proofs.hold_of.Tie as tie
-use Rattle.forecast_plan.proofs.hold_of.Reads as reads
-use Rattle.forecast_plan.proofs.hold_of.Lts as lts
-use Rattle.day.proofs.wide.Reads as wide-reads
-use Rattle.forecast_plan.proofs.last_of.Reads as last-of-reads
-use Rattle.forecast_plan.proofs.least_hold.Reads as least-hold-reads
-use Rattle.forecast_plan.proofs.weigh_air.Reads as weigh-air-reads
 
--- src/lib.rt:231:9
 wide-requires : tie.Need-wide-requires
 wide-requires c κs = search needs
 
--- src/lib.rt:233:56
 slice-aggregate-weigh-air : tie.Need-slice-aggregate-weigh-air
 slice-aggregate-weigh-air c = search needs
 
--- src/lib.rt:233:5
 weigh-air-requires : tie.Need-weigh-air-requires
 weigh-air-requires c κs = ready-none (c .before .before .before .before .before .pre) (c .before .wide .ensures)
 
--- src/lib.rt:234:27
 slice-aggregate-least-hold : tie.Need-slice-aggregate-least-hold
 slice-aggregate-least-hold c = search needs
 
--- src/lib.rt:234:33
 last-of-requires : tie.Need-last-of-requires
 last-of-requires c κs = search needs
 
--- src/lib.rt:234:5
 least-hold-requires : tie.Need-least-hold-requires
 least-hold-requires c κs =
     let at-weigh-air = c .before .before .before in
     let at-wide = at-weigh-air .before .before in
     ready-low (at-wide .before .before .before .before .pre) (at-wide .wide .ensures) (c .last-of .ensures) (at-weigh-air .weigh-air .ensures)
 
--- src/lib.rt:220:1
 returns : tie.Need-returns
 returns c =
     let at-last-of = c .before in

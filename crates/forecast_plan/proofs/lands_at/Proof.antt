@@ -4,41 +4,30 @@ use Rattle.forecast_plan.proofs.Landing.{room-here, room-further}
 use borrow.Author.Needs.{needs}
 use Rattle.forecast_plan.proofs.lands_at.Statement.{statement}
 use Rattle.forecast_plan.proofs.lands_at.Tie as tie
-use Rattle.forecast_plan.proofs.lands_at.Reads as reads
-use Rattle.forecast_plan.proofs.lands_at.Lts as lts
-use Rattle.day.proofs.wide.Reads as wide-reads
 
--- src/lib.rt:112:8
 mul-if1 : tie.Need-mul-if1
 mul-if1 c = search needs
 
--- src/lib.rt:112:8
 shared-slice-read-if1 : tie.Need-shared-slice-read-if1
 shared-slice-read-if1 c = search needs
 
--- src/lib.rt:112:33
 sub-wide : tie.Need-sub-wide
 sub-wide c = search needs
 
--- src/lib.rt:112:24
 mul-wide : tie.Need-mul-wide
 mul-wide c = search needs
 
--- src/lib.rt:112:24
 shared-slice-read-wide : tie.Need-shared-slice-read-wide
 shared-slice-read-wide c = search needs
 
--- src/lib.rt:112:19
 wide-requires : tie.Need-wide-requires
 wide-requires c κs = search needs
 
--- src/lib.rt:113:9
 returns : tie.Need-returns
 returns c =
     let at-start = c .before .before .before .before .before .before in
     room-here _ _ (at-start .pre .0) (at-start .pre .1) (c .before .wide .ensures) (c .if1 .taken)
 
--- src/lib.rt:108:1
 returns-2 : tie.Need-returns-2
 returns-2 c =
     let at-start = c .before .before .before .before .before .before in

@@ -1,6 +1,6 @@
 -- The best is the least of the holds looked at.
 -- Assumes nothing.
-use mathlib.Core.Path.{_≡_, ap, sym, _∙_}
+use mathlib.Core.Path.{_≡_, ap}
 use Prim.Native.Nat.{_-_, _≤_}
 use native.Mathlib.Omega.{arith}
 use borrow.Author.Needs.{needs}
@@ -9,11 +9,6 @@ use Rattle.forecast_plan.specs.Loop.{weighed, Chooses}
 use Rattle.forecast_plan.proofs.Choosing.{chooses-none, chooses-next, low-cost}
 use Rattle.forecast_plan.proofs.least_hold.Statement.{statement}
 use Rattle.forecast_plan.proofs.least_hold.Tie as tie
-use Rattle.forecast_plan.proofs.least_hold.Reads as reads
-use Rattle.forecast_plan.proofs.least_hold.Lts as lts
-use Rattle.day.proofs.wide.Reads as wide-reads
-use Rattle.forecast_plan.proofs.cheaper.Reads as cheaper-reads
-use Rattle.forecast_plan.proofs.cost_in.Reads as cost-in-reads
 
 abbrev Inv-loop : tie.InvT-loop
 Inv-loop f factor air last longest hold₀ best₀ hold best =
@@ -22,45 +17,35 @@ Inv-loop f factor air last longest hold₀ best₀ hold best =
 abbrev μ-loop : tie.MeasureT-loop
 μ-loop f factor air last longest hold₀ best₀ hold best = longest - hold
 
--- src/lib.rt:185:26
 wide-requires : tie.Need-wide-requires Inv-loop μ-loop
 wide-requires c κs = search needs
 
--- src/lib.rt:185:19
 sub-longest : tie.Need-sub-longest Inv-loop μ-loop
 sub-longest c = search needs
 
--- src/lib.rt:189:15
 cost-in-requires : tie.Need-cost-in-requires Inv-loop μ-loop
 cost-in-requires c κs = low-cost (c .before .before .pre) (omega arith)
 
--- src/lib.rt:191:5
 loop-holds : tie.Need-loop-holds Inv-loop μ-loop
 loop-holds c = (ap (λ x. c .before .before .before .args .last - x) (c .before .wide .ensures), omega arith, chooses-none (c .cost-in .ensures))
 
--- src/lib.rt:192:9
 add-hold : tie.Need-add-hold Inv-loop μ-loop
 add-hold c = search needs
 
--- src/lib.rt:195:19
 cost-in-requires-2 : tie.Need-cost-in-requires-2 Inv-loop μ-loop
 cost-in-requires-2 c κs = low-cost (c .before .before .before .before .before .pre) (omega (arith, c .before .loop .inv .0, c .loop-test .taken))
 
--- src/lib.rt:197:9
 cheaper-requires : tie.Need-cheaper-requires Inv-loop μ-loop
 cheaper-requires c κs = search needs
 
--- src/lib.rt:191:5
 loop-less : tie.Need-loop-less Inv-loop μ-loop
 loop-less c = search needs
 
--- src/lib.rt:191:5
 loop-again : tie.Need-loop-again Inv-loop μ-loop
 loop-again c =
     let at-loop = c .before .before .before in
     (at-loop .loop .inv .0, omega arith, chooses-next (at-loop .loop .inv .2) (c .before .cost-in2 .ensures) (c .cheaper .ensures))
 
--- src/lib.rt:181:1
 returns : tie.Need-returns Inv-loop μ-loop
 returns c =
     let at-loop = c .before in

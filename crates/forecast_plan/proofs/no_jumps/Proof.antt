@@ -5,10 +5,6 @@ use borrow.Author.Needs.{needs}
 use Rattle.forecast_plan.proofs.Tests.{Plain, plain-none, plain-there, plain-jump, plain-next, plain-all}
 use Rattle.forecast_plan.proofs.no_jumps.Statement.{statement}
 use Rattle.forecast_plan.proofs.no_jumps.Tie as tie
-use Rattle.forecast_plan.proofs.no_jumps.Reads as reads
-use Rattle.forecast_plan.proofs.no_jumps.Lts as lts
-use Rattle.day.proofs.flight_at.Reads as flight-at-reads
-use Rattle.day.proofs.flight_count.Reads as flight-count-reads
 
 abbrev Inv-loop : tie.InvT-loop
 Inv-loop flights n i₀ i = Plain flights n i
@@ -16,35 +12,27 @@ Inv-loop flights n i₀ i = Plain flights n i
 abbrev μ-loop : tie.MeasureT-loop
 μ-loop flights n i₀ i = n - i
 
--- src/lib.rt:301:9
 flight-count-requires : tie.Need-flight-count-requires Inv-loop μ-loop
 flight-count-requires c κs = search needs
 
--- src/lib.rt:303:5
 loop-holds : tie.Need-loop-holds Inv-loop μ-loop
 loop-holds c = plain-none (c .flight-count .ensures)
 
--- src/lib.rt:304:16
 flight-at-requires : tie.Need-flight-at-requires Inv-loop μ-loop
 flight-at-requires c κs = plain-there (c .before .loop .inv) (c .loop-test .taken)
 
--- src/lib.rt:305:13
 returns : tie.Need-returns Inv-loop μ-loop
 returns c = plain-jump (c .before .before .before .before .loop .inv) (c .before .before .before .loop-test .taken) (c .before .before .flight-at .ensures) (c .if1 .taken)
 
--- src/lib.rt:307:9
 add-i : tie.Need-add-i Inv-loop μ-loop
 add-i c = search needs
 
--- src/lib.rt:303:5
 loop-less : tie.Need-loop-less Inv-loop μ-loop
 loop-less c = search needs
 
--- src/lib.rt:303:5
 loop-again : tie.Need-loop-again Inv-loop μ-loop
 loop-again c = plain-next (c .before .before .before .before .loop .inv) (c .before .before .before .loop-test .taken) (c .before .before .flight-at .ensures) (c .if1 .left)
 
--- src/lib.rt:298:1
 returns-2 : tie.Need-returns-2 Inv-loop μ-loop
 returns-2 c = plain-all (c .before .loop .inv) (c .loop-test .left)
 

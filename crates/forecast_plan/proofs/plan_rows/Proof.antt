@@ -9,44 +9,32 @@ use Rattle.forecast_plan.proofs.Calls.{terms-to, bad-holds, bad-weights
 use borrow.Author.Needs.{needs}
 use Rattle.forecast_plan.proofs.plan_rows.Statement.{statement}
 use Rattle.forecast_plan.proofs.plan_rows.Tie as tie
-use Rattle.forecast_plan.proofs.plan_rows.Reads as reads
-use Rattle.forecast_plan.proofs.plan_rows.Lts as lts
-use Rattle.day.proofs.flight_count.Reads as flight-count-reads
-use Rattle.forecast_plan.proofs.forecasts_fit.Reads as forecasts-fit-reads
-use Rattle.forecast_plan.proofs.hold_flights.Reads as hold-flights-reads
 
--- src/lib.rt:364:9
 flight-count-requires : tie.Need-flight-count-requires
 flight-count-requires c κs = search needs
 
--- src/lib.rt:366:9
 returns : tie.Need-returns
 returns c = says (bad-holds _ _ _ (c .before .flight-count .ensures) (c .if1 .taken))
 
--- src/lib.rt:369:9
 returns-2 : tie.Need-returns-2
 returns-2 c = says (bad-weights _ _ _ (c .before .before .flight-count .ensures) (c .before .if1 .left) (c .if2 .taken))
 
--- src/lib.rt:371:19
 mul-entries : tie.Need-mul-entries
 mul-entries c =
     let at-start = c .before .before .before .before .before .before .before .before in
     omega (arith, entries-fit (lent (at-start .args .capacities) (at-start .args .flights)) (at-start .args .count) (at-start .args .factor) (at-start .pre .0) (at-start .pre .1))
 
--- src/lib.rt:373:9
 returns-3 : tie.Need-returns-3
 returns-3 c =
     let at-if2 = c .before in
     let at-if1 = at-if2 .before in
     says (bad-rows _ _ _ (at-if1 .before .flight-count .ensures) (at-if1 .if1 .left) (at-if2 .if2 .left) (c .if3 .taken))
 
--- src/lib.rt:375:9
 forecasts-fit-requires : tie.Need-forecasts-fit-requires
 forecasts-fit-requires c κs =
     let at-start = c .before .before .before .before .before .before .before .before .before in
     omega (arith, c .before .if2 .left, terms-to _ (at-start .args .count) (at-start .args .factor) (at-start .pre .1) .1)
 
--- src/lib.rt:376:9
 returns-4 : tie.Need-returns-4
 returns-4 c =
     let at-fit = c .before in
@@ -55,7 +43,6 @@ returns-4 c =
     let at-if1 = at-if2 .before in
     says (bad-forecasts _ _ _ (at-if1 .before .flight-count .ensures) (at-if1 .if1 .left) (at-if2 .if2 .left) (at-if3 .if3 .left) (sym (at-fit .forecasts-fit .ensures) ∙ not-true _ (c .if4 .taken)))
 
--- src/lib.rt:379:16
 hold-flights-requires : tie.Need-hold-flights-requires
 hold-flights-requires c κs =
     let at-if4 = c .before in
@@ -66,11 +53,9 @@ hold-flights-requires c κs =
     let at-start = at-if1 .before .before .before .before .before .before .before in
     (all-fits _ _ _ _ _ (at-start .pre .0) (at-start .pre .1) (at-if2 .if2 .left) (at-if3 .if3 .left) (sym (at-fit .forecasts-fit .ensures) ∙ not-false _ (at-if4 .if4 .left)), at-if1 .if1 .left ∙ at-if1 .before .flight-count .ensures)
 
--- src/lib.rt:351:1
 same-length : tie.Need-same-length
 same-length c = search needs
 
--- src/lib.rt:351:1
 returns-5 : tie.Need-returns-5
 returns-5 c =
     let at-hold-flights = c .before .before in

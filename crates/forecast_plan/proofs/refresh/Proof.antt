@@ -7,10 +7,6 @@ use borrow.Author.Needs.{needs}
 use Rattle.forecast_plan.proofs.Refreshing.{Refreshed, refreshed-none, refreshed-rows, refreshed-part, refreshed-turn, refreshed-next, refreshed-all}
 use Rattle.forecast_plan.proofs.refresh.Statement.{statement}
 use Rattle.forecast_plan.proofs.refresh.Tie as tie
-use Rattle.forecast_plan.proofs.refresh.Reads as reads
-use Rattle.forecast_plan.proofs.refresh.Lts as lts
-use Rattle.forecast_plan.proofs.forecast_at.Reads as forecast-at-reads
-use Rattle.forecast_plan.proofs.waiting.Reads as waiting-reads
 
 abbrev Inv-loop : tie.InvT-loop
 Inv-loop periods count rows held waits₀ from s₀ waits s = Refreshed periods count rows held waits from s
@@ -18,51 +14,39 @@ Inv-loop periods count rows held waits₀ from s₀ waits s = Refreshed periods 
 abbrev μ-loop : tie.MeasureT-loop
 μ-loop periods count rows held waits₀ from s₀ waits s = count - s
 
--- src/lib.rt:102:5
 loop-holds : tie.Need-loop-holds Inv-loop μ-loop
 loop-holds c = refreshed-none (c .before .before .before .pre .0) (c .before .before .before .pre .1)
 
--- src/lib.rt:103:13
 forecast-at-requires : tie.Need-forecast-at-requires Inv-loop μ-loop
 forecast-at-requires c κs = refreshed-rows (c .before .loop .inv) (c .loop-test .taken)
 
--- src/lib.rt:104:21
 mul-place : tie.Need-mul-place Inv-loop μ-loop
 mul-place c = omega (arith, c .before .before .loop .inv .forecasts, c .before .loop-test .taken)
 
--- src/lib.rt:108:31
 add-waiting : tie.Need-add-waiting Inv-loop μ-loop
 add-waiting c = omega (arith, c .before .before .loop .inv .forecasts, c .before .loop-test .taken)
 
--- src/lib.rt:108:13
 mul-waiting : tie.Need-mul-waiting Inv-loop μ-loop
 mul-waiting c = omega (arith, c .before .before .loop .inv .forecasts, c .before .loop-test .taken)
 
--- src/lib.rt:108:13
 sub-waiting : tie.Need-sub-waiting Inv-loop μ-loop
 sub-waiting c = omega arith
 
--- src/lib.rt:108:13
 part-waiting-start : tie.Need-part-waiting-start Inv-loop μ-loop
 part-waiting-start c = search needs
 
--- src/lib.rt:108:13
 part-waiting-end : tie.Need-part-waiting-end Inv-loop μ-loop
 part-waiting-end c = refreshed-part (c .before .before .loop .inv) (c .before .loop-test .taken)
 
--- src/lib.rt:105:9
 waiting-requires : tie.Need-waiting-requires Inv-loop μ-loop
 waiting-requires c κs = refreshed-turn (c .before .before .before .loop .inv) (c .before .before .loop-test .taken) (c .before .forecast-at .ensures)
 
--- src/lib.rt:112:9
 add-s : tie.Need-add-s Inv-loop μ-loop
 add-s c = search needs
 
--- src/lib.rt:102:5
 loop-less : tie.Need-loop-less Inv-loop μ-loop
 loop-less c = search needs
 
--- src/lib.rt:102:5
 loop-again : tie.Need-loop-again Inv-loop μ-loop
 loop-again c =
     let at-waiting = c .before .before in
@@ -70,11 +54,9 @@ loop-again c =
     let at-loop = at-forecast-at .before .before in
     refreshed-next (at-loop .loop .inv) (at-forecast-at .before .loop-test .taken) (at-forecast-at .forecast-at .ensures) (at-waiting .waiting .ensures .1)
 
--- src/lib.rt:89:1
 same-length : tie.Need-same-length Inv-loop μ-loop
 same-length c = c .before .loop .inv .sizes ∙ sym (c .before .before .before .before .before .pre .0 .sizes)
 
--- src/lib.rt:89:1
 returns : tie.Need-returns Inv-loop μ-loop
 returns c = refreshed-all (c .before .loop .inv) (c .loop-test .left)
 

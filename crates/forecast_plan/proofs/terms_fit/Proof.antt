@@ -6,32 +6,22 @@ use Rattle.forecast_plan.proofs.Calls.{has-jump, bad-factor, terms-coun
 use borrow.Author.Needs.{needs}
 use Rattle.forecast_plan.proofs.terms_fit.Statement.{statement}
 use Rattle.forecast_plan.proofs.terms_fit.Tie as tie
-use Rattle.forecast_plan.proofs.terms_fit.Reads as reads
-use Rattle.forecast_plan.proofs.terms_fit.Lts as lts
-use Rattle.day.proofs.is_inside.Reads as is-inside-reads
-use Rattle.forecast_plan.proofs.no_jumps.Reads as no-jumps-reads
 
--- src/lib.rt:316:9
 no-jumps-requires : tie.Need-no-jumps-requires
 no-jumps-requires c κs = search needs
 
--- src/lib.rt:317:9
 returns : tie.Need-returns
 returns c = sym (has-jump _ _ _ (sym (c .before .no-jumps .ensures) ∙ not-true _ (c .if1 .taken)))
 
--- src/lib.rt:319:9
 is-inside-requires : tie.Need-is-inside-requires
 is-inside-requires c κs = search needs
 
--- src/lib.rt:320:9
 returns-2 : tie.Need-returns-2
 returns-2 c = sym (bad-factor _ _ _ (sym (c .before .before .before .no-jumps .ensures) ∙ not-false _ (c .before .before .if1 .left)) (sym (c .before .is-inside .ensures) ∙ not-true _ (c .if2 .taken)))
 
--- src/lib.rt:322:5
 is-inside-requires-2 : tie.Need-is-inside-requires-2
 is-inside-requires-2 c κs = search needs
 
--- src/lib.rt:313:1
 returns-3 : tie.Need-returns-3
 returns-3 c = c .is-inside2 .ensures ∙ sym (terms-count _ _ _ (sym (c .before .before .before .before .no-jumps .ensures) ∙ not-false _ (c .before .before .before .if1 .left)) (sym (c .before .before .is-inside .ensures) ∙ not-false _ (c .before .if2 .left)))
 

@@ -9,11 +9,6 @@ use Rattle.forecast_plan.specs.Loop.{Weighed}
 use Rattle.forecast_plan.proofs.Air.{weighed-rows, weighed-adding, weighed-next, weighed-all}
 use Rattle.forecast_plan.proofs.weigh_air.Statement.{statement}
 use Rattle.forecast_plan.proofs.weigh_air.Tie as tie
-use Rattle.forecast_plan.proofs.weigh_air.Reads as reads
-use Rattle.forecast_plan.proofs.weigh_air.Lts as lts
-use Rattle.day.proofs.wide.Reads as wide-reads
-use Rattle.forecast_plan.proofs.add_air.Reads as add-air-reads
-use Rattle.forecast_plan.proofs.forecast_at.Reads as forecast-at-reads
 
 abbrev Inv-loop : tie.InvT-loop
 Inv-loop periods weights rows waits due air₀ s₀ air s = Weighed periods weights rows waits due air s
@@ -21,66 +16,51 @@ Inv-loop periods weights rows waits due air₀ s₀ air s = Weighed periods weig
 abbrev μ-loop : tie.MeasureT-loop
 μ-loop periods weights rows waits due air₀ s₀ air s = length weights - s
 
--- src/lib.rt:155:5
 loop-holds : tie.Need-loop-holds Inv-loop μ-loop
 loop-holds c = c .before .before .before .before .pre
 
--- src/lib.rt:156:13
 forecast-at-requires : tie.Need-forecast-at-requires Inv-loop μ-loop
 forecast-at-requires c κs = weighed-rows (c .before .loop .inv) (c .loop-test .taken)
 
--- src/lib.rt:157:21
 mul-place : tie.Need-mul-place Inv-loop μ-loop
 mul-place c = omega (arith, c .before .before .loop .inv .forecasts, c .before .loop-test .taken)
 
--- src/lib.rt:160:27
 add-add-air : tie.Need-add-add-air Inv-loop μ-loop
 add-add-air c = omega (arith, c .before .before .loop .inv .forecasts, c .before .loop-test .taken)
 
--- src/lib.rt:160:13
 mul-add-air : tie.Need-mul-add-air Inv-loop μ-loop
 mul-add-air c = omega (arith, c .before .before .loop .inv .forecasts, c .before .loop-test .taken)
 
--- src/lib.rt:160:13
 sub-add-air : tie.Need-sub-add-air Inv-loop μ-loop
 sub-add-air c = omega arith
 
--- src/lib.rt:160:13
 part-add-air-start : tie.Need-part-add-air-start Inv-loop μ-loop
 part-add-air-start c = search needs
 
--- src/lib.rt:160:13
 part-add-air-end : tie.Need-part-add-air-end Inv-loop μ-loop
 part-add-air-end c = omega (arith, c .before .before .loop .inv .waited, c .before .before .loop .inv .forecasts, c .before .loop-test .taken)
 
--- src/lib.rt:161:18
 mul-wide : tie.Need-mul-wide Inv-loop μ-loop
 mul-wide c = search needs
 
--- src/lib.rt:161:18
 shared-slice-read-wide : tie.Need-shared-slice-read-wide Inv-loop μ-loop
 shared-slice-read-wide c = search needs
 
--- src/lib.rt:161:13
 wide-requires : tie.Need-wide-requires Inv-loop μ-loop
 wide-requires c κs = search needs
 
--- src/lib.rt:158:9
 add-air-requires : tie.Need-add-air-requires Inv-loop μ-loop
 add-air-requires c κs =
     let at-forecast-at = c .before .before .before .before in
     let at-loop = at-forecast-at .before .before in
     weighed-adding (at-loop .loop .inv) (at-forecast-at .before .loop-test .taken) (at-forecast-at .forecast-at .ensures) (c .before .wide .ensures)
 
--- src/lib.rt:165:9
 add-s : tie.Need-add-s Inv-loop μ-loop
 add-s c = search needs
 
--- src/lib.rt:155:5
 loop-less : tie.Need-loop-less Inv-loop μ-loop
 loop-less c = search needs
 
--- src/lib.rt:155:5
 loop-again : tie.Need-loop-again Inv-loop μ-loop
 loop-again c =
     let at-add-air = c .before .before in
@@ -89,11 +69,9 @@ loop-again c =
     let at-loop = at-forecast-at .before .before in
     weighed-next (at-loop .loop .inv) (at-forecast-at .before .loop-test .taken) (at-forecast-at .forecast-at .ensures) (at-wide .wide .ensures) (at-add-air .add-air .ensures)
 
--- src/lib.rt:143:1
 same-length : tie.Need-same-length Inv-loop μ-loop
 same-length c = c .before .loop .inv .sizes ∙ sym (c .before .before .before .before .before .before .pre .sizes)
 
--- src/lib.rt:143:1
 returns : tie.Need-returns Inv-loop μ-loop
 returns c = weighed-all (c .before .loop .inv) (c .loop-test .left)
 

@@ -7,9 +7,6 @@ use borrow.Author.Needs.{needs}
 use Rattle.forecast_plan.proofs.Tests.{Summed, summed-none, summed-next, summed-all}
 use Rattle.forecast_plan.proofs.weight_sum.Statement.{statement}
 use Rattle.forecast_plan.proofs.weight_sum.Tie as tie
-use Rattle.forecast_plan.proofs.weight_sum.Reads as reads
-use Rattle.forecast_plan.proofs.weight_sum.Lts as lts
-use Rattle.day.proofs.wide.Reads as wide-reads
 
 abbrev Inv-loop : tie.InvT-loop
 Inv-loop weights sum₀ s₀ sum s = Summed weights sum s
@@ -17,43 +14,34 @@ Inv-loop weights sum₀ s₀ sum s = Summed weights sum s
 abbrev μ-loop : tie.MeasureT-loop
 μ-loop weights sum₀ s₀ sum s = length weights - s
 
--- src/lib.rt:332:5
 loop-holds : tie.Need-loop-holds Inv-loop μ-loop
 loop-holds c = summed-none (c .before .pre)
 
--- src/lib.rt:333:21
 mul-wide : tie.Need-mul-wide Inv-loop μ-loop
 mul-wide c = search needs
 
--- src/lib.rt:333:21
 shared-slice-read-wide : tie.Need-shared-slice-read-wide Inv-loop μ-loop
 shared-slice-read-wide c = search needs
 
--- src/lib.rt:333:16
 wide-requires : tie.Need-wide-requires Inv-loop μ-loop
 wide-requires c κs = search needs
 
--- src/lib.rt:333:9
 add-sum : tie.Need-add-sum Inv-loop μ-loop
 add-sum c =
     let at-loop = c .before .before .before in
     omega (arith, at-loop .loop .inv .most, at-loop .loop .inv .few, at-loop .loop .inv .upto, c .wide .ensures, c .before .shared-slice-known2 .given (at-loop .loop .s))
 
--- src/lib.rt:334:9
 add-s : tie.Need-add-s Inv-loop μ-loop
 add-s c = search needs
 
--- src/lib.rt:332:5
 loop-less : tie.Need-loop-less Inv-loop μ-loop
 loop-less c = search needs
 
--- src/lib.rt:332:5
 loop-again : tie.Need-loop-again Inv-loop μ-loop
 loop-again c =
     let at-loop = c .before .before .before in
     summed-next (at-loop .loop .inv) (c .before .before .loop-test .taken) (c .wide .ensures) (omega (arith, c .wide .ensures, c .before .shared-slice-known2 .given (at-loop .loop .s)))
 
--- src/lib.rt:326:1
 returns : tie.Need-returns Inv-loop μ-loop
 returns c = summed-all (c .before .loop .inv) (c .loop-test .left)
 
