@@ -241,6 +241,69 @@ static void rows(void)
     board_order();
 }
 
+/* The report's example (section 3.2), its flights from its 4 down to its 1; the day's own capacities, all 0, play no part. */
+static const uint32_t CLOSED[] = { 0, 0, 0, 0 };
+static const uint32_t REPORTED[] = {
+    4, 2, 10, 0, 0, HOLD_DESK_NO_LIMIT, 0, 3, 1, 5, 0, 0, HOLD_DESK_NO_LIMIT, 0,
+    2, 1, 10, 0, 0, HOLD_DESK_NO_LIMIT, 0, 1, 3, 10, 0, 0, HOLD_DESK_NO_LIMIT, 0
+};
+static const uint32_t ODDS[] = { 400, 600 }, ONE_OR_TWO[] = { 1, 1, 1, 1, 2, 2, 2, 2 };
+enum { REPORTED_ENTRIES = 4 * HOLD_DESK_FLIGHT_WIDTH };
+
+static void forecasts(void)
+{
+    const uint32_t reversed[] = { 600, 400 }, none_held[] = { 0, 0, 0, 0 }, two_held[] = { 0, 0, 2, 1 };
+    uint32_t holds[5];
+    mark(holds, 5);
+    expect_answer("forecast_plan", hold_desk_forecast_plan(CLOSED, 4, REPORTED, REPORTED_ENTRIES, 2, 2, ODDS, 2, ONE_OR_TWO, 8, holds, 4), HOLD_DESK_ACCEPTED, 24000, 0);
+    expect_row("forecast_plan's holds", holds, none_held, 4);
+    expect_answer("forecast_plan with the odds reversed", hold_desk_forecast_plan(CLOSED, 4, REPORTED, REPORTED_ENTRIES, 2, 2, reversed, 2, ONE_OR_TWO, 8, holds, 4), HOLD_DESK_ACCEPTED, 30000, 0);
+    expect_row("forecast_plan's holds with the odds reversed", holds, two_held, 4);
+    expect_marked("forecast_plan changes the entry after the row", holds, 4, 5);
+    expect_answer("forecast_plan of no flights", hold_desk_forecast_plan(CLOSED, 4, NULL, 0, 2, 2, ODDS, 2, ONE_OR_TWO, 8, NULL, 0), HOLD_DESK_ACCEPTED, 0, 0);
+}
+
+/* Each refusal, with those that come after it where that can be. */
+static void forecasts_refused(void)
+{
+    const uint32_t short_odds[] = { 400, 599 }, wrapping[] = { UINT32_MAX, 1001 }, idle[] = { 1000, 0 };
+    uint32_t holds[5], jumping[REPORTED_ENTRIES], high[8];
+    memcpy(jumping, REPORTED, sizeof jumping);
+    memcpy(high, ONE_OR_TWO, sizeof high);
+    jumping[3 * HOLD_DESK_FLIGHT_WIDTH + HOLD_DESK_JUMP] = 1;
+    high[7] = 256;
+    mark(holds, 5);
+    expect_answer("forecast_plan of a bad day", hold_desk_forecast_plan(CLOSED, 4, REPORTED, REPORTED_ENTRIES - 1, 0, 2, ODDS, 2, ONE_OR_TWO, 8, holds, 4), HOLD_DESK_BAD_DAY, 0, 0);
+    expect_answer("forecast_plan of no forecasts", hold_desk_forecast_plan(CLOSED, 4, REPORTED, REPORTED_ENTRIES, 0, 2, NULL, 0, NULL, 0, holds, 4), HOLD_DESK_BAD_TERMS, 0, 0);
+    expect_answer("forecast_plan of 9 forecasts", hold_desk_forecast_plan(CLOSED, 4, REPORTED, REPORTED_ENTRIES, HOLD_DESK_MOST_FORECASTS + 1, 2, ODDS, 2, ONE_OR_TWO, 8, holds, 4), HOLD_DESK_BAD_TERMS, 0, 0);
+    expect_answer("forecast_plan of air factor 0", hold_desk_forecast_plan(CLOSED, 4, REPORTED, REPORTED_ENTRIES, 2, 0, ODDS, 2, ONE_OR_TWO, 8, holds, 3), HOLD_DESK_BAD_TERMS, 0, 0);
+    expect_answer("forecast_plan of air factor 11", hold_desk_forecast_plan(CLOSED, 4, REPORTED, REPORTED_ENTRIES, 2, HOLD_DESK_MOST_AIR_FACTOR + 1, ODDS, 2, ONE_OR_TWO, 8, holds, 4), HOLD_DESK_BAD_TERMS, 0, 0);
+    expect_answer("forecast_plan of a jump", hold_desk_forecast_plan(CLOSED, 4, jumping, REPORTED_ENTRIES, 2, 2, ODDS, 2, ONE_OR_TWO, 7, holds, 4), HOLD_DESK_BAD_TERMS, 0, 0);
+    expect_answer("forecast_plan of a longer hold row", hold_desk_forecast_plan(CLOSED, 4, REPORTED, REPORTED_ENTRIES, 2, 2, ODDS, 1, ONE_OR_TWO, 8, holds, 5), HOLD_DESK_BAD_LENGTH, 4, 0);
+    expect_answer("forecast_plan of a shorter weight row", hold_desk_forecast_plan(CLOSED, 4, REPORTED, REPORTED_ENTRIES, 2, 2, ODDS, 1, ONE_OR_TWO, 4, holds, 4), HOLD_DESK_BAD_LENGTH, 2, 0);
+    expect_answer("forecast_plan of a shorter forecast row", hold_desk_forecast_plan(CLOSED, 4, REPORTED, REPORTED_ENTRIES, 2, 2, short_odds, 2, ONE_OR_TWO, 7, holds, 4), HOLD_DESK_BAD_LENGTH, 8, 0);
+    expect_answer("forecast_plan of weights of 999", hold_desk_forecast_plan(CLOSED, 4, REPORTED, REPORTED_ENTRIES, 2, 2, short_odds, 2, ONE_OR_TWO, 8, holds, 4), HOLD_DESK_BAD_FORECASTS, 0, 0);
+    expect_answer("forecast_plan of weights of 2^32 + 1,000", hold_desk_forecast_plan(CLOSED, 4, REPORTED, REPORTED_ENTRIES, 2, 2, wrapping, 2, ONE_OR_TWO, 8, holds, 4), HOLD_DESK_BAD_FORECASTS, 0, 0);
+    expect_answer("forecast_plan of capacity 256", hold_desk_forecast_plan(CLOSED, 4, REPORTED, REPORTED_ENTRIES, 2, 2, ODDS, 2, high, 8, holds, 4), HOLD_DESK_BAD_FORECASTS, 0, 0);
+    expect_answer("forecast_plan of capacity 256 with weight 0", hold_desk_forecast_plan(CLOSED, 4, REPORTED, REPORTED_ENTRIES, 2, 2, idle, 2, high, 8, holds, 4), HOLD_DESK_BAD_FORECASTS, 0, 0);
+    expect_marked("forecast_plan's refusals change the hold row", holds, 0, 5);
+}
+
+/* The largest expected total: nobody may be held, and nobody lands before the closing period. */
+static void dearest_forecasts(void)
+{
+    static uint32_t c[HOLD_DESK_MOST_PERIODS], f[HOLD_DESK_FLIGHT_ROW], holds[HOLD_DESK_MOST_FLIGHTS];
+    static uint32_t weights[HOLD_DESK_MOST_FORECASTS], closed[HOLD_DESK_MOST_FORECASTS * HOLD_DESK_MOST_PERIODS];
+    for (uint32_t i = 0; i < HOLD_DESK_MOST_FLIGHTS; i++) {
+        uint32_t *flight = f + i * HOLD_DESK_FLIGHT_WIDTH;
+        flight[HOLD_DESK_FLIGHT_NUMBER] = 1 + i;
+        flight[HOLD_DESK_DUE] = 1;
+        flight[HOLD_DESK_RATE] = 10000;
+    }
+    for (size_t s = 0; s < HOLD_DESK_MOST_FORECASTS; s++) weights[s] = HOLD_DESK_ALL_WEIGHTS / HOLD_DESK_MOST_FORECASTS;
+    expect_answer("forecast_plan of the largest total", hold_desk_forecast_plan(c, HOLD_DESK_MOST_PERIODS, f, HOLD_DESK_FLIGHT_ROW, HOLD_DESK_MOST_FORECASTS, HOLD_DESK_MOST_AIR_FACTOR, weights, HOLD_DESK_MOST_FORECASTS, closed, HOLD_DESK_MOST_FORECASTS * HOLD_DESK_MOST_PERIODS, holds, HOLD_DESK_MOST_FLIGHTS), HOLD_DESK_ACCEPTED, HOLD_DESK_MOST_EXPECTED, 0);
+}
+
 /* Days of full size: the largest total, the longest plan's text and the longest sheet, of 4,813 bytes. */
 static void largest(void)
 {
@@ -281,6 +344,9 @@ int main(void)
     savings();
     delays();
     rows();
+    forecasts();
+    forecasts_refused();
+    dearest_forecasts();
     largest();
     return 0;
 }

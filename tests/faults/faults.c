@@ -10,7 +10,7 @@ _Thread_local bool plain;
 
 static const char *const fault_names[] = { "", FAULT_NAMES };
 static const char *const rule_names[] = { "", RULE_NAMES };
-static const char *const call_names[] = { "read_", "write_", "quick_", "card_", "full_", "check_", "choice_", "board_", "text_" };
+static const char *const call_names[] = { "read_", "write_", "quick_", "card_", "full_", "check_", "choice_", "board_", "text_", "forecast_" };
 
 /* Before main: a name that is not listed stops the program. */
 __attribute__((constructor)) static void choose_fault(void)
@@ -19,7 +19,7 @@ __attribute__((constructor)) static void choose_fault(void)
     if (name == NULL) return;
     for (size_t k = 1; k < sizeof fault_names / sizeof *fault_names; k++)
         if (strcmp(name, fault_names[k]) == 0) the_fault = (enum fault)k;
-    for (int call = READ; call <= TEXT; call++) {
+    for (int call = READ; call <= FORECAST; call++) {
         size_t length = strlen(call_names[call]);
         if (strncmp(name, call_names[call], length) != 0) continue;
         the_call = (enum call)call;

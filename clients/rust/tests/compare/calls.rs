@@ -1,7 +1,8 @@
-//! Each exported call compared with what document 01 says of it: the answer, and every lent row afterwards.
-//! A call is given rows of any content and length; the refusals that apply are listed in document 01's order, and the first is
-//! the answer.
+//! Each exported call compared with what document 01, or 02 for the forecast plan, says of it: the answer, and every lent row
+//! afterwards. A call is given rows of any content and length; the refusals that apply are listed in the document's order, and the
+//! first is the answer.
 use crate::day::{plain_read, Day, Rows, FLIGHTS, FLIGHT_ROW, PERIODS, WIDTH};
+use crate::forecasts::{choices_by_places, choices_by_queues, met, met_in_refusal, Terms};
 use crate::planners::{accepts, least_by_moves, quick_by_sorting, savings_by_moves, savings_by_planning, short_stretch};
 use crate::seed::Seed;
 use hold_desk_client::*;
@@ -275,6 +276,39 @@ impl Run {
         want.sort_by_key(stands);
         places.expect(0, &want);
         self.reach_board(&day, &want.iter().map(stands).collect::<Vec<_>>());
+    }
+
+    pub fn forecast(&mut self, rows: &Rows, terms: &Terms) {
+        let mut holds = Lent::new(&self.seed, terms.holds);
+        let got = reading(rows, &[&terms.weights, &terms.forecasts], || forecast_plan(&rows.capacities, &rows.flights, terms.count, terms.air_factor, &terms.weights, &terms.forecasts, holds.row()));
+        let refusals = terms.refusals(rows);
+        if let Some(&(_, refusal)) = refusals.first() {
+            assert_eq!(got, refusal, "{refusals:?} {rows:?} {terms:?}");
+            holds.expect_kept();
+            return self.reach_reasons(rows, terms, &refusals);
+        }
+        let day = rows.day().unwrap();
+        let choices = choices_by_queues(&day, terms);
+        if day.periods() <= 5 || self.seed.one_in(4) {
+            assert_eq!(choices, choices_by_places(&day, terms), "the two simulations here");
+        }
+        let total = choices.iter().map(|choice| choice.costs[choice.hold as usize]).sum();
+        assert_eq!(got, answer(0, total, 0), "{rows:?} {terms:?}");
+        holds.expect(0, &choices.iter().map(|choice| choice.hold).collect::<Vec<_>>());
+        for what in met(&day, terms, &choices, total) {
+            self.reach(format!("forecast plan, {what}"));
+        }
+    }
+
+    /// The reason that was given, before each of the others; and what it was, if no other reason has its answer.
+    fn reach_reasons(&mut self, rows: &Rows, terms: &Terms, refusals: &[(&str, Answer)]) {
+        let (why, refusal) = refusals[0];
+        for (other, _) in &refusals[1..] {
+            self.reach(format!("forecast plan, {why} before {other}"));
+        }
+        if refusals.iter().filter(|(_, other)| *other == refusal).count() == 1 {
+            self.reach(format!("forecast plan, {}", met_in_refusal(rows, terms, why)));
+        }
     }
 
     /// What a board has side by side: flights that land together, by due period, by table place or both.

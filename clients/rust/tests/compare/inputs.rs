@@ -26,7 +26,7 @@ fn numbers(seed: &Seed, count: u64) -> Vec<u32> {
     numbers
 }
 
-fn capacities(seed: &Seed, periods: u64, count: u64) -> Vec<u32> {
+pub fn capacities(seed: &Seed, periods: u64, count: u64) -> Vec<u32> {
     let most = seed.pick(&[0, 1, 3, count / periods + 1, 2 * count / periods + 1, 255]).min(255);
     let mixed = seed.one_in(2);
     (0..periods).map(|_| if mixed && seed.one_in(8) { seed.edged(0, 255) } else { seed.edged(0, most) }).collect()

@@ -3,13 +3,16 @@
 //! what it must have reached, so that a comparison that no longer reaches it fails.
 mod calls;
 mod day;
+mod forecast_inputs;
+mod forecasts;
 mod inputs;
 mod planners;
 mod seed;
 
 use calls::{answer, Run};
 use day::{plain_read, Day, Rows, FLIGHT_ROW, PERIODS, WIDTH};
-use hold_desk_client::{period_card, quick_plan};
+use forecasts::Terms;
+use hold_desk_client::{forecast_plan, period_card, quick_plan};
 use planners::{least_by_moves, least_by_trial, quick_by_sorting, savings_by_moves, savings_by_planning};
 use seed::days;
 
@@ -83,6 +86,21 @@ fn every_call_of_a_day(run: &mut Run, day: &Day) {
         let mut spoiled = rows.clone();
         inputs::spoil(&run.seed, &mut spoiled);
         every_call(run, &spoiled, &holds, &prices);
+    }
+}
+
+/// The forecast plan of a day, so often as it is and so often spoiled, with terms that fit or with something wrong in them.
+fn forecasts_of_a_day(run: &mut Run, day: &Day, times: u64) {
+    for call in 0..2 * times {
+        let mut rows = day.rows();
+        if call % 2 == 1 {
+            inputs::spoil(&run.seed, &mut rows);
+        }
+        let mut terms = forecast_inputs::some_terms(&run.seed, &rows);
+        for _ in 0..run.seed.pick(&[0, 0, 0, 1, 1, 2, 3]) {
+            forecast_inputs::spoil(&run.seed, &mut rows, &mut terms);
+        }
+        run.forecast(&rows, &terms);
     }
 }
 
@@ -165,6 +183,56 @@ const SIZES: [&str; 16] = [
     "board of 128 flights, due against table order in the closing period",
 ];
 
+/// What the forecast plan must have met: every count and air factor, what can happen to a flight, and every refusal at its edges.
+#[rustfmt::skip]
+const FORECASTS: [&str; 77] = [
+    "count 1", "count 2", "count 3", "count 4", "count 5", "count 6", "count 7", "count 8",
+    "air factor 1", "air factor 2", "air factor 3", "air factor 4", "air factor 5",
+    "air factor 6", "air factor 7", "air factor 8", "air factor 9", "air factor 10",
+    "a forecast of weight 0", "two forecasts, two landings", "limit 0", "limit 96", "no limit", "no flight",
+    "held", "held to the closing period", "held, with a late and an after", "held, and in the air besides",
+    "held as long as the limit allows", "the limit stops a hold that costs less",
+    "two holds cost the least", "the cost rises before it falls to the least",
+    "in the air to a numbered period", "in the air to the closing period", "in the air for several periods",
+    "in the air over a closed period", "in the air over a full period",
+    "no day", "a jump of the first flight", "a jump of a flight between", "a jump of the last flight",
+    "an air factor of 0", "an air factor of 11", "an air factor of more", "a count of 0", "a count of 9", "a count of more",
+    "a hold row of none", "a hold row one shorter", "a hold row one longer", "a hold row shorter", "a hold row longer",
+    "a weight row of none", "a weight row one shorter", "a weight row one longer", "a weight row shorter", "a weight row longer",
+    "a forecast row of none", "a forecast row one shorter", "a forecast row one longer",
+    "a forecast row for another count", "a forecast row for another P",
+    "weights of 999", "weights of 1,001", "weights of 1,000 in 32 bits", "weights of 1,000 in 16 bits",
+    "weights of less", "weights of more", "weights of more by one alone",
+    "a forecast capacity of 256 at the first place", "a forecast capacity above at the first place",
+    "a forecast capacity of 256 between", "a forecast capacity above between",
+    "a forecast capacity of 256 at the last place", "a forecast capacity above at the last place",
+    "a forecast capacity of 256 between, of weight 0", "a forecast capacity above between, of weight 0",
+];
+
+const FORECAST_SIZES: [&str; 8] = [
+    "96 periods, 128 flights and 8 forecasts",
+    "in the air from table place 64 on",
+    "the 128th flight in the air",
+    "held for more than 64 periods",
+    "a total above 2^32",
+    "a total above 2^40",
+    "a total of 1,228,800,000,000",
+    "no day",
+];
+
+/// Each reason for a refusal before each other, where their order can be seen.
+fn orders() -> Vec<String> {
+    let reasons = forecasts::REASONS;
+    let later = |one: usize| reasons[one..].iter().filter(move |&&other| forecasts::apart(reasons[one], other));
+    (0..reasons.len()).flat_map(|one| later(one).map(move |other| format!("{} before {}", reasons[one].0, other.0))).collect()
+}
+
+/// What `must_reach` asks, of the forecast plan.
+fn must_meet(run: &Run, least: u64, wanted: &[&str], orders: &[String]) {
+    let all: Vec<String> = wanted.iter().copied().chain(orders.iter().map(String::as_str)).map(|what| format!("forecast plan, {what}")).collect();
+    must_reach(run, least, &all.iter().map(String::as_str).collect::<Vec<_>>());
+}
+
 #[rustfmt::skip]
 const READER: [&str; 11] = [
     "reader []", "reader [1]", "reader [2]", "reader [3]", "reader [4]", "reader [5]",
@@ -201,6 +269,35 @@ fn large_days() {
     must_reach(&run, 5, &SIZES);
     must_reach(&run, 5, &DELAYS);
     must_reach(&run, 5, &PRICES);
+}
+
+#[test]
+fn small_days_with_forecasts() {
+    let mut run = Run::of(5);
+    for _ in 0..days() * 2 {
+        let day = forecast_inputs::random_day(&run.seed, 5, 6);
+        forecasts_of_a_day(&mut run, &day, 16);
+    }
+    must_meet(&run, 20, &FORECASTS, &orders());
+}
+
+#[test]
+fn large_days_with_forecasts() {
+    let mut run = Run::of(6);
+    for round in 0..days() / 4 {
+        let day = match round % 8 {
+            0 => {
+                let (day, terms) = forecast_inputs::dearest(&run.seed);
+                run.forecast(&day.rows(), &terms);
+                day
+            }
+            1 => forecast_inputs::without_jumps(inputs::day_open_at_its_end(&run.seed)),
+            2..=4 => forecast_inputs::day_of_size(&run.seed, 96, 128),
+            _ => forecast_inputs::random_day(&run.seed, 96, 128),
+        };
+        forecasts_of_a_day(&mut run, &day, 5);
+    }
+    must_meet(&run, 5, &FORECAST_SIZES, &[]);
 }
 
 #[test]
@@ -273,5 +370,21 @@ fn the_reports_plan() {
         let marked: Vec<u32> = (0..10).filter(|i| card.low >> i & 1 == 1).map(|i| day.flights[i].number).collect();
         assert_eq!(marked, eligible[period as usize - 1]);
         assert_eq!((card.number, card.high, card.size as usize), (0, 0, marked.len()));
+    }
+}
+
+/// The report's other example (section 3.2), its flights from its 4 down to its 1, as document 02 has it: with the odds reversed
+/// flight 2 is held for 2 periods, so that flight 1 is better held for 1 than kept in the air.
+#[test]
+fn the_reports_forecasts() {
+    let flights = [[4, 2, 10], [3, 1, 5], [2, 1, 10], [1, 3, 10]].map(|[number, due, rate]| [number, due, rate, 0, 0, 255, 0]).concat();
+    let mut run = Run::of(7);
+    for (weights, holds, total) in [([400, 600], [0, 0, 0, 0], 24_000), ([600, 400], [0, 0, 2, 1], 30_000)] {
+        let rows = Rows { capacities: vec![0; 4], flights: flights.clone() };
+        let terms = Terms { count: 2, air_factor: 2, weights: weights.to_vec(), forecasts: [[1; 4], [2; 4]].concat(), holds: 4 };
+        let mut got = [9; 4];
+        assert_eq!(forecast_plan(&rows.capacities, &rows.flights, 2, 2, &weights, &terms.forecasts, &mut got), answer(0, total, 0));
+        assert_eq!(got, holds);
+        run.forecast(&rows, &terms);
     }
 }
