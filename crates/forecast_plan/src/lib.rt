@@ -121,7 +121,7 @@ fn add_air(forecast: &[u32], waits: &[usize], weight: usize, due: usize, air: &m
     ensures { λ _. ⌜ Adding (now (forecast .entry)) (now (waits .entry)) weight due (now (air .entry)) (now (air .exit)) due ⌝ }
 {
     let mut j = forecast.len() + 1;
-    let mut lands = j;
+    let mut lands = forecast.len() + 1;
     while due < j {
         j -= 1;
         lands = lands_at(forecast, waits, j, lands);

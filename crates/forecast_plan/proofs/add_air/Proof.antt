@@ -22,6 +22,9 @@ abbrev μ-loop : tie.MeasureT-loop
 add-j : tie.Need-add-j Inv-loop μ-loop
 add-j c = search needs
 
+add-lands : tie.Need-add-lands Inv-loop μ-loop
+add-lands c = search needs
+
 loop-holds : tie.Need-loop-holds Inv-loop μ-loop
 loop-holds c = (sym (room-closing _ _ _ (omega arith)), c .before .before .before .pre)
 
@@ -75,6 +78,7 @@ add-air-spec =
     Inv-loop
     μ-loop
     add-j
+    add-lands
     loop-holds
     sub-j
     lands-at-requires

@@ -1,8 +1,8 @@
 -- The refusals in the order of the definition, then the plan by its rows.
 -- Assumes nothing.
 use borrow.Author.Tests.{not-true, not-false}
-use mathlib.Core.Path.{sym, ap, _∙_}
-use Rattle.answers.proofs.Outcomes.{says}
+use mathlib.Core.Path.{sym, _∙_}
+use Rattle.answers.proofs.Outcomes.{says, says-as}
 use Rattle.forecast_plan.proofs.Calls.{bad-day, bad-terms, by-rows}
 use borrow.Author.Needs.{needs}
 use Rattle.forecast_plan.proofs.forecast_plan.Statement.{statement}
@@ -45,8 +45,7 @@ returns-3 c =
     let at-if2 = at-plan-rows .before .before in
     let at-wide2 = at-if2 .before .before in
     let at-if1 = at-wide2 .before .before in
-    let way = by-rows _ _ _ (sym (at-if1 .before .is-valid .ensures) ∙ not-false _ (at-if1 .if1 .left)) (at-wide2 .before .wide .ensures) (at-wide2 .wide2 .ensures) (sym (at-if2 .before .terms-fit .ensures) ∙ not-false _ (at-if2 .if2 .left)) in
-    (at-plan-rows .plan-rows .ensures .0 ∙ ap (λ o. o .answer) (sym way), at-plan-rows .plan-rows .ensures .1 ∙ ap (λ o. o .holds) (sym way))
+    says-as (by-rows _ _ _ (sym (at-if1 .before .is-valid .ensures) ∙ not-false _ (at-if1 .if1 .left)) (at-wide2 .before .wide .ensures) (at-wide2 .wide2 .ensures) (sym (at-if2 .before .terms-fit .ensures) ∙ not-false _ (at-if2 .if2 .left))) (at-plan-rows .plan-rows .ensures)
 
 pub forecast-plan-spec : {M : Type 1} → statement M
 forecast-plan-spec =
