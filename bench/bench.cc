@@ -1,23 +1,27 @@
-// The core beside LEMON's min-cost-flow solvers, on the same days in one run with equal repeats. Every total is compared.
-// A share is the core's time over the solver's (below 1: the core is faster), solving only and with the solver's network
-// built each time. A shared machine puts a program aside for moments and is slower for whiles. So a time is the least of a
-// few repeats, a share is of two such times close together (a turn), a day's figure is the median over the turns, and all is
-// measured in rounds, each over all days.
-#include "day.h"
+// The core beside LEMON's min-cost-flow solvers, on the same days in one run with equal repeats, and its forecast plan beside
+// a plain program. Every total is compared. A share is the core's time over the other's (below 1: the core is faster); a
+// solver's is of solving only and with its network built each time. A shared machine puts a program aside for moments and is
+// slower for whiles. So a time is the least of a few repeats, a share is of two such times close together (a turn), a day's
+// figure is the median over the turns, and all is measured in rounds, each over all days.
+#include "forecasts.h"
 #include <lemon/capacity_scaling.h>
 #include <lemon/cost_scaling.h>
 #include <map>
 
-// One day with all rows that the core's calls read and write. The quick plan and the card get it without jumps and limits.
+// One day with all rows that the core's calls read and write. The forecast plan gets it without jumps, the quick plan and the
+// card without jumps and limits.
 struct Desk {
-    Day day, plain;
-    uint64_t total = 0;
+    Day day, jumpless, plain;
+    Forecasts forecasts;
+    uint64_t total = 0, expected = 0, walked = 0;
     std::string sheet, buffer = std::string(MOST_BYTES, ' ');
-    std::vector<uint32_t> capacities = std::vector<uint32_t>(MOST_PERIODS), flights = std::vector<uint32_t>(FLIGHT_ROW), places;
+    std::vector<uint32_t> capacities = std::vector<uint32_t>(MOST_PERIODS), flights = std::vector<uint32_t>(FLIGHT_ROW), places, walked_holds;
 
-    explicit Desk(const Day &given) : day(given), plain(given), sheet(given.sheet()), places(given.count())
+    explicit Desk(const Day &given) : day(given), jumpless(given), forecasts(given), sheet(given.sheet()), places(given.count()), walked_holds(given.count())
     {
-        for (size_t i = 0; i < plain.count(); i++) plain.field(i, JUMP) = 0, plain.field(i, LIMIT) = MISSING;
+        jumpless.set(JUMP, 0);
+        plain = jumpless;
+        plain.set(LIMIT, MISSING);
         expect(full(), day.name + " has no plan");
     }
 
@@ -37,6 +41,19 @@ struct Desk {
     bool choice() { return hold_desk_choice(day.capacities.data(), day.periods(), day.flights.data(), day.flights.size(), day.holds.data(), day.holds.size(), day.holds.data(), day.holds.size()) == 1; }
     bool board() { return hold_desk_board(day.capacities.data(), day.periods(), day.flights.data(), day.flights.size(), day.holds.data(), day.holds.size(), places.data(), places.size()).number == 0; }
     bool text() { return hold_desk_plan_text(day.capacities.data(), day.periods(), day.flights.data(), day.flights.size(), day.holds.data(), day.holds.size(), (uint8_t *)buffer.data(), buffer.size(), 0).number == 0; }
+    bool forecast()
+    {
+        hold_desk_answer plan = hold_desk_forecast_plan(jumpless.capacities.data(), jumpless.periods(), jumpless.flights.data(), jumpless.flights.size(), uint32_t(forecasts.weights.size()), AIR_FACTOR, forecasts.weights.data(), forecasts.weights.size(), forecasts.capacities.data(), forecasts.capacities.size(), jumpless.holds.data(), jumpless.holds.size());
+        expected = plan.first;
+        return plan.number == 0;
+    }
+
+    // the plain program in that call's place, which refuses nothing
+    bool walk()
+    {
+        walked = plain_forecast_plan(jumpless, forecasts, walked_holds);
+        return true;
+    }
 };
 
 constexpr int TURN = 10; // repeats of one turn
@@ -45,6 +62,8 @@ using Call = bool (Desk::*)();
 using Figures = std::map<std::string, double>;    // of one day in one round, by column
 using Rounds = std::vector<std::vector<Figures>>; // by round, then by day
 using Members = std::vector<size_t>;              // the days of a class
+
+constexpr size_t LEADING = 1; // the column of a table that has its spread and its worst day behind it: the first share
 
 // Microseconds of each of the repeats, rising.
 static std::vector<double> times_of(Desk &desk, Call call, int repeats)
@@ -89,14 +108,25 @@ static void measure_all(Desk &desk, int repeats, Figures &row)
     row["board/full"] = times_of(desk, &Desk::board, repeats).front() / row["full us"];
 }
 
+static void measure_forecasts(Desk &desk, int repeats, Figures &row)
+{
+    row["full us"] = times_of(desk, &Desk::full, repeats).front();
+    row["forecast us"] = times_of(desk, &Desk::forecast, repeats).front();
+    row["forecast/full"] = row["forecast us"] / row["full us"];
+    row["plain"] = row["forecast us"] / times_of(desk, &Desk::walk, repeats).front();
+    expect(desk.walked == desk.expected && desk.walked_holds == desk.jumpless.holds, desk.day.name + ": the plain program's forecast plan differs from the core's");
+}
+
 using Measure = void (*)(Desk &, int, Figures &);
 
-static double median_of(const std::vector<Figures> &rows, const std::string &column)
+static std::vector<double> values_of(const std::vector<Figures> &rows, const std::string &column)
 {
     std::vector<double> values;
     for (auto &row : rows) values.push_back(row.at(column));
-    return median(values);
+    return values;
 }
+
+static double median_of(const std::vector<Figures> &rows, const std::string &column) { return median(values_of(rows, column)); }
 
 static Figures in_turns(Desk &desk, int repeats, Measure one)
 {
@@ -115,15 +145,18 @@ static Rounds measure(std::vector<Desk> &desks, int repeats, int rounds, Measure
     return measured;
 }
 
+static std::vector<Figures> rows_of(const std::vector<Figures> &round, const Members &members)
+{
+    std::vector<Figures> rows;
+    for (size_t i : members) rows.push_back(round[i]);
+    return rows;
+}
+
 // The class's median in each round, rising.
 static std::vector<double> class_medians(const Rounds &rounds, const Members &members, const std::string &column)
 {
     std::vector<double> medians;
-    for (auto &round : rounds) {
-        std::vector<Figures> rows;
-        for (size_t i : members) rows.push_back(round[i]);
-        medians.push_back(median_of(rows, column));
-    }
+    for (auto &round : rounds) medians.push_back(median_of(rows_of(round, members), column));
     std::sort(medians.begin(), medians.end());
     return medians;
 }
@@ -143,36 +176,60 @@ static void print_heads(const std::vector<std::string> &heads)
     std::printf("|\n");
 }
 
-// The columns of one class; behind NetworkSimplex its smallest and largest round, and the class's worst day.
+// The columns of one class; behind the leading one its smallest and largest round, and the class's worst day.
 static void print_class(const std::vector<Desk> &desks, const Rounds &rounds, const Members &members, const std::vector<std::string> &columns)
 {
     for (auto &column : columns) {
         std::vector<double> medians = class_medians(rounds, members, column);
         double figure = median(medians);
         std::printf(figure < 0.01 ? " %.3f |" : " %.2f |", figure);
-        if (column != "simplex") continue;
+        if (column != columns[LEADING]) continue;
         size_t worst = *std::max_element(members.begin(), members.end(), [&](size_t a, size_t b) { return day_median(rounds, a, column) < day_median(rounds, b, column); });
         std::printf(" %.2f to %.2f | %.2f | %s |", medians.front(), medians.back(), day_median(rounds, worst, column), desks[worst].day.name.c_str());
     }
     std::printf("\n");
 }
 
-// A line for each class; the class of a day is its name up to the first hyphen.
+// The class of a day is its name up to the first hyphen.
+static std::map<std::string, Members> classes_of(const std::vector<Desk> &desks)
+{
+    std::map<std::string, Members> classes;
+    for (size_t i = 0; i < desks.size(); i++) classes[desks[i].day.name.substr(0, desks[i].day.name.find('-'))].push_back(i);
+    return classes;
+}
+
+// A line for each class.
 static void print_classes(const std::vector<Desk> &desks, const Rounds &rounds, const std::vector<std::string> &columns)
 {
     const std::map<std::string, std::string> titles{{"a", "report's day"}, {"b", "48 x 64"}, {"c", "tight 96 x 128"}, {"d", "typical 96 x 128"}, {"e", "bad days, handed over"}, {"f", "bad days, found"}};
-    std::map<std::string, Members> classes;
-    for (size_t i = 0; i < desks.size(); i++) classes[desks[i].day.name.substr(0, desks[i].day.name.find('-'))].push_back(i);
     std::vector<std::string> heads{"class"};
     for (auto &column : columns) {
         heads.push_back(column);
-        if (column == "simplex") heads.insert(heads.end(), {"spread", "worst", "worst day"});
+        if (column == columns[LEADING]) heads.insert(heads.end(), {column + " spread", column + " worst", "worst day"});
     }
     print_heads(heads);
-    for (auto &[key, members] : classes) {
+    for (auto &[key, members] : classes_of(desks)) {
         std::printf("| %s |", titles.count(key) ? titles.at(key).c_str() : key.c_str());
         print_class(desks, rounds, members, columns);
     }
+}
+
+// The bar of the forecast plan is about two different days, so no turn has both: they are compared within a round, and the
+// median over the rounds is printed. A folder without tight days or days of full size has no such figure.
+static void print_bar(const std::vector<Desk> &desks, const Rounds &rounds)
+{
+    Members tight = classes_of(desks)["c"], largest;
+    for (size_t i = 0; i < desks.size(); i++)
+        if (desks[i].day.periods() == MOST_PERIODS && desks[i].day.count() == MOST_FLIGHTS) largest.push_back(i);
+    if (tight.empty() || largest.empty()) return;
+    std::vector<double> slowest, usual;
+    for (auto &round : rounds) {
+        double full = median_of(rows_of(round, tight), "full us");
+        std::vector<double> times = values_of(rows_of(round, largest), "forecast us");
+        slowest.push_back(*std::max_element(times.begin(), times.end()) / full);
+        usual.push_back(median(times) / full);
+    }
+    std::printf("\nFull-size days with %zu forecasts: the slowest of %zu takes %.2f times the median full plan of the tight ones, their median %.2f times.\n", MOST_FORECASTS, largest.size(), median(slowest), median(usual));
 }
 
 // Like class c: about as many landings as flights, all due in the first three quarters. What counts periods grows with the
@@ -212,7 +269,7 @@ static std::vector<Desk> growing_days()
 // machine did.
 static void print_longest(std::vector<Desk> &desks, int repeats)
 {
-    const std::pair<const char *, Call> calls[] = {{"read_sheet", &Desk::read}, {"write_sheet", &Desk::write}, {"quick_plan", &Desk::quick}, {"period_card", &Desk::card}, {"full_plan", &Desk::full}, {"price_check", &Desk::check}, {"choice", &Desk::choice}, {"board", &Desk::board}, {"plan_text", &Desk::text}};
+    const std::pair<const char *, Call> calls[] = {{"read_sheet", &Desk::read}, {"write_sheet", &Desk::write}, {"quick_plan", &Desk::quick}, {"period_card", &Desk::card}, {"full_plan", &Desk::full}, {"price_check", &Desk::check}, {"choice", &Desk::choice}, {"board", &Desk::board}, {"plan_text", &Desk::text}, {"forecast_plan", &Desk::forecast}};
     print_heads({"call", "longest us", "on day", "longest seen us"});
     for (auto &[name, call] : calls) {
         double longest = 0, seen = 0;
@@ -236,6 +293,10 @@ int main(int argc, char **argv)
     print_classes(desks, measure(desks, repeats, rounds, measure_all), {"full us", "simplex", "simplex+build", "capacity", "capacity+build", "cost", "cost+build", "quick/full", "read/full", "write/full", "board/full"});
     std::printf("\nGrowth, ten tight days of each size:\n\n");
     print_classes(growing, measure(growing, repeats, rounds, measure_plan), {"full us", "simplex", "simplex+build"});
+    std::printf("\nForecasts: each day without jumps and with %zu forecasts, as a share of the day's own full plan and of a plain program's time:\n\n", MOST_FORECASTS);
+    Rounds forecasts = measure(desks, repeats, rounds, measure_forecasts);
+    print_classes(desks, forecasts, {"forecast us", "forecast/full", "plain"});
+    print_bar(desks, forecasts);
     std::printf("\nThe longest time of a single call, over all days of the folder:\n\n");
     print_longest(desks, repeats);
 }

@@ -26,6 +26,7 @@ constexpr size_t MOST_PERIODS = HOLD_DESK_MOST_PERIODS;
 constexpr size_t MOST_FLIGHTS = HOLD_DESK_MOST_FLIGHTS;
 constexpr size_t FLIGHT_ROW = HOLD_DESK_FLIGHT_ROW;
 constexpr size_t MOST_BYTES = HOLD_DESK_MOST_SHEET_BYTES;
+constexpr size_t MOST_FORECASTS = HOLD_DESK_MOST_FORECASTS;
 constexpr uint32_t MISSING = HOLD_DESK_NO_LIMIT;
 
 enum Field {
@@ -64,6 +65,19 @@ struct Day {
     size_t count() const { return flights.size() / FIELDS; }
     uint32_t field(size_t i, Field j) const { return flights[i * FIELDS + j]; }
     uint32_t &field(size_t i, Field j) { return flights[i * FIELDS + j]; }
+
+    // the last period that a flight may be held to
+    size_t last(size_t i) const
+    {
+        size_t closing = periods() + 1;
+        return field(i, LIMIT) == MISSING ? closing : std::min<size_t>(closing, field(i, DUE) + field(i, LIMIT));
+    }
+
+    // the same value for every flight
+    void set(Field j, uint32_t value)
+    {
+        for (size_t i = 0; i < count(); i++) field(i, j) = value;
+    }
 
     // one flight more
     void add(uint32_t number, uint32_t due, uint32_t rate, uint32_t after, uint32_t jump, uint32_t limit, uint32_t late)
@@ -135,8 +149,7 @@ struct Network {
         for (size_t i = 0; i < day.count(); i++) {
             Graph::Node flight = graph.addNode();
             supply[flight] = 1;
-            size_t due = day.field(i, DUE), last = periods + 1;
-            if (day.field(i, LIMIT) != MISSING) last = std::min(last, due + day.field(i, LIMIT));
+            size_t due = day.field(i, DUE), last = day.last(i);
             for (size_t k = due; k <= last; k++) {
                 int hold = int(k - due);
                 int jump = int(day.field(i, LATE)) + hold > int(day.field(i, AFTER)) ? int(day.field(i, JUMP)) : 0;

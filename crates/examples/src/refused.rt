@@ -8,6 +8,7 @@ use crate::calls::plan_text;
 use crate::calls::price_check;
 use crate::calls::quick_plan;
 use crate::calls::sheet_text;
+use crate::forecasts::forecast_plan_of;
 use crate::rows::capacity_row;
 use crate::rows::copy;
 use crate::rows::due_row;
@@ -51,6 +52,7 @@ fn run_calls(capacities: &[u32], flights: &[u32], holds: &[u32], lent: Lent) {
     board(capacities, flights, holds, lent.board);
     plan_text(capacities, flights, holds, lent.place);
     sheet_text(capacities, flights, lent.place);
+    forecast_plan_of(capacities, flights, holds.len());
 }
 
 fn run_hold_rows(capacities: &[u32], flights: &[u32], plan: &[u32], count: usize) {

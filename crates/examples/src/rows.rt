@@ -35,6 +35,11 @@ pub fn price_row() -> [u32; MORE_PERIODS]
     capacity_row(RUBBISH)
 }
 
+// Two rows of one capacity for all periods, one behind the other.
+pub fn forecast_rows(capacity: u32) -> [u32; 2 * MORE_PERIODS] {
+    [capacity; 2 * MORE_PERIODS]
+}
+
 pub fn flight_row() -> [u32; LONGER_ROW]
     ensures { λ r. ⌜ mostFlights * width + width ≡ length r ⌝ }
 {

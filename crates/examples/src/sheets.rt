@@ -1,4 +1,5 @@
 // The reader: sheets, and rows of other lengths.
+use crate::forecasts::run_forecasts;
 use crate::plans::run_day;
 use crate::refused::run_lengths;
 use crate::refused::run_values;
@@ -65,6 +66,7 @@ fn run_read(kind: u8, capacities: &[u32], flights: &[u32], sheet: &[u8]) {
         b'd' => run_day(capacities, flights, sheet),
         b'l' => run_lengths(capacities, flights),
         b'v' => run_values(capacities, flights),
+        b'o' => run_forecasts(capacities, flights),
         _ => (),
     }
 }

@@ -35,6 +35,16 @@ struct Chosen {
     cost: usize,
 }
 
+// A number less another, never below 0.
+fn less(x: usize, y: usize) -> usize
+    ensures { λ r. ⌜ r ≡ x - y ⌝ }
+{
+    if x < y {
+        return 0;
+    }
+    x - y
+}
+
 // Who waits in period j for a place under a forecast: those held to it, and those left over from the period before. The row `waits` has
 // who waits before period `from`; it gets the periods to j too, each on the way back.
 fn waiting(held: &[usize], forecast: &[u32], waits: &mut [usize], from: usize, j: usize) -> usize
@@ -61,10 +71,7 @@ fn left_over(held: &[usize], forecast: &[u32], waits: &mut [usize], from: usize,
     }
     let here = waiting(held, forecast, waits, from, j);
     let capacity = wide(forecast[j - 1]);
-    if here < capacity {
-        return 0;
-    }
-    here - capacity
+    less(here, capacity)
 }
 
 // The capacities of forecast s.

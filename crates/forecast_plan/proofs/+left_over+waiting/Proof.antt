@@ -1,3 +1,4 @@
+use mathlib.Core.Path.{_∙_}
 use native.Mathlib.Omega.{arith}
 use Rattle.forecast_plan.proofs.Turns.{none-left-over, left-over-here, waiting-here, left-over-most, turn-to, turn-none, turn-next}
 use borrow.Author.Needs.{needs}
@@ -12,6 +13,7 @@ use Rattle.forecast_plan.proofs.waiting.Reads as waiting
 use Rattle.forecast_plan.proofs.waiting.Kinds as waiting-kinds
 use Rattle.forecast_plan.proofs.+left_over+waiting.Lts-waiting as waiting-lts
 use Rattle.day.proofs.wide.Reads as wide-reads
+use Rattle.forecast_plan.proofs.less.Reads as less-reads
 use Rattle.forecast_plan.proofs.+left_over+waiting.{statement}
 use Rattle.forecast_plan.proofs.+left_over+waiting.Tie.{close}
 
@@ -39,6 +41,8 @@ left-over-returns : (t : ℕ) → left-over-lts.Need-returns (
   waiting.Post,
   wide-reads.Asked,
   wide-reads.Learnt,
+  less-reads.Asked,
+  less-reads.Learnt,
 ) (left-over-at t) left-over.Post
 left-over-returns t c =
     let at-start = c .before .before .before .before in
@@ -49,6 +53,8 @@ left-over-waiting-requires : (t : ℕ) → left-over-lts.Need-waiting-requires (
   waiting.Post,
   wide-reads.Asked,
   wide-reads.Learnt,
+  less-reads.Asked,
+  less-reads.Learnt,
 ) (left-over-at t) left-over.Post
 left-over-waiting-requires t c κs =
     let at-start = c .before .before .before .before .before in
@@ -59,6 +65,8 @@ left-over-sub-wide : (t : ℕ) → left-over-lts.Need-sub-wide (
   waiting.Post,
   wide-reads.Asked,
   wide-reads.Learnt,
+  less-reads.Asked,
+  less-reads.Learnt,
 ) (left-over-at t) left-over.Post
 left-over-sub-wide t c = omega arith
 
@@ -67,6 +75,8 @@ left-over-mul-wide : (t : ℕ) → left-over-lts.Need-mul-wide (
   waiting.Post,
   wide-reads.Asked,
   wide-reads.Learnt,
+  less-reads.Asked,
+  less-reads.Learnt,
 ) (left-over-at t) left-over.Post
 left-over-mul-wide t c = omega (arith, c .before .before .before .before .before .before .before .before .pre .1 .0 .periods)
 
@@ -75,6 +85,8 @@ left-over-shared-slice-read-wide : (t : ℕ) → left-over-lts.Need-shared-slice
   waiting.Post,
   wide-reads.Asked,
   wide-reads.Learnt,
+  less-reads.Asked,
+  less-reads.Learnt,
 ) (left-over-at t) left-over.Post
 left-over-shared-slice-read-wide t c = omega (arith, c .before .before .before .before .before .before .before .before .before .pre .1 .1)
 
@@ -83,14 +95,28 @@ left-over-wide-requires : (t : ℕ) → left-over-lts.Need-wide-requires (
   waiting.Post,
   wide-reads.Asked,
   wide-reads.Learnt,
+  less-reads.Asked,
+  less-reads.Learnt,
 ) (left-over-at t) left-over.Post
 left-over-wide-requires t c κs = search needs
+
+left-over-less-requires : (t : ℕ) → left-over-lts.Need-less-requires (
+  waiting-below t,
+  waiting.Post,
+  wide-reads.Asked,
+  wide-reads.Learnt,
+  less-reads.Asked,
+  less-reads.Learnt,
+) (left-over-at t) left-over.Post
+left-over-less-requires t c κs = search needs
 
 left-over-same-length : (t : ℕ) → left-over-lts.Need-same-length (
   waiting-below t,
   waiting.Post,
   wide-reads.Asked,
   wide-reads.Learnt,
+  less-reads.Asked,
+  less-reads.Learnt,
 ) (left-over-at t) left-over.Post
 left-over-same-length t c = c .before .before .before .before .before .waiting .kept .1 .1 .0
 
@@ -99,34 +125,15 @@ left-over-returns-2 : (t : ℕ) → left-over-lts.Need-returns-2 (
   waiting.Post,
   wide-reads.Asked,
   wide-reads.Learnt,
+  less-reads.Asked,
+  less-reads.Learnt,
 ) (left-over-at t) left-over.Post
 left-over-returns-2 t c =
     let at-wide = c .before in
     let at-waiting = at-wide .before .before .before .before in
     let at-if1 = at-waiting .before .before in
     let at-start = at-if1 .before .before .before .before in
-    (omega (arith, left-over-here _ _ (at-start .args .j) (omega arith) (at-waiting .waiting .ensures .0) (at-wide .wide .ensures)), at-waiting .waiting .ensures .1)
-
-left-over-same-length-2 : (t : ℕ) → left-over-lts.Need-same-length-2 (
-  waiting-below t,
-  waiting.Post,
-  wide-reads.Asked,
-  wide-reads.Learnt,
-) (left-over-at t) left-over.Post
-left-over-same-length-2 t c = c .before .before .before .before .before .waiting .kept .1 .1 .0
-
-left-over-returns-3 : (t : ℕ) → left-over-lts.Need-returns-3 (
-  waiting-below t,
-  waiting.Post,
-  wide-reads.Asked,
-  wide-reads.Learnt,
-) (left-over-at t) left-over.Post
-left-over-returns-3 t c =
-    let at-wide = c .before in
-    let at-waiting = at-wide .before .before .before .before in
-    let at-if1 = at-waiting .before .before in
-    let at-start = at-if1 .before .before .before .before in
-    (left-over-here _ _ (at-start .args .j) (omega arith) (at-waiting .waiting .ensures .0) (at-wide .wide .ensures), at-waiting .waiting .ensures .1)
+    (c .less .ensures ∙ left-over-here _ _ (at-start .args .j) (omega arith) (at-waiting .waiting .ensures .0) (at-wide .wide .ensures), at-waiting .waiting .ensures .1)
 
 waiting-mul-result :
     (t : ℕ) →
@@ -214,6 +221,8 @@ pub +left-over+waiting-spec : {M : Type 1} → statement M
   waiting.Post,
   wide-reads.Asked,
   wide-reads.Learnt,
+  less-reads.Asked,
+  less-reads.Learnt,
 )
     (left-over-at t)
     left-over.Post
@@ -223,10 +232,9 @@ pub +left-over+waiting-spec : {M : Type 1} → statement M
     (left-over-mul-wide t)
     (left-over-shared-slice-read-wide t)
     (left-over-wide-requires t)
+    (left-over-less-requires t)
     (left-over-same-length t)
-    (left-over-returns-2 t)
-    (left-over-same-length-2 t)
-    (left-over-returns-3 t))
+    (left-over-returns-2 t))
     λ t. waiting-lts.spec
     (left-over-below t, left-over.Post)
     (waiting-at t)
