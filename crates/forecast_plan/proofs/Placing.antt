@@ -146,9 +146,10 @@ module _ {d : Day} {f : Forecasts} {holds heldTo waits : List ℕ} {from total i
           };
         }
 
-        pub placed-next : Placed d f (set holds i (c .hold)) (set heldTo q (el heldTo q + 1)) waits₂ q (total + c .cost) (i + 1)
+        pub placed-next : {heldTo₂ : List ℕ} → heldTo₂ ≡ set heldTo q (el heldTo q + 1)
+            → Placed d f (set holds i (c .hold)) heldTo₂ waits₂ q (total + c .cost) (i + 1)
         unfolding sum
-        placed-next = record {
+        placed-next is = rw is (record {
           fit = p .fit;
           each = length-set holds i (c .hold) ∙ p .each;
           upto = omega (arith, in-table);
@@ -159,7 +160,7 @@ module _ {d : Day} {f : Forecasts} {holds heldTo waits : List ℕ} {from total i
             | inr o ↦ stored .others j o ∙ p .filled j (omega arith)
           ];
           summed = rw (add-one i, sym (p .summed), placed-cost);
-        }
+        })
           where
             stored : Moved (el holds) (el (set holds i (c .hold))) i (c .hold)
             stored = set-moved holds i (c .hold) l

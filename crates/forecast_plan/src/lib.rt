@@ -13,10 +13,10 @@ use day::wide;
 ghost use mathlib.Core.Path.{_≡_};
 ghost use mathlib.Core.Bool.{true, cond};
 ghost use Prim.Native.Nat.{_+_, _-_, _*_, _≤_, _<_, min};
-ghost use lib.ListN.{length};
+ghost use lib.ListN.{length, set};
 ghost use lib.Dec.{ltb};
 ghost use Rattle.assignment.specs.Rows.{el};
-ghost use Rattle.day.specs.Day.{lent, N, valid, mostPeriods, periodRow, latestOf};
+ghost use Rattle.day.specs.Day.{lent, N, valid, mostPeriods, mostFlights, periodRow, latestOf};
 ghost use Rattle.forecast_plan.specs.Forecast.{forecasts, forecastAt, leftOver, waiting, firstRoom, forecastHolds, expectedTotal};
 ghost use Rattle.forecast_plan.specs.Calls.{noJumps, termsFit, allWeights, forecastsFit, rowsPlan, forecastPlan};
 ghost use Rattle.forecast_plan.specs.Loop.{Turn, Turns, Adding, airborne, Weighed, weighed, Low, Chooses, Ready, odds, Fit, Placed};
@@ -235,6 +235,14 @@ fn hold_of(
     least_hold(f, factor, &air, last_of(periods, f))
 }
 
+// One flight more is held to a period.
+fn count_in(held: &mut [usize], period: usize)
+    requires { ⌜ (period < length (now held)) × (el (now held) period ≤ mostFlights) ⌝ }
+    ensures { λ _. ⌜ now (held .exit) ≡ set (now (held .entry)) period (el (now (held .entry)) period + 1) ⌝ }
+{
+    held[period] = held[period] + 1;
+}
+
 // Holds the flights one after another and sums what they are expected to cost, with rows in which those held to each period are counted
 // and those who wait there are kept. A flight held to a period changes nothing before it.
 fn hold_all(
@@ -261,7 +269,7 @@ fn hold_all(
         let chosen = hold_of(f, factor, periods, weights, rows, waits);
         let hold = chosen.hold;
         from = wide(f.due) + hold;
-        held[from] = held[from] + 1;
+        count_in(held, from);
         holds[i] = hold as u32;
         total += chosen.cost;
         i += 1;

@@ -1,3 +1,6 @@
+-- The cycle of calls {left_over, waiting}: the period falls, and of the two at one period left over comes first. Each stores what it finds
+-- on the way back, so that the row is known as far as the period asked for.
+-- Assumes nothing.
 use mathlib.Core.Path.{_∙_}
 use native.Mathlib.Omega.{arith}
 use Rattle.forecast_plan.proofs.Turns.{none-left-over, left-over-here, waiting-here, left-over-most, turn-to, turn-none, turn-next}
@@ -23,6 +26,7 @@ abbrev μ-left-over : Measures 3 left-over-kinds.ps ℕ
 abbrev μ-waiting : Measures 3 waiting-kinds.ps ℕ
 μ-waiting κs a = 2 * (a .1 .1 .1 .1 .0)
 
+-- what `left_over` is given at the measure t, and what a call of it asks below t
 abbrev left-over-at : ℕ → In 3 left-over-kinds.ps
 left-over-at t = and 3 left-over-kinds.ps (is 3 left-over-kinds.ps μ-left-over t) left-over.Pre
 
@@ -30,6 +34,7 @@ abbrev left-over-below : ℕ → In 3 left-over-kinds.ps
 left-over-below t =
     and 3 left-over-kinds.ps (falls 3 left-over-kinds.ps _<_ μ-left-over t) left-over.Pre
 
+-- what `waiting` is given at the measure t, and what a call of it asks below t
 abbrev waiting-at : ℕ → In 3 waiting-kinds.ps
 waiting-at t = and 3 waiting-kinds.ps (is 3 waiting-kinds.ps μ-waiting t) waiting.Pre
 

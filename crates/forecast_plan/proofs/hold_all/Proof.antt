@@ -1,13 +1,12 @@
 -- The flights above table place i are placed.
 -- Assumes nothing.
-use Prim.Native.Nat.{_+_, _-_}
+use Prim.Native.Nat.{_-_}
 use native.Mathlib.Omega.{arith}
 use lib.ListN.{length, length-set}
 use borrow.Author.Needs.{needs}
 use Rattle.day.specs.Day.{day}
 use Rattle.forecast_plan.specs.Loop.{Placed}
 use Rattle.forecast_plan.proofs.Placing.{placed-ready, placed-lands, placed-due, placed-total, placed-cost-most, placed-next, placed-all}
-use borrow.Author.Needs.{needs}
 use Rattle.forecast_plan.proofs.hold_all.Statement.{statement}
 use Rattle.forecast_plan.proofs.hold_all.Tie as tie
 
@@ -53,21 +52,8 @@ add-from-2 c =
     let chosen = at-hold-of .hold-of .ensures in
     omega (arith, placed-due placed test turns flight chosen (c .wide .ensures))
 
-mul-held : tie.Need-mul-held Inv-loop μ-loop
-mul-held c =
-    let at-hold-of = c .before in
-    let at-flight-at = at-hold-of .before .before in
-    let at-refresh = at-flight-at .before .before .before in
-    let at-test = at-refresh .before .before .before in
-    let placed = at-test .before .loop .inv in
-    let test = at-test .loop-test .taken in
-    let turns = at-refresh .refresh .ensures in
-    let flight = at-flight-at .flight-at .ensures in
-    let chosen = at-hold-of .hold-of .ensures in
-    omega (arith, placed-due placed test turns flight chosen (c .wide .ensures))
-
-slice-read-held : tie.Need-slice-read-held Inv-loop μ-loop
-slice-read-held c =
+count-in-requires : tie.Need-count-in-requires Inv-loop μ-loop
+count-in-requires c κs =
     let at-hold-of = c .before .before in
     let at-flight-at = at-hold-of .before .before in
     let at-refresh = at-flight-at .before .before .before in
@@ -77,50 +63,11 @@ slice-read-held c =
     let turns = at-refresh .refresh .ensures in
     let flight = at-flight-at .flight-at .ensures in
     let chosen = at-hold-of .hold-of .ensures in
-    omega (arith, placed-due placed test turns flight chosen (c .before .wide .ensures), placed .turns .places)
-
-add-held : tie.Need-add-held Inv-loop μ-loop
-add-held c =
-    let at-hold-of = c .before .before in
-    let at-flight-at = at-hold-of .before .before in
-    let at-refresh = at-flight-at .before .before .before in
-    let at-test = at-refresh .before .before .before in
-    let placed = at-test .before .loop .inv in
-    let test = at-test .loop-test .taken in
-    let turns = at-refresh .refresh .ensures in
-    let flight = at-flight-at .flight-at .ensures in
-    let chosen = at-hold-of .hold-of .ensures in
-    omega (arith, placed .turns .few (c .before .wide .result + at-hold-of .hold-of .result .hold))
-
-mul-held-2 : tie.Need-mul-held-2 Inv-loop μ-loop
-mul-held-2 c =
-    let at-hold-of = c .before .before in
-    let at-flight-at = at-hold-of .before .before in
-    let at-refresh = at-flight-at .before .before .before in
-    let at-test = at-refresh .before .before .before in
-    let placed = at-test .before .loop .inv in
-    let test = at-test .loop-test .taken in
-    let turns = at-refresh .refresh .ensures in
-    let flight = at-flight-at .flight-at .ensures in
-    let chosen = at-hold-of .hold-of .ensures in
-    omega (arith, placed-due placed test turns flight chosen (c .before .wide .ensures))
-
-slice-write-held : tie.Need-slice-write-held Inv-loop μ-loop
-slice-write-held c =
-    let at-hold-of = c .before .before in
-    let at-flight-at = at-hold-of .before .before in
-    let at-refresh = at-flight-at .before .before .before in
-    let at-test = at-refresh .before .before .before in
-    let placed = at-test .before .loop .inv in
-    let test = at-test .loop-test .taken in
-    let turns = at-refresh .refresh .ensures in
-    let flight = at-flight-at .flight-at .ensures in
-    let chosen = at-hold-of .hold-of .ensures in
-    omega (arith, placed-due placed test turns flight chosen (c .before .wide .ensures), placed .turns .places)
+    (omega (arith, placed-due placed test turns flight chosen (c .before .wide .ensures), placed .turns .places), placed .turns .few _)
 
 cast-holds : tie.Need-cast-holds Inv-loop μ-loop
 cast-holds c =
-    let at-hold-of = c .before .before in
+    let at-hold-of = c .before .before .before .before .before in
     let at-flight-at = at-hold-of .before .before in
     let at-refresh = at-flight-at .before .before .before in
     let at-test = at-refresh .before .before .before in
@@ -129,7 +76,7 @@ cast-holds c =
     let turns = at-refresh .refresh .ensures in
     let flight = at-flight-at .flight-at .ensures in
     let chosen = at-hold-of .hold-of .ensures in
-    omega (arith, placed-due placed test turns flight chosen (c .before .wide .ensures))
+    omega (arith, placed-due placed test turns flight chosen (c .before .before .before .before .wide .ensures))
 
 mul-holds : tie.Need-mul-holds Inv-loop μ-loop
 mul-holds c = search needs
@@ -139,7 +86,7 @@ slice-write-holds c = search needs
 
 add-total : tie.Need-add-total Inv-loop μ-loop
 add-total c =
-    let at-hold-of = c .before .before .before in
+    let at-hold-of = c .before .before .before .before .before .before in
     let at-flight-at = at-hold-of .before .before in
     let at-refresh = at-flight-at .before .before .before in
     let at-test = at-refresh .before .before .before in
@@ -158,7 +105,7 @@ loop-less c = simp length-set (omega arith)
 
 loop-again : tie.Need-loop-again Inv-loop μ-loop
 loop-again c =
-    let at-hold-of = c .before .before .before in
+    let at-hold-of = c .before .before .before .before .before .before in
     let at-flight-at = at-hold-of .before .before in
     let at-refresh = at-flight-at .before .before .before in
     let at-test = at-refresh .before .before .before in
@@ -167,7 +114,7 @@ loop-again c =
     let turns = at-refresh .refresh .ensures in
     let flight = at-flight-at .flight-at .ensures in
     let chosen = at-hold-of .hold-of .ensures in
-    placed-next placed test turns flight chosen (placed-lands placed test turns flight chosen (c .before .before .wide .ensures))
+    placed-next placed test turns flight chosen (placed-lands placed test turns flight chosen (c .before .before .before .before .before .wide .ensures)) (c .before .before .before .count-in .ensures)
 
 same-length : tie.Need-same-length Inv-loop μ-loop
 same-length c = search needs
@@ -194,11 +141,7 @@ hold-all-spec =
     hold-of-requires
     wide-requires
     add-from-2
-    mul-held
-    slice-read-held
-    add-held
-    mul-held-2
-    slice-write-held
+    count-in-requires
     cast-holds
     mul-holds
     slice-write-holds
