@@ -1,16 +1,24 @@
 -- What the forecast plan says, in document 02's words: each flight "takes the hold of least expected cost given those before it, smallest on
 -- a tie, within its limit". No row but the plan's is so, and its total fits.
 -- Assumes nothing.
-use mathlib.Core.Path.{_≡_}
+use mathlib.Core.Path.{_≡_, refl, ap, sym, _∙_}
+use mathlib.Core.Logic.{_⊎_, inl, inr}
+use mathlib.Core.Bool.{Bool, true, false}
 use mathlib.Core.List.{List}
-use Prim.Native.Nat.{ℕ, _+_, _-_, _≤_, _<_}
+use Prim.Native.Nat.{ℕ, _+_, _-_, _*_, _≤_, _<_}
 use native.Mathlib.Omega.{arith}
 use lib.ListN.{length}
 use Rattle.assignment.proofs.Sums.{sum-most}
-use Rattle.day.specs.Day.{Day, N, due, Window, hold, land}
+use Rattle.assignment.proofs.Tests.{eq?}
+use Rattle.answers.specs.Answers.{codeOf, outcome}
+use Rattle.answers.specs.declared.Answer.{Answer}
+use Rattle.answers.specs.declared.Answer.the-variants.{Planned}
+use Rattle.day.specs.Day.{Day, P, N, due, Window, hold, land, valid}
 use Rattle.day.specs.Valid.{Valid}
 use Rattle.forecast_plan.specs.Forecast.{Forecasts, expected, forecastHolds, expectedTotal}
+use Rattle.forecast_plan.specs.Calls.{termsFit, forecastsFit, forecastPlan}
 use Rattle.forecast_plan.specs.Loop.{Fit}
+use Rattle.forecast_plan.proofs.Calls.{bad-day, bad-terms, by-rows, bad-holds, bad-weights, bad-rows, bad-forecasts, planned, all-fits}
 use Rattle.forecast_plan.proofs.Holds.{holds-length, each-least, only-row, hold-window, window-hold, expected-most}
 
 -- a row of holds, each in its flight's window, none of the window less, and every smaller one more, "given those before it"
@@ -37,7 +45,46 @@ only-plan {d} f holds v e = only-row d f holds (e .each) (λ i l. record {
   smaller-more = λ g b. e .smaller-more i g l b;
 })
 
--- "The total is answered in thousandths": at most 128 flights of 9,600,000,000
-pub total-most : {d : Day} {f : Forecasts} → Fit d f → expectedTotal d f (forecastHolds d f) ≤ 1228800000000
+-- ---- the total
+
+-- at most 128 flights of 9,600,000,000
+fit-total : {d : Day} {f : Forecasts} → Fit d f → expectedTotal d f (forecastHolds d f) ≤ 1228800000000
 unfolding expectedTotal
-total-most {d} {f} fit = omega (arith, fit .good .flights-to, sum-most (N d) 9600000000 _ (λ i l. expected-most fit (forecastHolds d f) i l _ (each-least d f i l .within)))
+fit-total {d} {f} fit = omega (arith, fit .good .flights-to, sum-most (N d) 9600000000 _ (λ i l. expected-most fit (forecastHolds d f) i l _ (each-least d f i l .within)))
+
+-- the number of a planned answer is 0, and that of no refusal is
+numbered : {a : Answer} {t : ℕ} → a ≡ Planned t → codeOf a .number ≡ 0
+numbered e = ap (λ b. codeOf b .number) e
+
+same-total : {t u : ℕ} → Planned t ≡ Planned u → t ≡ u
+same-total e = cc
+
+either : (b : Bool) → (b ≡ true) ⊎ (b ≡ false)
+either true = inl refl
+either false = inr refl
+
+-- "The total is answered in thousandths", and no answered total is greater than this
+pub total-most : (d : Day) (f : Forecasts) (holds : List ℕ) (t : ℕ) → forecastPlan d f holds .answer ≡ Planned t → t ≤ 1228800000000
+total-most d f holds t e = elim (either (valid d)) [
+  | inr bad ↦ absurd (omega (arith, numbered (way (bad-day d f holds bad))))
+  | inl good ↦ elim (either (termsFit (d .flights) (f .count) (f .airFactor))) [
+    | inr bad ↦ absurd (omega (arith, numbered (way (bad-terms d f holds good refl refl bad))))
+    | inl terms ↦ elim (eq? (length holds) (N d)) [
+      | inr bad ↦ absurd (omega (arith, numbered (way (by-rows d f holds good refl refl terms ∙ bad-holds d f holds refl bad))))
+      | inl each ↦ elim (eq? (length (f .weights)) (f .count)) [
+        | inr bad ↦ absurd (omega (arith, numbered (way (by-rows d f holds good refl refl terms ∙ bad-weights d f holds refl each bad))))
+        | inl weights ↦ elim (eq? (length (f .rows)) (f .count * P d)) [
+          | inr bad ↦ absurd (omega (arith, numbered (way (by-rows d f holds good refl refl terms ∙ bad-rows d f holds refl each weights bad))))
+          | inl rows ↦ elim (either (forecastsFit (f .weights) (f .rows))) [
+            | inr bad ↦ absurd (omega (arith, numbered (way (by-rows d f holds good refl refl terms ∙ bad-forecasts d f holds refl each weights rows bad))))
+            | inl fits ↦
+                omega (arith, same-total (way (by-rows d f holds good refl refl terms ∙ planned d f holds refl each weights rows fits refl refl)), fit-total (all-fits d (f .count) (f .airFactor) (f .weights) (f .rows) good terms weights rows fits))
+          ]
+        ]
+      ]
+    ]
+  ]
+]
+  where
+    way : {a : Answer} {x : List ℕ} → forecastPlan d f holds ≡ outcome a x → a ≡ Planned t
+    way is = ap (λ o. o .answer) (sym is) ∙ e
