@@ -16,7 +16,7 @@ abbrev pub noJumps : List ℕ → Bool
 noJumps flights = all (flightCount flights) (λ i. eqb (jumpOf flights i) 0)
 
 -- what 13 tests: "a jump is above 0 or K or the count of forecasts (1 to 8) is out of range"
-unfoldable pub termsFit : List ℕ → ℕ → ℕ → Bool
+unfoldable pub termsFit : (flights : List ℕ) (count airFactor : ℕ) → Bool
 unfolding all flightCount
 termsFit flights count airFactor = noJumps flights && inside 1 10 airFactor && inside 1 8 count
 
@@ -25,7 +25,7 @@ abbrev pub allWeights : List ℕ → ℕ
 allWeights weights = sum (length weights) (λ s. getD weights s 0)
 
 -- what 12 tests: "weights don't add up to 1,000 or a forecast capacity is above 255"
-unfoldable pub forecastsFit : List ℕ → List ℕ → Bool
+unfoldable pub forecastsFit : (weights rows : List ℕ) → Bool
 unfolding all sum
 forecastsFit weights rows = eqb (allWeights weights) 1000 && capacitiesFit rows
 

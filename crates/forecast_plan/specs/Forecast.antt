@@ -27,50 +27,51 @@ forecasts count airFactor weights rows = record { count = count; airFactor = air
 abbrev pub weight : Forecasts → ℕ → ℕ
 weight f s = getD (f .weights) s 0
 
-abbrev pub forecastAt : ℕ → List ℕ → ℕ → List ℕ
+abbrev pub forecastAt : (p : ℕ) (rows : List ℕ) (s : ℕ) → List ℕ
 forecastAt p rows s = take p (drop (s * p) rows)
 
 abbrev pub forecast : Day → Forecasts → ℕ → List ℕ
 forecast d f s = forecastAt (P d) (f .rows) s
 
 -- "the flights above one in priority": how many of them, above table place i, are held to period j
-abbrev pub held : Day → List ℕ → ℕ → ℕ → ℕ
+abbrev pub held : Day → (holds : List ℕ) (i j : ℕ) → ℕ
 held d holds i j = count i (land d holds) j
 
--- "left over at j is waiting less capacity, never below 0, and 0 before period 1"; what is in front of the minus is waiting at j, below
-unfoldable pub leftOver : (ℕ → ℕ) → List ℕ → ℕ → ℕ
+-- "left over at j is waiting less capacity, never below 0, and 0 before period 1": the sum is waiting at j, below, and the minus stops at 0
+unfoldable pub leftOver : (heldTo : ℕ → ℕ) (capacities : List ℕ) (j : ℕ) → ℕ
 leftOver heldTo capacities zero = 0
 leftOver heldTo capacities (suc j) = heldTo (suc j) + leftOver heldTo capacities j - ofPeriod capacities (suc j)
 
 -- "waiting at j is those held to j plus left over from j−1"
-unfoldable pub waiting : (ℕ → ℕ) → List ℕ → ℕ → ℕ
+unfoldable pub waiting : (heldTo : ℕ → ℕ) (capacities : List ℕ) (j : ℕ) → ℕ
 unfolding leftOver
 waiting heldTo capacities j = heldTo j + leftOver heldTo capacities (j - 1)
 
 -- "the first period from its held one on where waiting is below capacity, else .. the closing period"
-unfoldable pub firstRoom : (ℕ → ℕ) → List ℕ → ℕ → ℕ
+unfoldable pub firstRoom : (waits : ℕ → ℕ) (capacities : List ℕ) (q : ℕ) → ℕ
 unfolding firstOf
 firstRoom waits capacities q = q + firstOf (length capacities + 1 - q) (λ t. ltb (waits (q + t)) (ofPeriod capacities (q + t)))
 
 -- the period in which a flight lands that is held to period q, below flights held as `heldTo` says
-abbrev pub lands : (ℕ → ℕ) → List ℕ → ℕ → ℕ
+abbrev pub lands : (heldTo : ℕ → ℕ) (capacities : List ℕ) (q : ℕ) → ℕ
 lands heldTo capacities q = firstRoom (waiting heldTo capacities) capacities q
 
 -- what hold h costs flight i if it lands in period k: "A period in the air costs K × rate"
-abbrev pub costIf : Day → ℕ → ℕ → ℕ → ℕ → ℕ
+abbrev pub costIf : Day → (airFactor i h k : ℕ) → ℕ
 costIf d airFactor i h k = rate d i * h + airFactor * rate d i * (k - (due d i + h))
 
 -- the expected cost of hold h for flight i, in thousandths, "given those before it"
-unfoldable pub expected : Day → Forecasts → List ℕ → ℕ → ℕ → ℕ
+unfoldable pub expected : Day → Forecasts → (holds : List ℕ) (i h : ℕ) → ℕ
 unfolding sum
 expected d f holds i h =
     sum (f .count) (λ s. weight f s * costIf d (f .airFactor) i h (lands (held d holds i) (forecast d f s) (due d i + h)))
 
--- the hold of 0 to n of least cost, "smallest on a tie"
-abbrev pub better : (ℕ → ℕ) → ℕ → ℕ → ℕ
+-- the longer hold h only if it costs less than the best before it: "smallest on a tie"
+abbrev pub better : (cost : ℕ → ℕ) (h best : ℕ) → ℕ
 better cost h best = cond (ltb (cost h) (cost best)) h best
 
-unfoldable pub leastHold : ℕ → (ℕ → ℕ) → ℕ
+-- the hold of 0 to n of least cost
+unfoldable pub leastHold : (n : ℕ) (cost : ℕ → ℕ) → ℕ
 leastHold zero cost = 0
 leastHold (suc n) cost = better cost (suc n) (leastHold n cost)
 
@@ -79,7 +80,7 @@ abbrev pub longest : Day → ℕ → ℕ
 longest d i = last d i - due d i
 
 -- the holds of flights 0 to i, from those of the flights before flight i
-abbrev pub withNext : Day → Forecasts → ℕ → List ℕ → List ℕ
+abbrev pub withNext : Day → Forecasts → (i : ℕ) (before : List ℕ) → List ℕ
 withNext d f i before = before ++ (leastHold (longest d i) (expected d f before i) ∷ [])
 
 -- the holds of the first i flights: "flights get holds one after another"
@@ -93,6 +94,6 @@ abbrev pub forecastHolds : Day → Forecasts → List ℕ
 forecastHolds d f = holdsTo d f (N d)
 
 -- "The total is answered in thousandths."
-unfoldable pub expectedTotal : Day → Forecasts → List ℕ → ℕ
+unfoldable pub expectedTotal : Day → Forecasts → (holds : List ℕ) → ℕ
 unfolding sum
 expectedTotal d f holds = sum (N d) (λ i. expected d f holds i (hold holds i))
