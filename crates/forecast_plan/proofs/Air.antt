@@ -7,8 +7,7 @@ use Prim.Native.Nat.{ℕ, _+_, _-_, _*_, _≤_, _<_}
 use native.Mathlib.Nat.{mul-le-mul}
 use native.Mathlib.Omega.{arith}
 use native.Mathlib.Numerals.{add-one}
-use lib.ListN.{length, set, take, drop, length-set, length-drop}
-use lib.Seq.{length-take-le}
+use lib.ListN.{length, set, take, drop, length-set}
 use Rattle.assignment.specs.Sum.{sum}
 use Rattle.assignment.specs.Rows.{el}
 use Rattle.assignment.specs.Moves.{Moved}
@@ -18,8 +17,7 @@ use Rattle.assignment.proofs.Tests.{eq?}
 use Rattle.forecast_plan.specs.Forecast.{forecastAt, firstRoom}
 use Rattle.forecast_plan.specs.Loop.{Adding, waitsOf, airborne, Weighed}
 use Rattle.forecast_plan.proofs.Landing.{room-closing, room-from, room-to, room-same}
-use Rattle.forecast_plan.proofs.Parts.{part-in, part-size, part-at}
-use Rattle.forecast_plan.proofs.Holds.{forecast-length}
+use Rattle.forecast_plan.proofs.Parts.{parted-days, parted-part, part-size, part-at}
 
 -- ---- one forecast
 
@@ -75,8 +73,8 @@ module _ {p : ℕ} {weights rows waits : List ℕ} {due : ℕ} {air : List ℕ} 
         arith,
         w .sums q from to,
         sum-most s 96000 (λ t. el weights t * (firstRoom (waitsOf waits t) (forecastAt p rows t) q - q)) (λ t b.
-            let days = forecast-length p (length weights) rows (w .whole) t (omega (arith, w .upto)) in
-            omega (arith, mul-le-mul {n₁ = el weights t} {m₁ = firstRoom (waitsOf waits t) (forecastAt p rows t) q - q} {n₂ = 1000} {m₂ = 96} (w .odds t) (omega (arith, days, w .from, w .periods, room-to (waitsOf waits t) (forecastAt p rows t) q (omega (arith, days)))))),
+            let days = parted-days (w .parted) {s = t} (omega (arith, w .upto)) in
+            omega (arith, mul-le-mul {n₁ = el weights t} {m₁ = firstRoom (waitsOf waits t) (forecastAt p rows t) q - q} {n₂ = 1000} {m₂ = 96} (w .odds t) (omega (arith, days, w .from, w .parted .periods, room-to (waitsOf waits t) (forecastAt p rows t) q (omega (arith, days)))))),
       )
 
   pub weighed-all : length weights ≤ s → Weighed p weights rows waits due air (length weights)
@@ -84,24 +82,18 @@ module _ {p : ℕ} {weights rows waits : List ℕ} {due : ℕ} {air : List ℕ} 
 
 -- the next forecast
 module _ {p : ℕ} {weights rows waits : List ℕ} {due : ℕ} {air : List ℕ} {s : ℕ} (w : Weighed p weights rows waits due air s) (l : s < length weights) where
-  pub weighed-rows : s * p + p ≤ length rows
-  weighed-rows = part-in p (length weights) rows (w .whole) s l
-
   module _ {capacities : List ℕ} (is : capacities ≡ forecastAt p rows s) {v : ℕ} (odds : v ≡ el weights s) where
     days : length capacities ≡ p
-    days = ap length is ∙ forecast-length p (length weights) rows (w .whole) s l
-
-    part-length : length (take 98 (drop (s * 98) waits)) ≡ 98
-    part-length = length-take-le 98 (drop (s * 98) waits) (rw length-drop (omega (arith, w .waited, w .forecasts)))
+    days = ap length is ∙ parted-days (w .parted) l
 
     -- the next forecast's part is yet to be added
     pub weighed-adding : Adding capacities (take (s * 98 + 98 - s * 98) (drop (s * 98) waits)) v due air air (length capacities + 1)
     weighed-adding = rw (part-size s) (record {
-      periods = omega (arith, days, w .periods);
-      waited = part-length;
+      periods = omega (arith, days, w .parted .periods);
+      waited = parted-part (w .parted) l;
       sizes = w .sizes;
       odds = omega (arith, odds, w .odds s);
-      low = λ q from to. omega (arith, weighed-low w q from (omega (arith, days)), w .forecasts);
+      low = λ q from to. omega (arith, weighed-low w q from (omega (arith, days)), w .parted .forecasts);
       from = w .from;
       downto = omega (arith, days, w .to);
       upto = omega arith;
@@ -113,10 +105,7 @@ module _ {p : ℕ} {weights rows waits : List ℕ} {due : ℕ} {air : List ℕ} 
     pub weighed-next : {air₂ : List ℕ} → Adding capacities (take (s * 98 + 98 - s * 98) (drop (s * 98) waits)) v due air air₂ due → Weighed p weights rows waits due air₂ (s + 1)
     unfolding sum
     weighed-next a = record {
-      periods = w .periods;
-      forecasts = w .forecasts;
-      whole = w .whole;
-      waited = w .waited;
+      parted = w .parted;
       odds = w .odds;
       from = w .from;
       to = w .to;
@@ -128,5 +117,5 @@ module _ {p : ℕ} {weights rows waits : List ℕ} {due : ℕ} {air : List ℕ} 
         next : (q : ℕ) → due ≤ q → q ≤ p + 1
             → el air q + v * (firstRoom (el (take (s * 98 + 98 - s * 98) (drop (s * 98) waits))) capacities q - q) ≡ airborne p weights rows waits (s + 1) q
         next q from to =
-            let same = room-same (el (take 98 (drop (s * 98) waits))) (waitsOf waits s) (forecastAt p rows s) q (λ k f t. part-at (s * 98) 98 waits k (omega (arith, sym (ap length is) ∙ days, w .periods))) in
+            let same = room-same (el (take 98 (drop (s * 98) waits))) (waitsOf waits s) (forecastAt p rows s) q (λ k f t. part-at (s * 98) 98 waits k (omega (arith, sym (ap length is) ∙ days, w .parted .periods))) in
             rw (part-size s, odds, is, same, w .sums q from to, add-one)

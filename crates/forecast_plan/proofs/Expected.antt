@@ -9,7 +9,7 @@ use Rattle.assignment.specs.Sum.{sum, count}
 use Rattle.assignment.proofs.Sums.{sum-ext, count-ext}
 use Rattle.day.specs.Day.{Day, due, rate, hold, land}
 use Rattle.forecast_plan.specs.Forecast.{Forecasts, weight, forecast, held, lands, costIf, expected}
-use Rattle.forecast_plan.proofs.Turns.{waiting-everywhere}
+use Rattle.forecast_plan.proofs.Turns.{waiting-same}
 use Rattle.forecast_plan.proofs.Landing.{room-same}
 
 -- ---- sums by weight
@@ -35,7 +35,7 @@ module _ (d : Day) (f : Forecasts) where
   unfolding expected
   expected-same holds others i h same =
       sum-ext (f .count) _ _ (λ s l. ap (λ k. weight f s * costIf d (f .airFactor) i h k) (room-same _ _ (forecast d f s) (due d i + h) (λ k from to.
-      waiting-everywhere (held d holds i) (held d others i) (forecast d f s) (λ j. sym (count-ext i (land d holds) (land d others) (λ o b. ap (λ z. due d o + z) (sym (same o b))) j)) k)))
+      waiting-same (held d holds i) (held d others i) (forecast d f s) k (λ j some before. sym (count-ext i (land d holds) (land d others) (λ o b. ap (λ z. due d o + z) (sym (same o b))) j)))))
 
   -- with weights that add up to 1,000, the ground costs 1,000 times what it costs under one forecast
   pub expected-is : sum (f .count) (weight f) ≡ 1000 → (holds : List ℕ) (i h : ℕ)

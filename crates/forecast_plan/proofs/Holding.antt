@@ -26,10 +26,7 @@ module _ {f : Flight} {factor p : ℕ} {weights rows waits : List ℕ} (r : Read
   pub ready-none : {due : ℕ} → due ≡ f .due → Weighed p weights rows waits due (replicate periodRow 0) 0
   unfolding sum
   ready-none e = rw e (record {
-    periods = r .periods;
-    forecasts = r .forecasts;
-    whole = r .whole;
-    waited = r .waited;
+    parted = r .parted;
     odds = r .odds;
     from = r .due-from;
     to = r .due-to;
@@ -44,9 +41,9 @@ module _ {f : Flight} {factor p : ℕ} {weights rows waits : List ℕ} (r : Read
       rate-to = r .rate-to;
       factor-to = r .factor-to;
       window = omega (arith, l, r .reach, r .due-to);
-      last-to = omega (arith, l, r .periods);
+      last-to = omega (arith, l, r .parted .periods);
       sizes = w .sizes;
-      low = λ q from to. omega (arith, weighed-low w q (omega (arith, e)) (omega (arith, l)), r .forecasts);
+      low = λ q from to. omega (arith, weighed-low w q (omega (arith, e)) (omega (arith, l)), r .parted .forecasts);
     }
 
     pub ready-chooses : {c : Chosen} → Chooses (last - f .due) (weighed f factor (el air)) c

@@ -6,20 +6,18 @@ use mathlib.Core.List.{List, []}
 use Prim.Native.Nat.{ℕ, zero, suc, _+_, _-_, _*_, _≤_, _<_}
 use native.Mathlib.Nat.{mul-le-mul}
 use native.Mathlib.Omega.{arith}
-use lib.ListN.{length, drop, length-append, length-drop, List·getD-append}
-use lib.Seq.{getD-at, ext-getD, length-take-le}
+use lib.ListN.{length, length-append, List·getD-append}
+use lib.Seq.{getD-at, ext-getD}
 use Rattle.assignment.proofs.Tests.{eq?}
 use Rattle.day.specs.Day.{Day, P, N, due, rate, last, Window, hold}
 use Rattle.day.specs.Valid.{InRange}
 use Rattle.day.proofs.Costs.{due-latest}
-use Rattle.forecast_plan.specs.Forecast.{Forecasts, weight, forecastAt, forecast, held, waiting, lands, costIf, expected, leastHold, longest, holdsTo, forecastHolds}
+use Rattle.forecast_plan.specs.Forecast.{Forecasts, weight, forecast, held, waiting, lands, costIf, expected, leastHold, longest, holdsTo, forecastHolds}
 use Rattle.forecast_plan.specs.Loop.{Fit}
+use Rattle.forecast_plan.proofs.Parts.{part-length}
 use Rattle.forecast_plan.proofs.Landing.{room-to}
 use Rattle.forecast_plan.proofs.Least.{IsLeast, is-least, least-only, least-same}
 use Rattle.forecast_plan.proofs.Expected.{weigh-most, expected-same}
-
-pub forecast-length : (p n : ℕ) (rows : List ℕ) → length rows ≡ n * p → (s : ℕ) → s < n → length (forecastAt p rows s) ≡ p
-forecast-length p n rows whole s l = length-take-le p (drop (s * p) rows) (rw length-drop (omega (arith, whole, mul-le-mul {n₁ = s + 1} {m₁ = p} {n₂ = n} {m₂ = p} (omega arith) (omega arith))))
 
 module _ (d : Day) (f : Forecasts) where
   pub holds-length : (n : ℕ) → length (holdsTo d f n) ≡ n
@@ -98,7 +96,7 @@ module _ (d : Day) (i : ℕ) (r : InRange (P d) (d .flights) i) where
 module _ {d : Day} {f : Forecasts} (fit : Fit d f) (holds : List ℕ) (i : ℕ) (l : i < N d) where
   lands-by : (q s : ℕ) → q ≤ P d + 1 → s < f .count → lands (held d holds i) (forecast d f s) q ≤ 97
   lands-by q s to b =
-      let e = forecast-length (P d) (f .count) (f .rows) (fit .rows-are) s b in
+      let e = part-length (P d) (f .count) (f .rows) (fit .rows-are) s b in
       omega (arith, e, room-to (waiting (held d holds i) (forecast d f s)) (forecast d f s) q (omega (arith, e)), fit .good .periods-to)
 
   cost-most : (h k : ℕ) → h ≤ 96 → k ≤ 97 → costIf d (f .airFactor) i h k ≤ 9600000

@@ -6,16 +6,36 @@ use mathlib.Core.List.{List, _++_}
 use Prim.Native.Nat.{ℕ, _+_, _-_, _*_, _≤_, _<_}
 use native.Mathlib.Nat.{mul-le-mul-right}
 use native.Mathlib.Omega.{arith}
-use lib.ListN.{length, take, drop, List·getD-append}
+use lib.ListN.{length, take, drop, length-drop, List·getD-append}
 use lib.Seq.{getD-take, getD-drop, getD-append-add, length-take-le}
 use Rattle.assignment.specs.Rows.{el}
 use Rattle.assignment.proofs.Tests.{lt?}
+use Rattle.forecast_plan.specs.Forecast.{forecastAt}
+use Rattle.forecast_plan.specs.Loop.{Parted}
 
--- part s of n parts of p entries is in the row
-pub part-in : (p n : ℕ) (rows : List ℕ) → length rows ≡ n * p → (s : ℕ) → s < n → s * p + p ≤ length rows
-part-in p n rows whole s l = omega (arith, whole, mul-le-mul-right {m = s + 1} {n = n} p (omega arith))
+-- part s of n parts of p entries is in the row, and has p entries
+module _ (p n : ℕ) (rows : List ℕ) (whole : length rows ≡ n * p) (s : ℕ) (l : s < n) where
+  part-in : s * p + p ≤ length rows
+  part-in = omega (arith, whole, mul-le-mul-right {m = s + 1} {n = n} p (omega arith))
 
--- the size of a part of a row of parts for the periods, as the program names its end
+  pub part-length : length (take p (drop (s * p) rows)) ≡ p
+  part-length = length-take-le p (drop (s * p) rows) (rw length-drop (omega (arith, part-in)))
+
+-- the parts of the forecasts, and of the row in which who waits is kept
+module _ {p n : ℕ} {rows waits : List ℕ} (r : Parted p n rows waits) {s : ℕ} (l : s < n) where
+  pub parted-rows : s * p + p ≤ length rows
+  parted-rows = part-in p n rows (r .whole) s l
+
+  pub parted-days : length (forecastAt p rows s) ≡ p
+  parted-days = part-length p n rows (r .whole) s l
+
+  pub parted-waits : s * 98 + 98 ≤ length waits
+  parted-waits = part-in 98 8 waits (r .sizes) s (omega (arith, r .forecasts))
+
+  pub parted-part : length (take 98 (drop (s * 98) waits)) ≡ 98
+  parted-part = part-length 98 8 waits (r .sizes) s (omega (arith, r .forecasts))
+
+-- the size of a part of that row, as the program names its end
 pub part-size : (s : ℕ) → s * 98 + 98 - s * 98 ≡ 98
 part-size s = omega arith
 

@@ -20,12 +20,13 @@ use Rattle.day.proofs.Costs.{due-latest}
 use Rattle.day.proofs.Flights.{there, due-read}
 use Rattle.forecast_plan.specs.declared.Chosen.{Chosen}
 use Rattle.forecast_plan.specs.Forecast.{Forecasts, weight, forecast, held, waiting, firstRoom, lands, expected, longest, forecastHolds, expectedTotal}
-use Rattle.forecast_plan.specs.Loop.{Turns, waitsOf, airborne, weighed, Chooses, Ready, Fit, Placed}
-use Rattle.forecast_plan.proofs.Turns.{waiting-same, left-over-most}
+use Rattle.forecast_plan.specs.Loop.{Counts, Turns, waitsOf, airborne, weighed, Chooses, Ready, Fit, Placed}
+use Rattle.forecast_plan.proofs.Parts.{parted-days}
+use Rattle.forecast_plan.proofs.Turns.{waiting-same, waiting-most}
 use Rattle.forecast_plan.proofs.Landing.{room-same}
 use Rattle.forecast_plan.proofs.Least.{is-least}
 use Rattle.forecast_plan.proofs.Expected.{expected-is}
-use Rattle.forecast_plan.proofs.Holds.{forecast-length, holds-length, each-hold, each-least, hold-window, expected-most}
+use Rattle.forecast_plan.proofs.Holds.{holds-length, each-hold, each-least, hold-window, expected-most}
 use Rattle.forecast_plan.proofs.Holding.{chooses-same}
 
 -- no weight is above their sum
@@ -35,13 +36,16 @@ weight-to {d} {f} fit s = elim (lt? s (f .count)) [
   | inr l ↦ omega (arith, List·getD-eq-default (f .weights) 0 {n = s} (omega (arith, fit .weights-are)))
 ]
 
--- a row for periods has at most as many as in-table are flights in an entry, if it counts flights
-few-held : (heldTo : List ℕ) (n : ℕ) (x : ℕ → ℕ) → length heldTo ≡ periodRow → n ≤ mostFlights
-    → ((k : ℕ) → k < periodRow → el heldTo k ≡ count n x k) → (k : ℕ) → el heldTo k ≤ mostFlights
-few-held heldTo n x size most counted k = elim (lt? k periodRow) [
-  | inl l ↦ omega (arith, counted k l, count-le n x k)
-  | inr l ↦ omega (arith, List·getD-eq-default heldTo 0 {n = k} (omega (arith, size)))
-]
+-- a row of periods that counts flights has no entry above their number
+counts-held : (heldTo : List ℕ) (n : ℕ) (x : ℕ → ℕ) → length heldTo ≡ periodRow → n ≤ mostFlights
+    → ((k : ℕ) → k < periodRow → el heldTo k ≡ count n x k) → Counts heldTo
+counts-held heldTo n x size most counted = record {
+  places = size;
+  few = λ k. elim (lt? k periodRow) [
+    | inl l ↦ omega (arith, counted k l, count-le n x k)
+    | inr l ↦ omega (arith, List·getD-eq-default heldTo 0 {n = k} (omega (arith, size)))
+  ];
+}
 
 module _ {d : Day} {f : Forecasts} {holds heldTo waits : List ℕ} {from total i : ℕ} (p : Placed d f holds heldTo waits from total i) (l : i < length holds) where
   in-table : i < N d
@@ -55,10 +59,7 @@ module _ {d : Day} {f : Forecasts} {holds heldTo waits : List ℕ} {from total i
     pub placed-ready : Ready x (f .airFactor) (P d) (f .weights) (f .rows) waits₂
     unfolding flightAt
     placed-ready = rw x-is (record {
-      periods = p .fit .good .periods-to;
-      forecasts = omega (arith, p .fit .weights-are, p .fit .count-to);
-      whole = rw (p .fit .weights-are) (p .fit .rows-are);
-      waited = t .sizes;
+      parted = rw (p .fit .weights-are) (t .parted);
       odds = weight-to (p .fit);
       factor-to = p .fit .factor-to;
       rate-to = p .fit .good .flight i in-table .rate-to;
@@ -71,11 +72,11 @@ module _ {d : Day} {f : Forecasts} {holds heldTo waits : List ℕ} {from total i
     same-lands : (s q : ℕ) → s < f .count → due d i ≤ q
         → lands (held d (forecastHolds d f) i) (forecast d f s) q ≡ firstRoom (waitsOf waits₂ s) (forecast d f s) q
     same-lands s q b from =
-        let days = forecast-length (P d) (f .count) (f .rows) (p .fit .rows-are) s b in
+        let days = parted-days (t .parted) b in
         sym (room-same (waitsOf waits₂ s) (waiting (held d (forecastHolds d f) i) (forecast d f s)) (forecast d f s) q (λ k after to.
         let some : 1 ≤ k = omega (arith, p .fit .good .flight i in-table .due-from) in
         t .known s b .each k some (omega (arith, days)) to
-        ∙ waiting-same (el heldTo) (held d (forecastHolds d f) i) (forecast d f s) (P d + 1) (λ o one c. p .counted o (omega (arith, p .fit .good .periods-to))) k some (omega (arith, days))))
+        ∙ waiting-same (el heldTo) (held d (forecastHolds d f) i) (forecast d f s) k (λ o one c. p .counted o (omega (arith, days, p .fit .good .periods-to)))))
 
     -- so that its hold costs what the definition says
     same-cost : (h : ℕ) → h ≤ longest d i
@@ -121,7 +122,7 @@ module _ {d : Day} {f : Forecasts} {holds heldTo waits : List ℕ} {from total i
         lands-to = omega (arith, q-is, placed-hold)
 
         m : Moved (el heldTo) (el (set heldTo q (el heldTo q + 1))) q (el heldTo q + 1)
-        m = set-moved heldTo q (el heldTo q + 1) (omega (arith, q-is, placed-to, p .turns .places, p .fit .good .periods-to))
+        m = set-moved heldTo q (el heldTo q + 1) (omega (arith, q-is, placed-to, p .turns .counts .places, p .fit .good .periods-to))
 
         next-counted : (k : ℕ) → k < periodRow → el (set heldTo q (el heldTo q + 1)) k ≡ held d (forecastHolds d f) (i + 1) k
         next-counted k b =
@@ -133,16 +134,12 @@ module _ {d : Day} {f : Forecasts} {holds heldTo waits : List ℕ} {from total i
 
         next-turns : Turns (P d) (f .count) (f .rows) (set heldTo q (el heldTo q + 1)) waits₂ q
         next-turns = record {
-          periods = t .periods;
-          forecasts = t .forecasts;
-          whole = t .whole;
-          places = length-set heldTo q (el heldTo q + 1) ∙ t .places;
-          sizes = t .sizes;
-          few = few-held (set heldTo q (el heldTo q + 1)) (i + 1) (land d (forecastHolds d f)) (length-set heldTo q (el heldTo q + 1) ∙ t .places) (omega (arith, in-table, p .fit .good .flights-to)) next-counted;
+          parted = t .parted;
+          counts = counts-held (set heldTo q (el heldTo q + 1)) (i + 1) (land d (forecastHolds d f)) (length-set heldTo q (el heldTo q + 1) ∙ t .counts .places) (omega (arith, in-table, p .fit .good .flights-to)) next-counted;
           known = λ s b. record {
             each = λ k some before in-day.
                 t .known s b .each k some (omega (arith, q-is, placed-to)) in-day
-                ∙ waiting-same (el heldTo) (el (set heldTo q (el heldTo q + 1))) (forecast d f s) q (λ o one c. sym (m .others o (λ z. omega arith))) k some before;
+                ∙ waiting-same (el heldTo) (el (set heldTo q (el heldTo q + 1))) (forecast d f s) k (λ o one c. sym (m .others o (λ z. omega arith)));
           };
         }
 
@@ -176,8 +173,7 @@ module _ {d : Day} {f : Forecasts} {holds heldTo waits : List ℕ} {from total i
 
 -- nobody waits where nobody is held
 waiting-none : (heldTo : ℕ → ℕ) (capacities : List ℕ) → ((k : ℕ) → heldTo k ≡ 0) → (j : ℕ) → waiting heldTo capacities j ≡ 0
-unfolding waiting
-waiting-none heldTo capacities none j = omega (arith, none j, left-over-most heldTo capacities 0 (λ k. omega (arith, none k)) (j - 1))
+waiting-none heldTo capacities none j = omega (arith, waiting-most heldTo capacities 0 (λ k. omega (arith, none k)) j)
 
 pub placed-none : {d : Day} {f : Forecasts} {holds : List ℕ} → Fit d f → length holds ≡ N d
     → Placed d f holds (replicate periodRow 0) (replicate 784 0) (P d + 1) 0 0
@@ -187,12 +183,13 @@ placed-none {d} {f} fit each = record {
   each = each;
   upto = omega arith;
   turns = record {
-    periods = fit .good .periods-to;
-    forecasts = fit .count-to;
-    whole = fit .rows-are;
-    places = length-replicate {A = ℕ} periodRow 0;
-    sizes = length-replicate {A = ℕ} 784 0;
-    few = λ k. omega (arith, blank-at periodRow k);
+    parted = record {
+      periods = fit .good .periods-to;
+      forecasts = fit .count-to;
+      whole = fit .rows-are;
+      sizes = length-replicate {A = ℕ} 784 0;
+    };
+    counts = record { places = length-replicate {A = ℕ} periodRow 0; few = λ k. omega (arith, blank-at periodRow k) };
     known = λ s b. record { each = λ k some before in-day. blank-at 784 (s * periodRow + k) ∙ sym (waiting-none (el (replicate periodRow 0)) (forecast d f s) (blank-at periodRow) k) };
   };
   counted = λ k b. blank-at periodRow k ∙ sym (count-zero (land d (forecastHolds d f)) k);

@@ -5,26 +5,20 @@ use mathlib.Core.Logic.{inl, inr}
 use mathlib.Core.List.{List}
 use Prim.Native.Nat.{ℕ, _+_, _-_, _*_, _≤_, _<_}
 use native.Mathlib.Omega.{arith}
-use lib.ListN.{length, take, drop, length-drop}
-use lib.Seq.{length-take-le}
+use lib.ListN.{length, take, drop}
 use borrow.Rule.Slice.PartMut.{putMid, same-len-mid}
 use Rattle.assignment.specs.Rows.{el}
 use Rattle.assignment.proofs.Tests.{eq?}
-use Rattle.day.specs.Day.{mostPeriods, mostFlights, periodRow}
+use Rattle.day.specs.Day.{periodRow}
 use Rattle.forecast_plan.specs.Forecast.{forecastAt}
-use Rattle.forecast_plan.specs.Loop.{Known, Turn, waitsOf, Turns}
-use Rattle.forecast_plan.proofs.Parts.{part-in, part-size, part-at, put-here, put-others}
-use Rattle.forecast_plan.proofs.Holds.{forecast-length}
+use Rattle.forecast_plan.specs.Loop.{Parted, Counts, Known, Turn, waitsOf, Turns}
+use Rattle.forecast_plan.proofs.Parts.{parted-days, parted-waits, parted-part, part-size, part-at, put-here, put-others}
 
 -- those of the first s forecasts are known to the end, the others before `from`
 pub record Refreshed (p n : ℕ) (rows heldTo waits : List ℕ) (from s : ℕ) : Type 0 where
   pub some : 1 ≤ p
-  pub periods : p ≤ mostPeriods
-  pub forecasts : n ≤ 8
-  pub whole : length rows ≡ n * p
-  pub places : length heldTo ≡ periodRow
-  pub sizes : length waits ≡ 8 * periodRow
-  pub few : (k : ℕ) → el heldTo k ≤ mostFlights
+  pub parted : Parted p n rows waits
+  pub counts : Counts heldTo
   pub upto : s ≤ n
   pub done : (t : ℕ) → t < s → Known (el heldTo) (forecastAt p rows t) (waitsOf waits t) (p + 1)
   pub others : (t : ℕ) → s ≤ t → t < n → Known (el heldTo) (forecastAt p rows t) (waitsOf waits t) from
@@ -38,12 +32,8 @@ module _ {p n : ℕ} {rows heldTo waits : List ℕ} {from : ℕ} where
   pub refreshed-none : Turns p n rows heldTo waits from → 1 ≤ p → Refreshed p n rows heldTo waits from 0
   refreshed-none t some = record {
     some = some;
-    periods = t .periods;
-    forecasts = t .forecasts;
-    whole = t .whole;
-    places = t .places;
-    sizes = t .sizes;
-    few = t .few;
+    parted = t .parted;
+    counts = t .counts;
     upto = omega arith;
     done = λ s b. absurd (omega arith);
     others = λ s b l. t .known s l;
@@ -52,35 +42,24 @@ module _ {p n : ℕ} {rows heldTo waits : List ℕ} {from : ℕ} where
   module _ {s : ℕ} (r : Refreshed p n rows heldTo waits from s) where
     pub refreshed-all : n ≤ s → Turns p n rows heldTo waits (p + 1)
     refreshed-all l = record {
-      periods = r .periods;
-      forecasts = r .forecasts;
-      whole = r .whole;
-      places = r .places;
-      sizes = r .sizes;
-      few = r .few;
+      parted = r .parted;
+      counts = r .counts;
       known = λ t b. r .done t (omega arith);
     }
 
     module _ (l : s < n) where
-      pub refreshed-rows : s * p + p ≤ length rows
-      refreshed-rows = part-in p n rows (r .whole) s l
-
-      pub refreshed-part : s * 98 + 98 ≤ length waits
-      refreshed-part = omega (arith, r .sizes, r .forecasts)
-
       module _ {capacities : List ℕ} (is : capacities ≡ forecastAt p rows s) where
         days : length capacities ≡ p
-        days = ap length is ∙ forecast-length p n rows (r .whole) s l
+        days = ap length is ∙ parted-days (r .parted) l
 
         -- a forecast's turn
         pub refreshed-turn : Turn heldTo capacities (take (s * 98 + 98 - s * 98) (drop (s * 98) waits)) from × (1 ≤ p) × (p ≤ length capacities)
         refreshed-turn = rw (part-size s) (
           record {
-            periods = omega (arith, days, r .periods);
-            places = r .places;
-            sizes = length-take-le 98 (drop (s * 98) waits) (rw length-drop (omega (arith, refreshed-part)));
-            few = r .few;
-            known = known-same (omega (arith, days, r .periods)) (λ k b. part-at (s * 98) 98 waits k b) (rw is (r .others s (omega arith) l));
+            periods = omega (arith, days, r .parted .periods);
+            counts = r .counts;
+            sizes = parted-part (r .parted) l;
+            known = known-same (omega (arith, days, r .parted .periods)) (λ k b. part-at (s * 98) 98 waits k b) (rw is (r .others s (omega arith) l));
           },
           r .some,
           omega (arith, days),
@@ -90,19 +69,20 @@ module _ {p n : ℕ} {rows heldTo waits : List ℕ} {from : ℕ} where
             → Refreshed p n rows heldTo (putMid (s * 98) (s * 98 + 98 - s * 98) waits part) from (s + 1)
         refreshed-next {part} t = rw (part-size s) (record {
           some = r .some;
-          periods = r .periods;
-          forecasts = r .forecasts;
-          whole = r .whole;
-          places = r .places;
-          sizes = same-len-mid (s * 98) 98 waits part (t .sizes ∙ sym (length-take-le 98 (drop (s * 98) waits) (rw length-drop (omega (arith, refreshed-part))))) ∙ r .sizes;
-          few = r .few;
+          parted = record {
+            periods = r .parted .periods;
+            forecasts = r .parted .forecasts;
+            whole = r .parted .whole;
+            sizes = same-len-mid (s * 98) 98 waits part (t .sizes ∙ sym (parted-part (r .parted) l)) ∙ r .parted .sizes;
+          };
+          counts = r .counts;
           upto = omega arith;
           done = λ o b. elim (eq? o s) [
-            | inl e ↦ rw e (known-same (short s l) (λ k c. put-here (s * 98) 98 waits part refreshed-part (t .sizes) k c) (rw (sym is) (t .known)))
-            | inr other ↦ known-same (short o (omega arith)) (λ k c. put-others 98 s o waits part refreshed-part (t .sizes) other k c) (r .done o (omega arith))
+            | inl e ↦ rw e (known-same (short s l) (λ k c. put-here (s * 98) 98 waits part (parted-waits (r .parted) l) (t .sizes) k c) (rw (sym is) (t .known)))
+            | inr other ↦ known-same (short o (omega arith)) (λ k c. put-others 98 s o waits part (parted-waits (r .parted) l) (t .sizes) other k c) (r .done o (omega arith))
           ];
-          others = λ o b c. known-same (short o c) (λ k e. put-others 98 s o waits part refreshed-part (t .sizes) (λ y. omega arith) k e) (r .others o (omega arith) c);
+          others = λ o b c. known-same (short o c) (λ k e. put-others 98 s o waits part (parted-waits (r .parted) l) (t .sizes) (λ y. omega arith) k e) (r .others o (omega arith) c);
         })
           where
             short : (o : ℕ) → o < n → length (forecastAt p rows o) < periodRow
-            short o b = omega (arith, r .periods, forecast-length p n rows (r .whole) o b)
+            short o b = omega (arith, r .parted .periods, parted-days (r .parted) b)

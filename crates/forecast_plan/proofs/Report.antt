@@ -8,7 +8,7 @@ use Rattle.assignment.specs.Sum.{sum, count}
 use Rattle.answers.specs.Answers.{outcome}
 use Rattle.answers.specs.declared.Answer.the-variants.{Planned}
 use Rattle.day.specs.Day.{Day, day, flightAt, flightCount, latestOf, last, all, flightFits, isNew, valid}
-use Rattle.forecast_plan.specs.Forecast.{Forecasts, leftOver, waiting, firstRoom, expected, leastHold, holdsTo, expectedTotal}
+use Rattle.forecast_plan.specs.Forecast.{Forecasts, waiting, firstRoom, expected, leastHold, holdsTo, expectedTotal}
 use Rattle.forecast_plan.specs.Calls.{termsFit, forecastsFit, rowsPlan, forecastPlan}
 
 -- its four flights; the capacities of the day itself play no part
@@ -25,10 +25,10 @@ odds one two = record { count = 2; airFactor = 2; weights = one ∷ two ∷ []; 
 module _ (a b c e : ℕ) where
   -- "totals 24,000 thousandths"
   pub report : forecastPlan reportDay (odds 400 600) (a ∷ b ∷ c ∷ e ∷ []) ≡ outcome (Planned 24000) (0 ∷ 0 ∷ 0 ∷ 0 ∷ [])
-  unfolding sum count flightAt flightCount latestOf last all flightFits isNew valid leftOver waiting firstRoom expected leastHold holdsTo expectedTotal termsFit forecastsFit rowsPlan forecastPlan
+  unfolding sum count flightAt flightCount latestOf last all flightFits isNew valid waiting firstRoom expected leastHold holdsTo expectedTotal termsFit forecastsFit rowsPlan forecastPlan
   report = refl
 
   -- "and 30,000 with the odds reversed"
   pub reversed : forecastPlan reportDay (odds 600 400) (a ∷ b ∷ c ∷ e ∷ []) ≡ outcome (Planned 30000) (0 ∷ 0 ∷ 2 ∷ 1 ∷ [])
-  unfolding sum count flightAt flightCount latestOf last all flightFits isNew valid leftOver waiting firstRoom expected leastHold holdsTo expectedTotal termsFit forecastsFit rowsPlan forecastPlan
+  unfolding sum count flightAt flightCount latestOf last all flightFits isNew valid waiting firstRoom expected leastHold holdsTo expectedTotal termsFit forecastsFit rowsPlan forecastPlan
   reversed = refl

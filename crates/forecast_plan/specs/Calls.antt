@@ -9,7 +9,7 @@ use Rattle.assignment.specs.Sum.{sum}
 use Rattle.answers.specs.Answers.{Outcome, outcome}
 use Rattle.answers.specs.declared.Answer.the-variants.{Planned, BadDay, BadLength, BadForecasts, BadTerms}
 use Rattle.day.specs.Day.{Day, P, N, jumpOf, flightCount, all, inside, capacitiesFit, valid}
-use Rattle.forecast_plan.specs.Forecast.{Forecasts, weight, forecastHolds, expectedTotal}
+use Rattle.forecast_plan.specs.Forecast.{Forecasts, forecastHolds, expectedTotal}
 
 -- no flight of the row has "a jump above 0"
 abbrev pub noJumps : List ℕ → Bool

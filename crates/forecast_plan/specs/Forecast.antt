@@ -37,15 +37,14 @@ forecast d f s = forecastAt (P d) (f .rows) s
 abbrev pub held : Day → (holds : List ℕ) (i j : ℕ) → ℕ
 held d holds i j = count i (land d holds) j
 
--- "left over at j is waiting less capacity, never below 0, and 0 before period 1": the sum is waiting at j, below, and the minus stops at 0
-unfoldable pub leftOver : (heldTo : ℕ → ℕ) (capacities : List ℕ) (j : ℕ) → ℕ
-leftOver heldTo capacities zero = 0
-leftOver heldTo capacities (suc j) = heldTo (suc j) + leftOver heldTo capacities j - ofPeriod capacities (suc j)
+-- "left over at j is waiting less capacity, never below 0": the minus stops at 0
+abbrev pub leftOver : (waiting capacity : ℕ) → ℕ
+leftOver waiting capacity = waiting - capacity
 
--- "waiting at j is those held to j plus left over from j−1"
+-- "waiting at j is those held to j plus left over from j−1"; nobody waits "before period 1"
 unfoldable pub waiting : (heldTo : ℕ → ℕ) (capacities : List ℕ) (j : ℕ) → ℕ
-unfolding leftOver
-waiting heldTo capacities j = heldTo j + leftOver heldTo capacities (j - 1)
+waiting heldTo capacities zero = 0
+waiting heldTo capacities (suc j) = heldTo (suc j) + leftOver (waiting heldTo capacities j) (ofPeriod capacities j)
 
 -- "the first period from its held one on where waiting is below capacity, else .. the closing period"
 unfoldable pub firstRoom : (waits : ℕ → ℕ) (capacities : List ℕ) (q : ℕ) → ℕ

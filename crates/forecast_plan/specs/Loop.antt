@@ -26,6 +26,18 @@ pub record Fit (d : Day) (f : Forecasts) : Type 0 where
   pub rows-are : length (f .rows) ≡ f .count * P d
   pub add-up : sum (f .count) (weight f) ≡ 1000
 
+-- the forecasts in one row, of p periods each, and a row with a part for each of them, in which who waits is kept
+pub record Parted (p n : ℕ) (rows waits : List ℕ) : Type 0 where
+  pub periods : p ≤ mostPeriods
+  pub forecasts : n ≤ 8
+  pub whole : length rows ≡ n * p
+  pub sizes : length waits ≡ 8 * periodRow
+
+-- a row in which the flights held to each period are counted
+pub record Counts (heldTo : List ℕ) : Type 0 where
+  pub places : length heldTo ≡ periodRow
+  pub few : (k : ℕ) → el heldTo k ≤ mostFlights
+
 -- who waits under one forecast is known for the periods before `from`
 pub record Known (heldTo : ℕ → ℕ) (capacities : List ℕ) (waits : ℕ → ℕ) (from : ℕ) : Type 0 where
   pub each : (k : ℕ) → 1 ≤ k → k < from → k ≤ length capacities → waits k ≡ waiting heldTo capacities k
@@ -33,9 +45,8 @@ pub record Known (heldTo : ℕ → ℕ) (capacities : List ℕ) (waits : ℕ →
 -- the rows of one forecast: how many are held to each period, and who waits there as far as it is known
 pub record Turn (heldTo capacities waits : List ℕ) (from : ℕ) : Type 0 where
   pub periods : length capacities ≤ mostPeriods
-  pub places : length heldTo ≡ periodRow
+  pub counts : Counts heldTo
   pub sizes : length waits ≡ periodRow
-  pub few : (k : ℕ) → el heldTo k ≤ mostFlights
   pub known : Known (el heldTo) capacities (el waits) from
 
 -- who waits under forecast s, in a row that has a part for each forecast
@@ -44,12 +55,8 @@ waitsOf waits s k = el waits (s * periodRow + k)
 
 -- the rows of all forecasts, of p periods each
 pub record Turns (p n : ℕ) (rows heldTo waits : List ℕ) (from : ℕ) : Type 0 where
-  pub periods : p ≤ mostPeriods
-  pub forecasts : n ≤ 8
-  pub whole : length rows ≡ n * p
-  pub places : length heldTo ≡ periodRow
-  pub sizes : length waits ≡ 8 * periodRow
-  pub few : (k : ℕ) → el heldTo k ≤ mostFlights
+  pub parted : Parted p n rows waits
+  pub counts : Counts heldTo
   pub known : (s : ℕ) → s < n → Known (el heldTo) (forecastAt p rows s) (waitsOf waits s) from
 
 -- a row of periods in the air by weight, for one forecast: from `due` on, what a flight held to a period waits in the air is added
@@ -71,10 +78,7 @@ airborne p weights rows waits n q = sum n (λ s. el weights s * (firstRoom (wait
 
 -- a row of them, from `due` on
 pub record Weighed (p : ℕ) (weights rows waits : List ℕ) (due : ℕ) (air : List ℕ) (n : ℕ) : Type 0 where
-  pub periods : p ≤ mostPeriods
-  pub forecasts : length weights ≤ 8
-  pub whole : length rows ≡ length weights * p
-  pub waited : length waits ≡ 8 * periodRow
+  pub parted : Parted p (length weights) rows waits
   pub odds : (s : ℕ) → el weights s ≤ 1000
   pub from : 1 ≤ due
   pub to : due ≤ p
@@ -102,10 +106,7 @@ pub record Chooses (n : ℕ) (cost : ℕ → ℕ) (c : Chosen) : Type 0 where
 
 -- what a flight's hold asks for, on a day of p periods
 pub record Ready (f : Flight) (factor p : ℕ) (weights rows waits : List ℕ) : Type 0 where
-  pub periods : p ≤ mostPeriods
-  pub forecasts : length weights ≤ 8
-  pub whole : length rows ≡ length weights * p
-  pub waited : length waits ≡ 8 * periodRow
+  pub parted : Parted p (length weights) rows waits
   pub odds : (s : ℕ) → el weights s ≤ 1000
   pub factor-to : factor ≤ 10
   pub rate-to : f .rate ≤ 10000

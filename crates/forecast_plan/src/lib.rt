@@ -16,7 +16,7 @@ ghost use Prim.Native.Nat.{_+_, _-_, _*_, _≤_, _<_, min};
 ghost use lib.ListN.{length, set};
 ghost use lib.Dec.{ltb};
 ghost use Rattle.assignment.specs.Rows.{el};
-ghost use Rattle.day.specs.Day.{lent, N, valid, mostPeriods, mostFlights, periodRow, latestOf};
+ghost use Rattle.day.specs.Day.{lent, N, valid, mostPeriods, mostFlights, periodRow, ofPeriod, latestOf};
 ghost use Rattle.forecast_plan.specs.Forecast.{forecasts, forecastAt, leftOver, waiting, firstRoom, forecastHolds, expectedTotal};
 ghost use Rattle.forecast_plan.specs.Calls.{noJumps, termsFit, allWeights, forecastsFit, rowsPlan, forecastPlan};
 ghost use Rattle.forecast_plan.specs.Loop.{Turn, Turns, Adding, airborne, Weighed, weighed, Low, Chooses, Ready, odds, Fit, Placed};
@@ -63,7 +63,7 @@ fn waiting(held: &[usize], forecast: &[u32], waits: &mut [usize], from: usize, j
 // Who is left over from period j: those who wait there less its capacity. Nobody is before period 1.
 fn left_over(held: &[usize], forecast: &[u32], waits: &mut [usize], from: usize, j: usize) -> usize
     requires { ⌜ Turn (now held) (now forecast) (now waits) from × (j ≤ length (now forecast)) ⌝ }
-    ensures { λ r. ⌜ r ≡ leftOver (el (now (held .entry))) (now (forecast .entry)) j ⌝ }
+    ensures { λ r. ⌜ r ≡ leftOver (waiting (el (now (held .entry))) (now (forecast .entry)) j) (ofPeriod (now (forecast .entry)) j) ⌝ }
     ensures { λ _. ⌜ Turn (now (held .entry)) (now (forecast .entry)) (now (waits .exit)) (j + 1) ⌝ }
 {
     if j == 0 {

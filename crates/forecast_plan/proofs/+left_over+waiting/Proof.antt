@@ -3,7 +3,7 @@
 -- Assumes nothing.
 use mathlib.Core.Path.{_∙_}
 use native.Mathlib.Omega.{arith}
-use Rattle.forecast_plan.proofs.Turns.{none-left-over, left-over-here, waiting-here, left-over-most, turn-to, turn-none, turn-next}
+use Rattle.forecast_plan.proofs.Turns.{none-left-over, left-over-here, waiting-here, waiting-most, turn-to, turn-none, turn-next}
 use borrow.Author.Needs.{needs}
 use Prim.Native.Nat.{ℕ, _<_, _*_, _+_, _-_}
 use lib.ListN.{length-set}
@@ -83,7 +83,9 @@ left-over-mul-wide : (t : ℕ) → left-over-lts.Need-mul-wide (
   less-reads.Asked,
   less-reads.Learnt,
 ) (left-over-at t) left-over.Post
-left-over-mul-wide t c = omega (arith, c .before .before .before .before .before .before .before .before .pre .1 .0 .periods)
+left-over-mul-wide t c =
+    let at-start = c .before .before .before .before .before .before .before .before in
+    omega (arith, at-start .pre .1 .0 .periods)
 
 left-over-shared-slice-read-wide : (t : ℕ) → left-over-lts.Need-shared-slice-read-wide (
   waiting-below t,
@@ -93,7 +95,9 @@ left-over-shared-slice-read-wide : (t : ℕ) → left-over-lts.Need-shared-slice
   less-reads.Asked,
   less-reads.Learnt,
 ) (left-over-at t) left-over.Post
-left-over-shared-slice-read-wide t c = omega (arith, c .before .before .before .before .before .before .before .before .before .pre .1 .1)
+left-over-shared-slice-read-wide t c =
+    let at-start = c .before .before .before .before .before .before .before .before .before in
+    omega (arith, at-start .pre .1 .1)
 
 left-over-wide-requires : (t : ℕ) → left-over-lts.Need-wide-requires (
   waiting-below t,
@@ -190,7 +194,7 @@ waiting-add-here t c =
     let at-left-over = c .before .before in
     let at-start = at-left-over .before .before .before .before .before .before .before in
     let turn = at-start .pre .1 .0 in
-    omega (arith, turn .periods, turn .few (at-start .args .j), left-over-most _ (at-start .args .forecast .now) 128 (turn .few) (at-start .args .j - 1), at-left-over .left-over .ensures .0)
+    omega (arith, turn .periods, turn .counts .few (at-start .args .j), waiting-most _ (at-start .args .forecast .now) 128 (turn .counts .few) (at-start .args .j - 1), at-left-over .left-over .ensures .0)
 
 waiting-mul-waits :
     (t : ℕ) →
@@ -217,7 +221,7 @@ waiting-returns-2 :
 waiting-returns-2 t c =
     let at-left-over = c .before .before in
     let at-start = at-left-over .before .before .before .before .before .before .before in
-    let here = waiting-here _ _ (at-start .args .j) (at-left-over .left-over .ensures .0) in
+    let here = waiting-here _ _ (at-start .args .j) (at-start .pre .1 .1) (at-left-over .left-over .ensures .0) in
     (here, turn-next (at-left-over .left-over .ensures .1) (at-start .args .j) _ (omega arith) here (at-start .pre .1 .2))
 
 pub +left-over+waiting-spec : {M : Type 1} → statement M

@@ -1,7 +1,6 @@
 -- The landing from period j is known, and every period from j on has its part.
 -- Assumes nothing.
 use mathlib.Core.Path.{_≡_, sym}
-use Prim.Native.Nat.{_-_}
 use native.Mathlib.Omega.{arith}
 use borrow.Author.Needs.{needs}
 use Rattle.assignment.specs.Rows.{el}

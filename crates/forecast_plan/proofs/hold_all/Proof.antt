@@ -63,7 +63,7 @@ count-in-requires c κs =
     let turns = at-refresh .refresh .ensures in
     let flight = at-flight-at .flight-at .ensures in
     let chosen = at-hold-of .hold-of .ensures in
-    (omega (arith, placed-due placed test turns flight chosen (c .before .wide .ensures), placed .turns .places), placed .turns .few _)
+    (omega (arith, placed-due placed test turns flight chosen (c .before .wide .ensures), placed .turns .counts .places), placed .turns .counts .few _)
 
 cast-holds : tie.Need-cast-holds Inv-loop μ-loop
 cast-holds c =

@@ -1,10 +1,11 @@
--- The rows of the first s rows are up to date.
+-- Who waits under the first s forecasts is up to date.
 -- Assumes nothing.
 use mathlib.Core.Path.{sym, _∙_}
 use Prim.Native.Nat.{_-_}
 use native.Mathlib.Omega.{arith}
 use borrow.Author.Needs.{needs}
-use Rattle.forecast_plan.proofs.Refreshing.{Refreshed, refreshed-none, refreshed-rows, refreshed-part, refreshed-turn, refreshed-next, refreshed-all}
+use Rattle.forecast_plan.proofs.Parts.{parted-rows, parted-waits}
+use Rattle.forecast_plan.proofs.Refreshing.{Refreshed, refreshed-none, refreshed-turn, refreshed-next, refreshed-all}
 use Rattle.forecast_plan.proofs.refresh.Statement.{statement}
 use Rattle.forecast_plan.proofs.refresh.Tie as tie
 
@@ -18,16 +19,16 @@ loop-holds : tie.Need-loop-holds Inv-loop μ-loop
 loop-holds c = refreshed-none (c .before .before .before .pre .0) (c .before .before .before .pre .1)
 
 forecast-at-requires : tie.Need-forecast-at-requires Inv-loop μ-loop
-forecast-at-requires c κs = refreshed-rows (c .before .loop .inv) (c .loop-test .taken)
+forecast-at-requires c κs = parted-rows (c .before .loop .inv .parted) (c .loop-test .taken)
 
 mul-place : tie.Need-mul-place Inv-loop μ-loop
-mul-place c = omega (arith, c .before .before .loop .inv .forecasts, c .before .loop-test .taken)
+mul-place c = omega (arith, c .before .before .loop .inv .parted .forecasts, c .before .loop-test .taken)
 
 add-waiting : tie.Need-add-waiting Inv-loop μ-loop
-add-waiting c = omega (arith, c .before .before .loop .inv .forecasts, c .before .loop-test .taken)
+add-waiting c = omega (arith, c .before .before .loop .inv .parted .forecasts, c .before .loop-test .taken)
 
 mul-waiting : tie.Need-mul-waiting Inv-loop μ-loop
-mul-waiting c = omega (arith, c .before .before .loop .inv .forecasts, c .before .loop-test .taken)
+mul-waiting c = omega (arith, c .before .before .loop .inv .parted .forecasts, c .before .loop-test .taken)
 
 sub-waiting : tie.Need-sub-waiting Inv-loop μ-loop
 sub-waiting c = omega arith
@@ -36,7 +37,7 @@ part-waiting-start : tie.Need-part-waiting-start Inv-loop μ-loop
 part-waiting-start c = search needs
 
 part-waiting-end : tie.Need-part-waiting-end Inv-loop μ-loop
-part-waiting-end c = refreshed-part (c .before .before .loop .inv) (c .before .loop-test .taken)
+part-waiting-end c = parted-waits (c .before .before .loop .inv .parted) (c .before .loop-test .taken)
 
 waiting-requires : tie.Need-waiting-requires Inv-loop μ-loop
 waiting-requires c κs = refreshed-turn (c .before .before .before .loop .inv) (c .before .before .loop-test .taken) (c .before .forecast-at .ensures)
@@ -55,7 +56,7 @@ loop-again c =
     refreshed-next (at-loop .loop .inv) (at-forecast-at .before .loop-test .taken) (at-forecast-at .forecast-at .ensures) (at-waiting .waiting .ensures .1)
 
 same-length : tie.Need-same-length Inv-loop μ-loop
-same-length c = c .before .loop .inv .sizes ∙ sym (c .before .before .before .before .before .pre .0 .sizes)
+same-length c = c .before .loop .inv .parted .sizes ∙ sym (c .before .before .before .before .before .pre .0 .parted .sizes)
 
 returns : tie.Need-returns Inv-loop μ-loop
 returns c = refreshed-all (c .before .loop .inv) (c .loop-test .left)

@@ -1,4 +1,4 @@
--- The first s rows are weighed.
+-- The first s forecasts are weighed.
 -- Assumes nothing.
 use mathlib.Core.Path.{sym, _∙_}
 use Prim.Native.Nat.{_-_}
@@ -6,7 +6,8 @@ use native.Mathlib.Omega.{arith}
 use lib.ListN.{length}
 use borrow.Author.Needs.{needs}
 use Rattle.forecast_plan.specs.Loop.{Weighed}
-use Rattle.forecast_plan.proofs.Air.{weighed-rows, weighed-adding, weighed-next, weighed-all}
+use Rattle.forecast_plan.proofs.Parts.{parted-rows, parted-waits}
+use Rattle.forecast_plan.proofs.Air.{weighed-adding, weighed-next, weighed-all}
 use Rattle.forecast_plan.proofs.weigh_air.Statement.{statement}
 use Rattle.forecast_plan.proofs.weigh_air.Tie as tie
 
@@ -20,16 +21,16 @@ loop-holds : tie.Need-loop-holds Inv-loop μ-loop
 loop-holds c = c .before .before .before .before .pre
 
 forecast-at-requires : tie.Need-forecast-at-requires Inv-loop μ-loop
-forecast-at-requires c κs = weighed-rows (c .before .loop .inv) (c .loop-test .taken)
+forecast-at-requires c κs = parted-rows (c .before .loop .inv .parted) (c .loop-test .taken)
 
 mul-place : tie.Need-mul-place Inv-loop μ-loop
-mul-place c = omega (arith, c .before .before .loop .inv .forecasts, c .before .loop-test .taken)
+mul-place c = omega (arith, c .before .before .loop .inv .parted .forecasts, c .before .loop-test .taken)
 
 add-add-air : tie.Need-add-add-air Inv-loop μ-loop
-add-add-air c = omega (arith, c .before .before .loop .inv .forecasts, c .before .loop-test .taken)
+add-add-air c = omega (arith, c .before .before .loop .inv .parted .forecasts, c .before .loop-test .taken)
 
 mul-add-air : tie.Need-mul-add-air Inv-loop μ-loop
-mul-add-air c = omega (arith, c .before .before .loop .inv .forecasts, c .before .loop-test .taken)
+mul-add-air c = omega (arith, c .before .before .loop .inv .parted .forecasts, c .before .loop-test .taken)
 
 sub-add-air : tie.Need-sub-add-air Inv-loop μ-loop
 sub-add-air c = omega arith
@@ -38,7 +39,7 @@ part-add-air-start : tie.Need-part-add-air-start Inv-loop μ-loop
 part-add-air-start c = search needs
 
 part-add-air-end : tie.Need-part-add-air-end Inv-loop μ-loop
-part-add-air-end c = omega (arith, c .before .before .loop .inv .waited, c .before .before .loop .inv .forecasts, c .before .loop-test .taken)
+part-add-air-end c = parted-waits (c .before .before .loop .inv .parted) (c .before .loop-test .taken)
 
 mul-wide : tie.Need-mul-wide Inv-loop μ-loop
 mul-wide c = search needs
@@ -70,7 +71,9 @@ loop-again c =
     weighed-next (at-loop .loop .inv) (at-forecast-at .before .loop-test .taken) (at-forecast-at .forecast-at .ensures) (at-wide .wide .ensures) (at-add-air .add-air .ensures)
 
 same-length : tie.Need-same-length Inv-loop μ-loop
-same-length c = c .before .loop .inv .sizes ∙ sym (c .before .before .before .before .before .before .pre .sizes)
+same-length c =
+    let at-start = c .before .before .before .before .before .before in
+    c .before .loop .inv .sizes ∙ sym (at-start .pre .sizes)
 
 returns : tie.Need-returns Inv-loop μ-loop
 returns c = weighed-all (c .before .loop .inv) (c .loop-test .left)
