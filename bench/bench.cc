@@ -1,5 +1,5 @@
 // The core beside LEMON's min-cost-flow solvers, on the same days in one run with equal repeats, and its forecast plan beside
-// a plain program. Every total is compared. A share is the core's time over the other's (below 1: the core is faster); a
+// two programs of ours. Every total is compared. A share is the core's time over the other's (below 1: the core is faster); a
 // solver's is of solving only and with its network built each time. A shared machine puts a program aside for moments and is
 // slower for whiles. So a time is the least of a few repeats, a share is of two such times close together (a turn), a day's
 // figure is the median over the turns, and all is measured in rounds, each over all days.
@@ -13,11 +13,11 @@
 struct Desk {
     Day day, jumpless, plain;
     Forecasts forecasts;
-    uint64_t total = 0, expected = 0, walked = 0;
+    uint64_t total = 0, expected = 0, beside_total = 0;
     std::string sheet, buffer = std::string(MOST_BYTES, ' ');
-    std::vector<uint32_t> capacities = std::vector<uint32_t>(MOST_PERIODS), flights = std::vector<uint32_t>(FLIGHT_ROW), places, walked_holds;
+    std::vector<uint32_t> capacities = std::vector<uint32_t>(MOST_PERIODS), flights = std::vector<uint32_t>(FLIGHT_ROW), places, beside_holds;
 
-    explicit Desk(const Day &given) : day(given), jumpless(given), forecasts(given), sheet(given.sheet()), places(given.count()), walked_holds(given.count())
+    explicit Desk(const Day &given) : day(given), jumpless(given), forecasts(given), sheet(given.sheet()), places(given.count()), beside_holds(given.count())
     {
         jumpless.set(JUMP, 0);
         plain = jumpless;
@@ -48,12 +48,9 @@ struct Desk {
         return plan.number == 0;
     }
 
-    // the plain program in that call's place, which refuses nothing
-    bool walk()
-    {
-        walked = plain_forecast_plan(jumpless, forecasts, walked_holds);
-        return true;
-    }
+    // the other programs in that call's place, which refuse nothing
+    bool plain_forecast() { return beside_total = plain_forecast_plan(jumpless, forecasts, beside_holds), true; }
+    bool placed_forecast() { return beside_total = placed_forecast_plan(jumpless, forecasts, beside_holds), true; }
 };
 
 constexpr int TURN = 10; // repeats of one turn
@@ -108,13 +105,20 @@ static void measure_all(Desk &desk, int repeats, Figures &row)
     row["board/full"] = times_of(desk, &Desk::board, repeats).front() / row["full us"];
 }
 
+// The forecast plan, measured before, as a share of another program's time; both come to the same.
+static void beside(Desk &desk, Call other, int repeats, const std::string &column, Figures &row)
+{
+    row[column] = row.at("forecast us") / times_of(desk, other, repeats).front();
+    expect(desk.beside_total == desk.expected && desk.beside_holds == desk.jumpless.holds, desk.day.name + ": the forecast plan of the " + column + " program differs from the core's");
+}
+
 static void measure_forecasts(Desk &desk, int repeats, Figures &row)
 {
     row["full us"] = times_of(desk, &Desk::full, repeats).front();
     row["forecast us"] = times_of(desk, &Desk::forecast, repeats).front();
     row["forecast/full"] = row["forecast us"] / row["full us"];
-    row["plain"] = row["forecast us"] / times_of(desk, &Desk::walk, repeats).front();
-    expect(desk.walked == desk.expected && desk.walked_holds == desk.jumpless.holds, desk.day.name + ": the plain program's forecast plan differs from the core's");
+    beside(desk, &Desk::plain_forecast, repeats, "plain", row);
+    beside(desk, &Desk::placed_forecast, repeats, "placed", row);
 }
 
 using Measure = void (*)(Desk &, int, Figures &);
@@ -293,9 +297,9 @@ int main(int argc, char **argv)
     print_classes(desks, measure(desks, repeats, rounds, measure_all), {"full us", "simplex", "simplex+build", "capacity", "capacity+build", "cost", "cost+build", "quick/full", "read/full", "write/full", "board/full"});
     std::printf("\nGrowth, ten tight days of each size:\n\n");
     print_classes(growing, measure(growing, repeats, rounds, measure_plan), {"full us", "simplex", "simplex+build"});
-    std::printf("\nForecasts: each day without jumps and with %zu forecasts, as a share of the day's own full plan and of a plain program's time:\n\n", MOST_FORECASTS);
+    std::printf("\nForecasts: each day without jumps and with %zu forecasts, as a share of the day's own full plan and of the times of a plain and of a fast program:\n\n", MOST_FORECASTS);
     Rounds forecasts = measure(desks, repeats, rounds, measure_forecasts);
-    print_classes(desks, forecasts, {"forecast us", "forecast/full", "plain"});
+    print_classes(desks, forecasts, {"forecast us", "forecast/full", "plain", "placed"});
     print_bar(desks, forecasts);
     std::printf("\nThe longest time of a single call, over all days of the folder:\n\n");
     print_longest(desks, repeats);

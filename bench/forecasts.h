@@ -1,5 +1,5 @@
-// Forecasts for the benchmark's days, and a plain program for them. No off-the-shelf solver knows the rule, so the core is
-// measured beside this program.
+// Forecasts for the benchmark's days, and two programs for them, one as the report has it and one as fast as we know. No
+// off-the-shelf solver knows the rule, so the core is measured beside these.
 #ifndef BENCH_FORECASTS_H
 #define BENCH_FORECASTS_H
 
@@ -66,6 +66,43 @@ inline uint64_t plain_forecast_plan(const Day &day, const Forecasts &forecasts, 
         holds[i] = uint32_t(least - costs.begin());
         held[due - 1 + holds[i]]++;
         total += *least;
+    }
+    return total;
+}
+
+// Adds the weighted periods in the air of a flight held to each period from `due` on, from the back: it lands where a place is
+// left, else where one would that is held to the next period.
+inline void add_air(size_t due, uint64_t weight, const uint32_t *left, size_t periods, std::vector<uint64_t> &air)
+{
+    size_t lands = periods + 1;
+    for (size_t k = periods; k >= due; k--) {
+        if (left[k - 1] > 0) lands = k;
+        air[k] += weight * (lands - k);
+    }
+}
+
+// The same holds without counting who waits: under each forecast every flight takes a place of the first period that has one
+// left, so a period has room for the next flight exactly if a place is left. N * C * (P + 1) steps.
+inline uint64_t placed_forecast_plan(const Day &day, const Forecasts &forecasts, std::vector<uint32_t> &holds)
+{
+    size_t periods = day.periods();
+    std::vector<uint32_t> left = forecasts.capacities;
+    std::vector<uint64_t> air(periods + 2);
+    uint64_t total = 0;
+    for (size_t i = 0; i < day.count(); i++) {
+        size_t due = day.field(i, DUE), best = 0;
+        uint64_t rate = day.field(i, RATE);
+        std::fill(air.begin() + due, air.end(), 0);
+        for (size_t s = 0; s < forecasts.weights.size(); s++) add_air(due, forecasts.weights[s], &left[s * periods], periods, air);
+        auto cost = [&](size_t hold) { return rate * (1000 * hold + AIR_FACTOR * air[due + hold]); };
+        for (size_t hold = 1; hold <= day.last(i) - due; hold++)
+            if (cost(hold) < cost(best)) best = hold;
+        for (size_t s = 0; s < forecasts.weights.size(); s++) {
+            uint32_t *end = &left[s * periods] + periods, *place = std::find_if(&left[s * periods] + due - 1 + best, end, [](uint32_t places) { return places > 0; });
+            if (place != end) --*place;
+        }
+        holds[i] = uint32_t(best);
+        total += cost(best);
     }
     return total;
 }
