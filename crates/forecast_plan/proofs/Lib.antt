@@ -1,6 +1,7 @@
 pub mod Report
 pub mod Turns
 pub mod Landing
+pub mod OneMore
 pub mod Least
 pub mod Expected
 pub mod Holds

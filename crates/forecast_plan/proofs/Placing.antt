@@ -21,9 +21,10 @@ use Rattle.day.proofs.Flights.{there, due-read}
 use Rattle.forecast_plan.specs.declared.Chosen.{Chosen}
 use Rattle.forecast_plan.specs.Forecast.{Forecasts, weight, forecast, held, waiting, firstRoom, lands, expected, longest, forecastHolds, expectedTotal}
 use Rattle.forecast_plan.specs.Loop.{Counts, Turns, waitsOf, airborne, weighed, Chooses, Ready, Fit, Placed}
-use Rattle.forecast_plan.proofs.Parts.{parted-days}
-use Rattle.forecast_plan.proofs.Turns.{waiting-same, waiting-most}
+use Rattle.forecast_plan.proofs.Parts.{part-length, parted-days}
+use Rattle.forecast_plan.proofs.Turns.{waiting-same, waiting-most, none-behind}
 use Rattle.forecast_plan.proofs.Landing.{room-same}
+use Rattle.forecast_plan.proofs.OneMore.{turns-more}
 use Rattle.forecast_plan.proofs.Least.{is-least}
 use Rattle.forecast_plan.proofs.Expected.{expected-is}
 use Rattle.forecast_plan.proofs.Holds.{holds-length, each-hold, each-least, hold-window, expected-most}
@@ -47,19 +48,18 @@ counts-held heldTo n x size most counted = record {
   ];
 }
 
-module _ {d : Day} {f : Forecasts} {holds heldTo waits : List ℕ} {from total i : ℕ} (p : Placed d f holds heldTo waits from total i) (l : i < length holds) where
+module _ {d : Day} {f : Forecasts} {holds heldTo waits : List ℕ} {total i : ℕ} (p : Placed d f holds heldTo waits total i) (l : i < length holds) where
   in-table : i < N d
   in-table = omega (arith, p .each)
 
   pub placed-flight : (i + 1) * width ≤ length (d .flights)
   placed-flight = there (d .flights) i in-table
 
-  -- with the rows brought up to date
-  module _ {waits₂ : List ℕ} (t : Turns (P d) (f .count) (f .rows) heldTo waits₂ (P d + 1)) {x : Flight} (x-is : x ≡ flightAt (d .flights) i) where
-    pub placed-ready : Ready x (f .airFactor) (P d) (f .weights) (f .rows) waits₂
+  module _ {x : Flight} (x-is : x ≡ flightAt (d .flights) i) where
+    pub placed-ready : Ready x (f .airFactor) (P d) (f .weights) (f .rows) waits
     unfolding flightAt
     placed-ready = rw x-is (record {
-      parted = rw (p .fit .weights-are) (t .parted);
+      parted = rw (p .fit .weights-are) (p .turns .parted);
       odds = weight-to (p .fit);
       factor-to = p .fit .factor-to;
       rate-to = p .fit .good .flight i in-table .rate-to;
@@ -70,17 +70,17 @@ module _ {d : Day} {f : Forecasts} {holds heldTo waits : List ℕ} {from total i
 
     -- a flight held to a period lands where the definition says
     same-lands : (s q : ℕ) → s < f .count → due d i ≤ q
-        → lands (held d (forecastHolds d f) i) (forecast d f s) q ≡ firstRoom (waitsOf waits₂ s) (forecast d f s) q
+        → lands (held d (forecastHolds d f) i) (forecast d f s) q ≡ firstRoom (waitsOf waits s) (forecast d f s) q
     same-lands s q b from =
-        let days = parted-days (t .parted) b in
-        sym (room-same (waitsOf waits₂ s) (waiting (held d (forecastHolds d f) i) (forecast d f s)) (forecast d f s) q (λ k after to.
+        let days = parted-days (p .turns .parted) b in
+        sym (room-same (waitsOf waits s) (waiting (held d (forecastHolds d f) i) (forecast d f s)) (forecast d f s) q (λ k after to.
         let some : 1 ≤ k = omega (arith, p .fit .good .flight i in-table .due-from) in
-        t .known s b .each k some (omega (arith, days)) to
+        p .turns .known s b .each k some (omega (arith, days)) to
         ∙ waiting-same (el heldTo) (held d (forecastHolds d f) i) (forecast d f s) k (λ o one c. p .counted o (omega (arith, days, p .fit .good .periods-to)))))
 
     -- so that its hold costs what the definition says
     same-cost : (h : ℕ) → h ≤ longest d i
-        → weighed (flightAt (d .flights) i) (f .airFactor) (airborne (P d) (f .weights) (f .rows) waits₂ (length (f .weights))) h
+        → weighed (flightAt (d .flights) i) (f .airFactor) (airborne (P d) (f .weights) (f .rows) waits (length (f .weights))) h
         ≡ expected d f (forecastHolds d f) i h
     unfolding weighed flightAt
     same-cost h to =
@@ -88,7 +88,7 @@ module _ {d : Day} {f : Forecasts} {holds heldTo waits : List ℕ} {from total i
         ∙ sym (expected-is d f (p .fit .add-up) (forecastHolds d f) i h))
 
     module _ {c : Chosen}
-        (chosen : Chooses (min (latestOf (P d) x) (P d + 1) - x .due) (weighed x (f .airFactor) (airborne (P d) (f .weights) (f .rows) waits₂ (length (f .weights)))) c) where
+        (chosen : Chooses (min (latestOf (P d) x) (P d + 1) - x .due) (weighed x (f .airFactor) (airborne (P d) (f .weights) (f .rows) waits (length (f .weights)))) c) where
       same-choice : Chooses (longest d i) (expected d f (forecastHolds d f) i) c
       unfolding last flightAt
       same-choice = chooses-same same-cost (rw x-is at chosen)
@@ -132,32 +132,32 @@ module _ {d : Day} {f : Forecasts} {holds heldTo waits : List ℕ} {from total i
               | inr o ↦ omega (arith, more, p .counted k b, gate-ne (land d (forecastHolds d f) i) k 1 (λ z. o (sym z ∙ lands-to)), m .others k o)
             ]
 
-        next-turns : Turns (P d) (f .count) (f .rows) (set heldTo q (el heldTo q + 1)) waits₂ q
-        next-turns = record {
-          parted = t .parted;
-          counts = counts-held (set heldTo q (el heldTo q + 1)) (i + 1) (land d (forecastHolds d f)) (length-set heldTo q (el heldTo q + 1) ∙ t .counts .places) (omega (arith, in-table, p .fit .good .flights-to)) next-counted;
-          known = λ s b. record {
-            each = λ k some before in-day.
-                t .known s b .each k some (omega (arith, q-is, placed-to)) in-day
-                ∙ waiting-same (el heldTo) (el (set heldTo q (el heldTo q + 1))) (forecast d f s) k (λ o one c. sym (m .others o (λ z. omega arith)));
-          };
-        }
+        next-counts : Counts (set heldTo q (el heldTo q + 1))
+        next-counts = counts-held (set heldTo q (el heldTo q + 1)) (i + 1) (land d (forecastHolds d f)) (length-set heldTo q (el heldTo q + 1) ∙ p .turns .counts .places) (omega (arith, in-table, p .fit .good .flights-to)) next-counted
 
-        pub placed-next : {heldTo₂ : List ℕ} → heldTo₂ ≡ set heldTo q (el heldTo q + 1)
-            → Placed d f (set holds i (c .hold)) heldTo₂ waits₂ q (total + c .cost) (i + 1)
+        -- and the rows are to be brought up to date
+        pub placed-turns : {heldTo₂ : List ℕ} → heldTo₂ ≡ set heldTo q (el heldTo q + 1)
+            → Turns (P d) (f .count) (f .rows) heldTo₂ waits q × (1 ≤ q) × (q ≤ P d + 1) × (1 ≤ P d)
+        placed-turns is =
+            let some : 1 ≤ q = omega (arith, q-is, p .fit .good .flight i in-table .due-from) in
+            let to : q ≤ P d + 1 = omega (arith, q-is, placed-to) in
+            rw is (turns-more q (p .turns) next-counts m some to, some, to, p .fit .good .periods-from)
+
+        pub placed-next : {heldTo₂ waits₂ : List ℕ} → heldTo₂ ≡ set heldTo q (el heldTo q + 1)
+            → Turns (P d) (f .count) (f .rows) heldTo₂ waits₂ (P d + 1) → Placed d f (set holds i (c .hold)) heldTo₂ waits₂ (total + c .cost) (i + 1)
         unfolding sum
-        placed-next is = rw is (record {
+        placed-next is t = record {
           fit = p .fit;
           each = length-set holds i (c .hold) ∙ p .each;
           upto = omega (arith, in-table);
-          turns = next-turns;
-          counted = next-counted;
+          turns = t;
+          counted = rw is next-counted;
           filled = λ j b. elim (eq? j i) [
             | inl e ↦ rw e (stored .here ∙ placed-hold)
             | inr o ↦ stored .others j o ∙ p .filled j (omega arith)
           ];
           summed = rw (add-one i, sym (p .summed), placed-cost);
-        })
+        }
           where
             stored : Moved (el holds) (el (set holds i (c .hold))) i (c .hold)
             stored = set-moved holds i (c .hold) l
@@ -176,7 +176,7 @@ waiting-none : (heldTo : ℕ → ℕ) (capacities : List ℕ) → ((k : ℕ) →
 waiting-none heldTo capacities none j = omega (arith, waiting-most heldTo capacities 0 (λ k. omega (arith, none k)) j)
 
 pub placed-none : {d : Day} {f : Forecasts} {holds : List ℕ} → Fit d f → length holds ≡ N d
-    → Placed d f holds (replicate periodRow 0) (replicate 784 0) (P d + 1) 0 0
+    → Placed d f holds (replicate periodRow 0) (replicate 784 0) 0 0
 unfolding sum
 placed-none {d} {f} fit each = record {
   fit = fit;
@@ -191,13 +191,14 @@ placed-none {d} {f} fit each = record {
     };
     counts = record { places = length-replicate {A = ℕ} periodRow 0; few = λ k. omega (arith, blank-at periodRow k) };
     known = λ s b. record { each = λ k some before in-day. blank-at 784 (s * periodRow + k) ∙ sym (waiting-none (el (replicate periodRow 0)) (forecast d f s) (blank-at periodRow) k) };
+    behind = λ s b. none-behind (part-length (P d) (f .count) (f .rows) (fit .rows-are) s b);
   };
   counted = λ k b. blank-at periodRow k ∙ sym (count-zero (land d (forecastHolds d f)) k);
   filled = λ j b. absurd (omega arith);
   summed = refl;
 }
 
-module _ {d : Day} {f : Forecasts} {holds heldTo waits : List ℕ} {from total i : ℕ} (p : Placed d f holds heldTo waits from total i) (l : length holds ≤ i) where
+module _ {d : Day} {f : Forecasts} {holds heldTo waits : List ℕ} {total i : ℕ} (p : Placed d f holds heldTo waits total i) (l : length holds ≤ i) where
   whole : i ≡ N d
   whole = omega (arith, p .each, p .upto)
 

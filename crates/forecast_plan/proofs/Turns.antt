@@ -3,18 +3,20 @@
 use mathlib.Core.Path.{_≡_, refl, sym, _∙_}
 use mathlib.Core.Logic.{inl, inr}
 use mathlib.Core.List.{List}
-use Prim.Native.Nat.{ℕ, zero, suc, _+_, _-_, _*_, _≤_, _<_}
+use Prim.Native.Nat.{ℕ, zero, suc, _+_, _-_, _*_, _≤_, _<_, min}
 use native.Mathlib.Omega.{arith}
-use native.Mathlib.Numerals.{sub-one}
+use native.Mathlib.Numerals.{add-one, sub-one}
 use lib.ListN.{length, getD, set, length-set}
+use lib.Seq.{getD-set-other}
 use Rattle.assignment.specs.Rows.{el}
 use Rattle.assignment.specs.Moves.{Moved}
 use Rattle.assignment.proofs.Rows.{set-moved}
-use Rattle.assignment.proofs.Tests.{eq?}
+use Rattle.assignment.proofs.Tests.{eq?, lt?}
 use Rattle.day.specs.Day.{ofPeriod}
 use Rattle.day.proofs.Costs.{period-in}
-use Rattle.forecast_plan.specs.Forecast.{leftOver, waiting}
-use Rattle.forecast_plan.specs.Loop.{Turn}
+use Rattle.forecast_plan.specs.Forecast.{leftOver, waiting, firstRoom}
+use Rattle.forecast_plan.specs.Loop.{Behind, Stays, Turn}
+use Rattle.forecast_plan.proofs.Landing.{room-from}
 
 module _ (heldTo : ℕ → ℕ) (capacities : List ℕ) where
   -- "left over .. 0 before period 1"
@@ -26,6 +28,10 @@ module _ (heldTo : ℕ → ℕ) (capacities : List ℕ) where
   pub left-over-here : (j : ℕ) {w c : ℕ} → 1 ≤ j → w ≡ waiting heldTo capacities j → c ≡ getD capacities (j - 1) 0
       → w - c ≡ leftOver (waiting heldTo capacities j) (ofPeriod capacities j)
   left-over-here j some e f = rw (e, f ∙ sym (period-in capacities j (λ z. omega arith)))
+
+  pub waiting-next : (j : ℕ) → waiting heldTo capacities (j + 1) ≡ heldTo (j + 1) + leftOver (waiting heldTo capacities j) (ofPeriod capacities j)
+  unfolding waiting
+  waiting-next j = rw (add-one j)
 
   pub waiting-here : (j : ℕ) {r : ℕ} → 1 ≤ j → r ≡ leftOver (waiting heldTo capacities (j - 1)) (ofPeriod capacities (j - 1))
       → heldTo j + r ≡ waiting heldTo capacities j
@@ -84,3 +90,36 @@ module _ {heldTo capacities waits : List ℕ} {from : ℕ} (t : Turn heldTo capa
     where
       m : Moved (el waits) (el (set waits j v)) j v
       m = set-moved waits j v (omega (arith, t .sizes, t .periods))
+
+-- ---- behind the periods asked for
+
+pub stays-same : {waits : List ℕ} {j : ℕ} → Stays waits waits j
+stays-same = record { each = λ k b. refl }
+
+pub stays-next : {waits waits₂ : List ℕ} {j : ℕ} (v : ℕ) → 1 ≤ j → Stays waits waits₂ (j - 1) → Stays waits (set waits₂ j v) j
+stays-next {waits₂ = waits₂} {j} v some s = record { each = λ k b. getD-set-other waits₂ j k v 0 (λ z. omega arith) ∙ s .each k (omega arith) }
+
+-- nothing is behind the last period
+pub none-behind : {heldTo : ℕ → ℕ} {capacities : List ℕ} {waits : ℕ → ℕ} {p : ℕ} → length capacities ≡ p → Behind heldTo capacities waits (p + 1)
+none-behind {capacities = capacities} {waits} {p} e = record { each = λ k b in-day. absurd (omega (arith, room-from waits capacities (p + 1))) }
+
+-- the period where the flight that is new lands, or the last one
+pub turn-last : {heldTo capacities waits : List ℕ} {from j lands : ℕ} → Turn heldTo capacities waits from → 1 ≤ from → 1 ≤ length capacities
+    → lands ≡ firstRoom (el waits) capacities from → j ≡ min lands (length capacities) → Turn heldTo capacities waits from × (1 ≤ j) × (j ≤ length capacities)
+turn-last {capacities = capacities} {waits} {from} t first some e is = (t, omega (arith, e, is, room-from (el waits) capacities from), omega (arith, is))
+
+-- what is known up to it, and behind it
+pub turn-all : {heldTo capacities waits waits₂ : List ℕ} {from j lands : ℕ} → Turn heldTo capacities waits₂ (j + 1) → Stays waits waits₂ j
+    → Behind (el heldTo) capacities (el waits) from → lands ≡ firstRoom (el waits) capacities from → j ≡ min lands (length capacities)
+    → Turn heldTo capacities waits₂ (length capacities + 1)
+turn-all {j = j} t s b e is = record {
+  periods = t .periods;
+  counts = t .counts;
+  sizes = t .sizes;
+  known = record {
+    each = λ k some l in-day. elim (lt? j k) [
+      | inl after ↦ s .each k after ∙ b .each k (omega (arith, e, is)) in-day
+      | inr to ↦ t .known .each k some (omega arith) in-day
+    ];
+  };
+}

@@ -42,6 +42,14 @@ pub record Counts (heldTo : List ℕ) : Type 0 where
 pub record Known (heldTo : ℕ → ℕ) (capacities : List ℕ) (waits : ℕ → ℕ) (from : ℕ) : Type 0 where
   pub each : (k : ℕ) → 1 ≤ k → k < from → k ≤ length capacities → waits k ≡ waiting heldTo capacities k
 
+-- and behind the first period from `from` on with room: one flight more is held to `from`, and lands there
+pub record Behind (heldTo : ℕ → ℕ) (capacities : List ℕ) (waits : ℕ → ℕ) (from : ℕ) : Type 0 where
+  pub each : (k : ℕ) → firstRoom waits capacities from < k → k ≤ length capacities → waits k ≡ waiting heldTo capacities k
+
+-- a row that stays as it was behind period j
+pub record Stays (before after : List ℕ) (j : ℕ) : Type 0 where
+  pub each : (k : ℕ) → j < k → el after k ≡ el before k
+
 -- the rows of one forecast: how many are held to each period, and who waits there as far as it is known
 pub record Turn (heldTo capacities waits : List ℕ) (from : ℕ) : Type 0 where
   pub periods : length capacities ≤ mostPeriods
@@ -53,11 +61,12 @@ pub record Turn (heldTo capacities waits : List ℕ) (from : ℕ) : Type 0 where
 abbrev pub waitsOf : List ℕ → ℕ → ℕ → ℕ
 waitsOf waits s k = el waits (s * periodRow + k)
 
--- the rows of all forecasts, of p periods each
+-- the rows of all forecasts, of p periods each: with `from` past the last period all is known
 pub record Turns (p n : ℕ) (rows heldTo waits : List ℕ) (from : ℕ) : Type 0 where
   pub parted : Parted p n rows waits
   pub counts : Counts heldTo
   pub known : (s : ℕ) → s < n → Known (el heldTo) (forecastAt p rows s) (waitsOf waits s) from
+  pub behind : (s : ℕ) → s < n → Behind (el heldTo) (forecastAt p rows s) (waitsOf waits s) from
 
 -- a row of periods in the air by weight, for one forecast: from `due` on, what a flight held to a period waits in the air is added
 pub record Adding (capacities waits : List ℕ) (weight due : ℕ) (air₀ air : List ℕ) (j : ℕ) : Type 0 where
@@ -115,11 +124,11 @@ pub record Ready (f : Flight) (factor p : ℕ) (weights rows waits : List ℕ) :
   pub reach : f .due ≤ latestOf p f
 
 -- the flights above table place i have the plan's holds, and are counted and summed
-pub record Placed (d : Day) (f : Forecasts) (holds heldTo waits : List ℕ) (from total i : ℕ) : Type 0 where
+pub record Placed (d : Day) (f : Forecasts) (holds heldTo waits : List ℕ) (total i : ℕ) : Type 0 where
   pub fit : Fit d f
   pub each : length holds ≡ N d
   pub upto : i ≤ N d
-  pub turns : Turns (P d) (f .count) (f .rows) heldTo waits from
+  pub turns : Turns (P d) (f .count) (f .rows) heldTo waits (P d + 1)
   pub counted : (k : ℕ) → k < periodRow → el heldTo k ≡ held d (forecastHolds d f) i k
   pub filled : (j : ℕ) → j < i → hold holds j ≡ hold (forecastHolds d f) j
   pub summed : total ≡ sum i (λ j. expected d f (forecastHolds d f) j (hold (forecastHolds d f) j))

@@ -19,7 +19,7 @@ ghost use Rattle.assignment.specs.Rows.{el};
 ghost use Rattle.day.specs.Day.{lent, N, valid, mostPeriods, mostFlights, periodRow, ofPeriod, latestOf};
 ghost use Rattle.forecast_plan.specs.Forecast.{forecasts, forecastAt, leftOver, waiting, firstRoom, forecastHolds, expectedTotal};
 ghost use Rattle.forecast_plan.specs.Calls.{noJumps, termsFit, allWeights, forecastsFit, rowsPlan, forecastPlan};
-ghost use Rattle.forecast_plan.specs.Loop.{Turn, Turns, Adding, airborne, Weighed, weighed, Low, Chooses, Ready, odds, Fit, Placed};
+ghost use Rattle.forecast_plan.specs.Loop.{Stays, Behind, Turn, Turns, Adding, airborne, Weighed, weighed, Low, Chooses, Ready, odds, Fit, Placed};
 
 // The most forecasts, and a row that has a part for each.
 const FORECASTS: usize = 8;
@@ -46,11 +46,12 @@ fn less(x: usize, y: usize) -> usize
 }
 
 // Who waits in period j for a place under a forecast: those held to it, and those left over from the period before. The row `waits` has
-// who waits before period `from`; it gets the periods to j too, each on the way back.
+// who waits before period `from`; it gets the periods to j too, each on the way back, and stays as it was behind j.
 fn waiting(held: &[usize], forecast: &[u32], waits: &mut [usize], from: usize, j: usize) -> usize
     requires { ⌜ Turn (now held) (now forecast) (now waits) from × (1 ≤ j) × (j ≤ length (now forecast)) ⌝ }
     ensures { λ r. ⌜ r ≡ waiting (el (now (held .entry))) (now (forecast .entry)) j ⌝ }
     ensures { λ _. ⌜ Turn (now (held .entry)) (now (forecast .entry)) (now (waits .exit)) (j + 1) ⌝ }
+    ensures { λ _. ⌜ Stays (now (waits .entry)) (now (waits .exit)) j ⌝ }
 {
     if j < from {
         return waits[j];
@@ -65,6 +66,7 @@ fn left_over(held: &[usize], forecast: &[u32], waits: &mut [usize], from: usize,
     requires { ⌜ Turn (now held) (now forecast) (now waits) from × (j ≤ length (now forecast)) ⌝ }
     ensures { λ r. ⌜ r ≡ leftOver (waiting (el (now (held .entry))) (now (forecast .entry)) j) (ofPeriod (now (forecast .entry)) j) ⌝ }
     ensures { λ _. ⌜ Turn (now (held .entry)) (now (forecast .entry)) (now (waits .exit)) (j + 1) ⌝ }
+    ensures { λ _. ⌜ Stays (now (waits .entry)) (now (waits .exit)) j ⌝ }
 {
     if j == 0 {
         return 0;
@@ -83,7 +85,42 @@ fn forecast_at(rows: &[u32], periods: usize, s: usize) -> &[u32]
     &rows[first..first + periods]
 }
 
-// Brings the rows of all forecasts up to date where flights were held to period `from` and none to an earlier one since.
+// The smaller of two numbers.
+fn smaller(x: usize, y: usize) -> usize
+    ensures { λ r. ⌜ r ≡ min x y ⌝ }
+{
+    if x < y {
+        return x;
+    }
+    y
+}
+
+// The first period from q on in which fewer wait than can land, else the closing period: a flight held to q lands there.
+fn first_room(forecast: &[u32], waits: &[usize], q: usize) -> usize
+    requires { ⌜ (1 ≤ q) × (q ≤ length (now forecast) + 1) × (length (now forecast) < length (now waits)) ⌝ }
+    ensures { λ r. ⌜ r ≡ firstRoom (el (now (waits .entry))) (now (forecast .entry)) q ⌝ }
+{
+    let mut k = q;
+    while k <= forecast.len() {
+        if waits[k] < wide(forecast[k - 1]) {
+            return k;
+        }
+        k += 1;
+    }
+    k
+}
+
+// Brings the row of one forecast up to date after one flight more was held to period `from`. That flight waits with the others up to
+// the period in which it lands; behind it nothing changes.
+fn refresh_one(held: &[usize], forecast: &[u32], waits: &mut [usize], from: usize)
+    requires { ⌜ Turn (now held) (now forecast) (now waits) from × Behind (el (now held)) (now forecast) (el (now waits)) from × (1 ≤ from) × (from ≤ length (now forecast) + 1) × (1 ≤ length (now forecast)) ⌝ }
+    ensures { λ _. ⌜ Turn (now (held .entry)) (now (forecast .entry)) (now (waits .exit)) (length (now (forecast .entry)) + 1) ⌝ }
+{
+    let lands = first_room(forecast, waits, from);
+    waiting(held, forecast, waits, from, smaller(lands, forecast.len()));
+}
+
+// The same for all forecasts.
 fn refresh(
     periods: usize,
     count: usize,
@@ -92,20 +129,14 @@ fn refresh(
     waits: &mut [usize],
     from: usize,
 )
-    requires { ⌜ Turns periods count (now rows) (now held) (now waits) from × (1 ≤ periods) ⌝ }
+    requires { ⌜ Turns periods count (now rows) (now held) (now waits) from × (1 ≤ from) × (from ≤ periods + 1) × (1 ≤ periods) ⌝ }
     ensures { λ _. ⌜ Turns periods count (now (rows .entry)) (now (held .entry)) (now (waits .exit)) (periods + 1) ⌝ }
 {
     let mut s = 0;
     while s < count {
         let forecast = forecast_at(rows, periods, s);
         let place = s * PERIOD_ROW;
-        waiting(
-            held,
-            forecast,
-            &mut waits[place..place + PERIOD_ROW],
-            from,
-            periods,
-        );
+        refresh_one(held, forecast, &mut waits[place..place + PERIOD_ROW], from);
         s += 1;
     }
 }
@@ -210,11 +241,7 @@ fn last_of(periods: usize, f: Flight) -> usize
     requires { ⌜ periods ≤ mostPeriods ⌝ }
     ensures { λ r. ⌜ r ≡ min (latestOf periods f) (periods + 1) ⌝ }
 {
-    let latest = latest_of(periods, f);
-    if periods + 1 < latest {
-        return periods + 1;
-    }
-    latest
+    smaller(latest_of(periods, f), periods + 1)
 }
 
 // A flight's hold, from who waits under each forecast.
@@ -244,7 +271,7 @@ fn count_in(held: &mut [usize], period: usize)
 }
 
 // Holds the flights one after another and sums what they are expected to cost, with rows in which those held to each period are counted
-// and those who wait there are kept. A flight held to a period changes nothing before it.
+// and those who wait there under each forecast are kept.
 fn hold_all(
     capacities: &[u32],
     flights: &[u32],
@@ -255,21 +282,20 @@ fn hold_all(
     held: &mut [usize],
     waits: &mut [usize],
 ) -> usize
-    requires { ⌜ Placed (lent capacities flights) (odds factor weights rows) (now holds) (now held) (now waits) (length (now capacities) + 1) 0 0 ⌝ }
+    requires { ⌜ Placed (lent capacities flights) (odds factor weights rows) (now holds) (now held) (now waits) 0 0 ⌝ }
     ensures { λ r. ⌜ r ≡ expectedTotal (lent (capacities .entry) (flights .entry)) (odds factor (weights .entry) (rows .entry)) (forecastHolds (lent (capacities .entry) (flights .entry)) (odds factor (weights .entry) (rows .entry))) ⌝ }
     ensures { λ _. ⌜ now (holds .exit) ≡ forecastHolds (lent (capacities .entry) (flights .entry)) (odds factor (weights .entry) (rows .entry)) ⌝ }
 {
     let periods = capacities.len();
-    let mut from = periods + 1;
     let mut total = 0;
     let mut i = 0;
     while i < holds.len() {
-        refresh(periods, weights.len(), rows, held, waits, from);
         let f = flight_at(flights, i);
         let chosen = hold_of(f, factor, periods, weights, rows, waits);
         let hold = chosen.hold;
-        from = wide(f.due) + hold;
-        count_in(held, from);
+        let held_to = wide(f.due) + hold;
+        count_in(held, held_to);
+        refresh(periods, weights.len(), rows, held, waits, held_to);
         holds[i] = hold as u32;
         total += chosen.cost;
         i += 1;

@@ -3,7 +3,7 @@
 -- Assumes nothing.
 use mathlib.Core.Path.{_∙_}
 use native.Mathlib.Omega.{arith}
-use Rattle.forecast_plan.proofs.Turns.{none-left-over, left-over-here, waiting-here, waiting-most, turn-to, turn-none, turn-next}
+use Rattle.forecast_plan.proofs.Turns.{none-left-over, left-over-here, waiting-here, waiting-most, turn-to, turn-none, turn-next, stays-same, stays-next}
 use borrow.Author.Needs.{needs}
 use Prim.Native.Nat.{ℕ, _<_, _*_, _+_, _-_}
 use lib.ListN.{length-set}
@@ -51,7 +51,7 @@ left-over-returns : (t : ℕ) → left-over-lts.Need-returns (
 ) (left-over-at t) left-over.Post
 left-over-returns t c =
     let at-start = c .before .before .before .before in
-    (none-left-over _ _ _ (c .if1 .taken), turn-none (at-start .pre .1 .0) (c .if1 .taken))
+    (none-left-over _ _ _ (c .if1 .taken), (turn-none (at-start .pre .1 .0) (c .if1 .taken), stays-same))
 
 left-over-waiting-requires : (t : ℕ) → left-over-lts.Need-waiting-requires (
   waiting-below t,
@@ -160,7 +160,7 @@ waiting-returns :
     waiting-lts.Need-returns (left-over-below t, left-over.Post) (waiting-at t) waiting.Post
 waiting-returns t c =
     let at-start = c .before .before .before .before .before in
-    (at-start .pre .1 .0 .known .each _ (at-start .pre .1 .1) (c .before .if1 .taken) (at-start .pre .1 .2), turn-to (at-start .pre .1 .0) (c .before .if1 .taken))
+    (at-start .pre .1 .0 .known .each _ (at-start .pre .1 .1) (c .before .if1 .taken) (at-start .pre .1 .2), (turn-to (at-start .pre .1 .0) (c .before .if1 .taken), stays-same))
 
 waiting-mul-here :
     (t : ℕ) →
@@ -208,7 +208,7 @@ waiting-slice-write-waits : (t : ℕ) → waiting-lts.Need-slice-write-waits (
 waiting-slice-write-waits t c =
     let at-left-over = c .before .before in
     let at-start = at-left-over .before .before .before .before .before .before .before in
-    omega (arith, at-left-over .left-over .ensures .1 .sizes, at-start .pre .1 .0 .periods, at-start .pre .1 .2)
+    omega (arith, at-left-over .left-over .ensures .1 .0 .sizes, at-start .pre .1 .0 .periods, at-start .pre .1 .2)
 
 waiting-same-length :
     (t : ℕ) →
@@ -222,7 +222,7 @@ waiting-returns-2 t c =
     let at-left-over = c .before .before in
     let at-start = at-left-over .before .before .before .before .before .before .before in
     let here = waiting-here _ _ (at-start .args .j) (at-start .pre .1 .1) (at-left-over .left-over .ensures .0) in
-    (here, turn-next (at-left-over .left-over .ensures .1) (at-start .args .j) _ (omega arith) here (at-start .pre .1 .2))
+    (here, (turn-next (at-left-over .left-over .ensures .1 .0) (at-start .args .j) _ (omega arith) here (at-start .pre .1 .2), stays-next _ (at-start .pre .1 .1) (at-left-over .left-over .ensures .1 .1)))
 
 pub +left-over+waiting-spec : {M : Type 1} → statement M
 +left-over+waiting-spec = close μ-left-over μ-waiting (λ t. left-over-lts.spec (

@@ -6,77 +6,70 @@ use lib.ListN.{length, length-set}
 use borrow.Author.Needs.{needs}
 use Rattle.day.specs.Day.{day}
 use Rattle.forecast_plan.specs.Loop.{Placed}
-use Rattle.forecast_plan.proofs.Placing.{placed-ready, placed-lands, placed-due, placed-total, placed-cost-most, placed-next, placed-all}
+use Rattle.forecast_plan.proofs.Placing.{placed-flight, placed-ready, placed-lands, placed-due, placed-total, placed-cost-most, placed-turns, placed-next, placed-all}
 use Rattle.forecast_plan.proofs.hold_all.Statement.{statement}
 use Rattle.forecast_plan.proofs.hold_all.Tie as tie
 
 abbrev Inv-loop : tie.InvT-loop
-Inv-loop capacities flights factor weights rows holds₀ held₀ waits₀ periods from₀ total₀ i₀ holds held waits from total i =
-    Placed (day capacities flights) (record { count = length weights; airFactor = factor; weights = weights; rows = rows }) holds held waits from total i
+Inv-loop capacities flights factor weights rows holds₀ held₀ waits₀ periods total₀ i₀ holds held waits total i =
+    Placed (day capacities flights) (record { count = length weights; airFactor = factor; weights = weights; rows = rows }) holds held waits total i
 
 abbrev μ-loop : tie.MeasureT-loop
-μ-loop capacities flights factor weights rows holds₀ held₀ waits₀ periods from₀ total₀ i₀ holds held waits from total i = length holds - i
-
-add-from : tie.Need-add-from Inv-loop μ-loop
-add-from c = search needs
+μ-loop capacities flights factor weights rows holds₀ held₀ waits₀ periods total₀ i₀ holds held waits total i = length holds - i
 
 loop-holds : tie.Need-loop-holds Inv-loop μ-loop
 loop-holds c = search needs
 
-refresh-requires : tie.Need-refresh-requires Inv-loop μ-loop
-refresh-requires c κs = search needs
-
 flight-at-requires : tie.Need-flight-at-requires Inv-loop μ-loop
-flight-at-requires c κs = search needs
+flight-at-requires c κs = placed-flight (c .before .loop .inv) (c .loop-test .taken)
 
 hold-of-requires : tie.Need-hold-of-requires Inv-loop μ-loop
-hold-of-requires c κs =
-    let at-flight-at = c .before in
-    let at-refresh = at-flight-at .before .before .before in
-    let at-test = at-refresh .before .before .before in
-    placed-ready (at-test .before .loop .inv) (at-test .loop-test .taken) (at-refresh .refresh .ensures) (at-flight-at .flight-at .ensures)
+hold-of-requires c κs = placed-ready (c .before .before .before .loop .inv) (c .before .before .loop-test .taken) (c .before .flight-at .ensures)
 
 wide-requires : tie.Need-wide-requires Inv-loop μ-loop
 wide-requires c κs = search needs
 
-add-from-2 : tie.Need-add-from-2 Inv-loop μ-loop
-add-from-2 c =
+add-held-to : tie.Need-add-held-to Inv-loop μ-loop
+add-held-to c =
     let at-hold-of = c .before in
     let at-flight-at = at-hold-of .before .before in
-    let at-refresh = at-flight-at .before .before .before in
-    let at-test = at-refresh .before .before .before in
-    let placed = at-test .before .loop .inv in
-    let test = at-test .loop-test .taken in
-    let turns = at-refresh .refresh .ensures in
+    let placed = at-flight-at .before .before .loop .inv in
+    let test = at-flight-at .before .loop-test .taken in
     let flight = at-flight-at .flight-at .ensures in
     let chosen = at-hold-of .hold-of .ensures in
-    omega (arith, placed-due placed test turns flight chosen (c .wide .ensures))
+    omega (arith, placed-due placed test flight chosen (c .wide .ensures))
 
 count-in-requires : tie.Need-count-in-requires Inv-loop μ-loop
 count-in-requires c κs =
     let at-hold-of = c .before .before in
     let at-flight-at = at-hold-of .before .before in
-    let at-refresh = at-flight-at .before .before .before in
-    let at-test = at-refresh .before .before .before in
-    let placed = at-test .before .loop .inv in
-    let test = at-test .loop-test .taken in
-    let turns = at-refresh .refresh .ensures in
+    let placed = at-flight-at .before .before .loop .inv in
+    let test = at-flight-at .before .loop-test .taken in
     let flight = at-flight-at .flight-at .ensures in
     let chosen = at-hold-of .hold-of .ensures in
-    (omega (arith, placed-due placed test turns flight chosen (c .before .wide .ensures), placed .turns .counts .places), placed .turns .counts .few _)
+    (omega (arith, placed-due placed test flight chosen (c .before .wide .ensures), placed .turns .counts .places), placed .turns .counts .few _)
+
+refresh-requires : tie.Need-refresh-requires Inv-loop μ-loop
+refresh-requires c κs =
+    let at-hold-of = c .before .before .before .before .before .before .before in
+    let at-flight-at = at-hold-of .before .before in
+    let placed = at-flight-at .before .before .loop .inv in
+    let test = at-flight-at .before .loop-test .taken in
+    let flight = at-flight-at .flight-at .ensures in
+    let chosen = at-hold-of .hold-of .ensures in
+    let at-wide = c .before .before .before .before .before .before in
+    placed-turns placed test flight chosen (placed-lands placed test flight chosen (at-wide .wide .ensures)) (c .before .before .before .before .count-in .ensures)
 
 cast-holds : tie.Need-cast-holds Inv-loop μ-loop
 cast-holds c =
-    let at-hold-of = c .before .before .before .before .before in
+    let at-hold-of = c .before .before .before .before .before .before .before .before .before .before in
     let at-flight-at = at-hold-of .before .before in
-    let at-refresh = at-flight-at .before .before .before in
-    let at-test = at-refresh .before .before .before in
-    let placed = at-test .before .loop .inv in
-    let test = at-test .loop-test .taken in
-    let turns = at-refresh .refresh .ensures in
+    let placed = at-flight-at .before .before .loop .inv in
+    let test = at-flight-at .before .loop-test .taken in
     let flight = at-flight-at .flight-at .ensures in
     let chosen = at-hold-of .hold-of .ensures in
-    omega (arith, placed-due placed test turns flight chosen (c .before .before .before .before .wide .ensures))
+    let at-wide = c .before .before .before .before .before .before .before .before .before in
+    omega (arith, placed-due placed test flight chosen (at-wide .wide .ensures))
 
 mul-holds : tie.Need-mul-holds Inv-loop μ-loop
 mul-holds c = search needs
@@ -86,16 +79,13 @@ slice-write-holds c = search needs
 
 add-total : tie.Need-add-total Inv-loop μ-loop
 add-total c =
-    let at-hold-of = c .before .before .before .before .before .before in
+    let at-hold-of = c .before .before .before .before .before .before .before .before .before .before .before in
     let at-flight-at = at-hold-of .before .before in
-    let at-refresh = at-flight-at .before .before .before in
-    let at-test = at-refresh .before .before .before in
-    let placed = at-test .before .loop .inv in
-    let test = at-test .loop-test .taken in
-    let turns = at-refresh .refresh .ensures in
+    let placed = at-flight-at .before .before .loop .inv in
+    let test = at-flight-at .before .loop-test .taken in
     let flight = at-flight-at .flight-at .ensures in
     let chosen = at-hold-of .hold-of .ensures in
-    omega (arith, placed-total placed test, placed-cost-most placed test turns flight chosen, placed .upto, placed .fit .good .flights-to)
+    omega (arith, placed-total placed test, placed-cost-most placed test flight chosen, placed .upto, placed .fit .good .flights-to)
 
 add-i : tie.Need-add-i Inv-loop μ-loop
 add-i c = search needs
@@ -105,16 +95,15 @@ loop-less c = simp length-set (omega arith)
 
 loop-again : tie.Need-loop-again Inv-loop μ-loop
 loop-again c =
-    let at-hold-of = c .before .before .before .before .before .before in
+    let at-hold-of = c .before .before .before .before .before .before .before .before .before .before .before in
     let at-flight-at = at-hold-of .before .before in
-    let at-refresh = at-flight-at .before .before .before in
-    let at-test = at-refresh .before .before .before in
-    let placed = at-test .before .loop .inv in
-    let test = at-test .loop-test .taken in
-    let turns = at-refresh .refresh .ensures in
+    let placed = at-flight-at .before .before .loop .inv in
+    let test = at-flight-at .before .loop-test .taken in
     let flight = at-flight-at .flight-at .ensures in
     let chosen = at-hold-of .hold-of .ensures in
-    placed-next placed test turns flight chosen (placed-lands placed test turns flight chosen (c .before .before .before .before .before .wide .ensures)) (c .before .before .before .count-in .ensures)
+    let at-wide = c .before .before .before .before .before .before .before .before .before .before in
+    let at-count-in = c .before .before .before .before .before .before .before .before in
+    placed-next placed test flight chosen (placed-lands placed test flight chosen (at-wide .wide .ensures)) (at-count-in .count-in .ensures) (c .before .before .before .refresh .ensures)
 
 same-length : tie.Need-same-length Inv-loop μ-loop
 same-length c = search needs
@@ -134,14 +123,13 @@ hold-all-spec =
     (tie.spec
     Inv-loop
     μ-loop
-    add-from
     loop-holds
-    refresh-requires
     flight-at-requires
     hold-of-requires
     wide-requires
-    add-from-2
+    add-held-to
     count-in-requires
+    refresh-requires
     cast-holds
     mul-holds
     slice-write-holds

@@ -5,7 +5,7 @@ use Prim.Native.Nat.{_-_}
 use native.Mathlib.Omega.{arith}
 use borrow.Author.Needs.{needs}
 use Rattle.forecast_plan.proofs.Parts.{parted-rows, parted-waits}
-use Rattle.forecast_plan.proofs.Refreshing.{Refreshed, refreshed-none, refreshed-turn, refreshed-next, refreshed-all}
+use Rattle.forecast_plan.proofs.Refreshing.{Refreshed, refreshed-none, refreshed-one, refreshed-next, refreshed-all}
 use Rattle.forecast_plan.proofs.refresh.Statement.{statement}
 use Rattle.forecast_plan.proofs.refresh.Tie as tie
 
@@ -16,7 +16,9 @@ abbrev μ-loop : tie.MeasureT-loop
 μ-loop periods count rows held waits₀ from s₀ waits s = count - s
 
 loop-holds : tie.Need-loop-holds Inv-loop μ-loop
-loop-holds c = refreshed-none (c .before .before .before .pre .0) (c .before .before .before .pre .1)
+loop-holds c =
+    let pre = c .before .before .before .pre in
+    refreshed-none (pre .0) (pre .1) (pre .2) (pre .3)
 
 forecast-at-requires : tie.Need-forecast-at-requires Inv-loop μ-loop
 forecast-at-requires c κs = parted-rows (c .before .loop .inv .parted) (c .loop-test .taken)
@@ -24,23 +26,23 @@ forecast-at-requires c κs = parted-rows (c .before .loop .inv .parted) (c .loop
 mul-place : tie.Need-mul-place Inv-loop μ-loop
 mul-place c = omega (arith, c .before .before .loop .inv .parted .forecasts, c .before .loop-test .taken)
 
-add-waiting : tie.Need-add-waiting Inv-loop μ-loop
-add-waiting c = omega (arith, c .before .before .loop .inv .parted .forecasts, c .before .loop-test .taken)
+add-refresh-one : tie.Need-add-refresh-one Inv-loop μ-loop
+add-refresh-one c = omega (arith, c .before .before .loop .inv .parted .forecasts, c .before .loop-test .taken)
 
-mul-waiting : tie.Need-mul-waiting Inv-loop μ-loop
-mul-waiting c = omega (arith, c .before .before .loop .inv .parted .forecasts, c .before .loop-test .taken)
+mul-refresh-one : tie.Need-mul-refresh-one Inv-loop μ-loop
+mul-refresh-one c = omega (arith, c .before .before .loop .inv .parted .forecasts, c .before .loop-test .taken)
 
-sub-waiting : tie.Need-sub-waiting Inv-loop μ-loop
-sub-waiting c = omega arith
+sub-refresh-one : tie.Need-sub-refresh-one Inv-loop μ-loop
+sub-refresh-one c = omega arith
 
-part-waiting-start : tie.Need-part-waiting-start Inv-loop μ-loop
-part-waiting-start c = search needs
+part-refresh-one-start : tie.Need-part-refresh-one-start Inv-loop μ-loop
+part-refresh-one-start c = search needs
 
-part-waiting-end : tie.Need-part-waiting-end Inv-loop μ-loop
-part-waiting-end c = parted-waits (c .before .before .loop .inv .parted) (c .before .loop-test .taken)
+part-refresh-one-end : tie.Need-part-refresh-one-end Inv-loop μ-loop
+part-refresh-one-end c = parted-waits (c .before .before .loop .inv .parted) (c .before .loop-test .taken)
 
-waiting-requires : tie.Need-waiting-requires Inv-loop μ-loop
-waiting-requires c κs = refreshed-turn (c .before .before .before .loop .inv) (c .before .before .loop-test .taken) (c .before .forecast-at .ensures)
+refresh-one-requires : tie.Need-refresh-one-requires Inv-loop μ-loop
+refresh-one-requires c κs = refreshed-one (c .before .before .before .loop .inv) (c .before .before .loop-test .taken) (c .before .forecast-at .ensures)
 
 add-s : tie.Need-add-s Inv-loop μ-loop
 add-s c = search needs
@@ -50,10 +52,10 @@ loop-less c = search needs
 
 loop-again : tie.Need-loop-again Inv-loop μ-loop
 loop-again c =
-    let at-waiting = c .before .before in
-    let at-forecast-at = at-waiting .before .before in
+    let at-one = c .before .before in
+    let at-forecast-at = at-one .before .before in
     let at-loop = at-forecast-at .before .before in
-    refreshed-next (at-loop .loop .inv) (at-forecast-at .before .loop-test .taken) (at-forecast-at .forecast-at .ensures) (at-waiting .waiting .ensures .1)
+    refreshed-next (at-loop .loop .inv) (at-forecast-at .before .loop-test .taken) (at-forecast-at .forecast-at .ensures) (at-one .refresh-one .ensures)
 
 same-length : tie.Need-same-length Inv-loop μ-loop
 same-length c = c .before .loop .inv .parted .sizes ∙ sym (c .before .before .before .before .before .pre .0 .parted .sizes)
@@ -70,12 +72,12 @@ refresh-spec =
     loop-holds
     forecast-at-requires
     mul-place
-    add-waiting
-    mul-waiting
-    sub-waiting
-    part-waiting-start
-    part-waiting-end
-    waiting-requires
+    add-refresh-one
+    mul-refresh-one
+    sub-refresh-one
+    part-refresh-one-start
+    part-refresh-one-end
+    refresh-one-requires
     add-s
     loop-less
     loop-again
