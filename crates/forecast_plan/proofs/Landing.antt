@@ -7,12 +7,15 @@ use Prim.Native.Nat.{ℕ, suc, _+_, _-_, _≤_, _<_}
 use native.Mathlib.Omega.{arith}
 use lib.ListN.{length, getD}
 use lib.Dec.{ltb}
-use borrow.Author.Tests.{lt-ltb, le-ltb}
 use Rattle.day.specs.Day.{ofPeriod}
 use Rattle.day.specs.Plan.{firstOf}
 use Rattle.day.proofs.Costs.{period-in}
 use Rattle.day.proofs.Tests.{first-le, first-same}
 use Rattle.forecast_plan.specs.Forecast.{firstRoom}
+
+-- a capacity, as the program reads it
+pub capacity-here : (capacities : List ℕ) {j c : ℕ} → 1 ≤ j → c ≡ getD capacities (j - 1) 0 → c ≡ ofPeriod capacities j
+capacity-here capacities {j} some e = e ∙ sym (period-in capacities j (λ z. omega arith))
 
 module _ (waits : ℕ → ℕ) (capacities : List ℕ) where
   -- "else in the closing period"
@@ -39,16 +42,13 @@ module _ (waits : ℕ → ℕ) (capacities : List ℕ) where
       go true = omega arith
       go false = omega (arith, first-same (length capacities - q) (λ t. test (q + suc t)) (λ t. test (q + 1 + t)) (λ t b. ap test (omega arith)))
 
-  -- as the program goes from the back
-  module _ {j c : ℕ} (some : 1 ≤ j) (in-day : j ≤ length capacities) (e : c ≡ getD capacities (j - 1) 0) where
-    capacity-is : ofPeriod capacities j ≡ c
-    capacity-is = period-in capacities j (λ z. omega arith) ∙ sym e
+  -- as the program tests it
+  module _ {j : ℕ} {r : Bool} (in-day : j ≤ length capacities) (e : r ≡ ltb (waits j) (ofPeriod capacities j)) where
+    pub room-here : r ≡ true → j ≡ firstRoom waits capacities j
+    room-here is = sym (room-step j in-day ∙ rw (sym e ∙ is))
 
-    pub room-here : waits j < c → j ≡ firstRoom waits capacities j
-    room-here l = sym (room-step j in-day ∙ rw (capacity-is, lt-ltb (waits j) c l))
-
-    pub room-further : {next : ℕ} → c ≤ waits j → next ≡ firstRoom waits capacities (j + 1) → next ≡ firstRoom waits capacities j
-    room-further l n = n ∙ sym (room-step j in-day ∙ rw (capacity-is, le-ltb (waits j) c l))
+    pub room-further : r ≡ false → firstRoom waits capacities (j + 1) ≡ firstRoom waits capacities j
+    room-further is = sym (room-step j in-day ∙ rw (sym e ∙ is))
 
   pub room-from : (q : ℕ) → q ≤ firstRoom waits capacities q
   unfolding firstRoom

@@ -1,6 +1,6 @@
 -- The laws of waiting and left over, and of the row in which they are kept.
 -- Assumes nothing.
-use mathlib.Core.Path.{_≡_, refl, sym, _∙_}
+use mathlib.Core.Path.{_≡_, refl, _∙_}
 use mathlib.Core.Logic.{inl, inr}
 use mathlib.Core.List.{List}
 use Prim.Native.Nat.{ℕ, zero, suc, _+_, _-_, _*_, _≤_, _<_, min}
@@ -13,10 +13,9 @@ use Rattle.assignment.specs.Moves.{Moved}
 use Rattle.assignment.proofs.Rows.{set-moved}
 use Rattle.assignment.proofs.Tests.{eq?, lt?}
 use Rattle.day.specs.Day.{ofPeriod}
-use Rattle.day.proofs.Costs.{period-in}
 use Rattle.forecast_plan.specs.Forecast.{leftOver, waiting, firstRoom}
 use Rattle.forecast_plan.specs.Loop.{Behind, Stays, Turn}
-use Rattle.forecast_plan.proofs.Landing.{room-from}
+use Rattle.forecast_plan.proofs.Landing.{capacity-here, room-from}
 
 module _ (heldTo : ℕ → ℕ) (capacities : List ℕ) where
   -- "left over .. 0 before period 1"
@@ -27,7 +26,7 @@ module _ (heldTo : ℕ → ℕ) (capacities : List ℕ) where
   -- as the program works them out
   pub left-over-here : (j : ℕ) {w c : ℕ} → 1 ≤ j → w ≡ waiting heldTo capacities j → c ≡ getD capacities (j - 1) 0
       → w - c ≡ leftOver (waiting heldTo capacities j) (ofPeriod capacities j)
-  left-over-here j some e f = rw (e, f ∙ sym (period-in capacities j (λ z. omega arith)))
+  left-over-here j some e f = rw (e, capacity-here capacities some f)
 
   pub waiting-next : (j : ℕ) → waiting heldTo capacities (j + 1) ≡ heldTo (j + 1) + leftOver (waiting heldTo capacities j) (ofPeriod capacities j)
   unfolding waiting

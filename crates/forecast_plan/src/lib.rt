@@ -95,6 +95,14 @@ fn smaller(x: usize, y: usize) -> usize
     y
 }
 
+// Fewer wait in period j than can land.
+fn has_room(forecast: &[u32], waits: &[usize], j: usize) -> bool
+    requires { ⌜ (1 ≤ j) × (j ≤ length (now forecast)) × (j < length (now waits)) ⌝ }
+    ensures { λ r. ⌜ r ≡ ltb (el (now (waits .entry)) j) (ofPeriod (now (forecast .entry)) j) ⌝ }
+{
+    waits[j] < wide(forecast[j - 1])
+}
+
 // The first period from q on in which fewer wait than can land, else the closing period: a flight held to q lands there.
 fn first_room(forecast: &[u32], waits: &[usize], q: usize) -> usize
     requires { ⌜ (1 ≤ q) × (q ≤ length (now forecast) + 1) × (length (now forecast) < length (now waits)) ⌝ }
@@ -102,7 +110,7 @@ fn first_room(forecast: &[u32], waits: &[usize], q: usize) -> usize
 {
     let mut k = q;
     while k <= forecast.len() {
-        if waits[k] < wide(forecast[k - 1]) {
+        if has_room(forecast, waits, k) {
             return k;
         }
         k += 1;
@@ -146,7 +154,7 @@ fn lands_at(forecast: &[u32], waits: &[usize], j: usize, next: usize) -> usize
     requires { ⌜ (1 ≤ j) × (j ≤ length (now forecast)) × (j < length (now waits)) × (next ≡ firstRoom (el (now waits)) (now forecast) (j + 1)) ⌝ }
     ensures { λ r. ⌜ r ≡ firstRoom (el (now (waits .entry))) (now (forecast .entry)) j ⌝ }
 {
-    if waits[j] < wide(forecast[j - 1]) {
+    if has_room(forecast, waits, j) {
         return j;
     }
     next
@@ -241,7 +249,9 @@ fn last_of(periods: usize, f: Flight) -> usize
     requires { ⌜ periods ≤ mostPeriods ⌝ }
     ensures { λ r. ⌜ r ≡ min (latestOf periods f) (periods + 1) ⌝ }
 {
-    smaller(latest_of(periods, f), periods + 1)
+    let latest = latest_of(periods, f);
+    let closing = periods + 1;
+    smaller(latest, closing)
 }
 
 // A flight's hold, from who waits under each forecast.

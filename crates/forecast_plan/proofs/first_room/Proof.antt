@@ -21,29 +21,13 @@ abbrev μ-loop : tie.MeasureT-loop
 loop-holds : tie.Need-loop-holds Inv-loop μ-loop
 loop-holds c = (refl, c .before .before .pre .0, c .before .before .pre .1)
 
-mul-if1 : tie.Need-mul-if1 Inv-loop μ-loop
-mul-if1 c = search needs
-
-shared-slice-read-if1 : tie.Need-shared-slice-read-if1 Inv-loop μ-loop
-shared-slice-read-if1 c = search needs
-
-sub-wide : tie.Need-sub-wide Inv-loop μ-loop
-sub-wide c = search needs
-
-mul-wide : tie.Need-mul-wide Inv-loop μ-loop
-mul-wide c = search needs
-
-shared-slice-read-wide : tie.Need-shared-slice-read-wide Inv-loop μ-loop
-shared-slice-read-wide c = search needs
-
-wide-requires : tie.Need-wide-requires Inv-loop μ-loop
-wide-requires c κs = search needs
+has-room-requires : tie.Need-has-room-requires Inv-loop μ-loop
+has-room-requires c κs = search needs
 
 returns : tie.Need-returns Inv-loop μ-loop
 returns c =
-    let at-test = c .before .before .before .before in
-    let inv = at-test .before .loop .inv in
-    room-here _ _ (inv .1) (at-test .loop-test .taken) (c .before .wide .ensures) (c .if1 .taken) ∙ inv .0
+    let at-test = c .before .before in
+    room-here _ _ (at-test .loop-test .taken) (c .before .has-room .ensures) (c .if1 .taken) ∙ at-test .before .loop .inv .0
 
 add-k : tie.Need-add-k Inv-loop μ-loop
 add-k c = search needs
@@ -53,9 +37,8 @@ loop-less c = search needs
 
 loop-again : tie.Need-loop-again Inv-loop μ-loop
 loop-again c =
-    let at-test = c .before .before .before .before in
-    let inv = at-test .before .loop .inv in
-    (room-further _ _ (inv .1) (at-test .loop-test .taken) (c .before .wide .ensures) (c .if1 .left) refl ∙ inv .0, omega arith, omega arith)
+    let at-test = c .before .before in
+    (room-further _ _ (at-test .loop-test .taken) (c .before .has-room .ensures) (c .if1 .left) ∙ at-test .before .loop .inv .0, omega arith, omega arith)
 
 returns-2 : tie.Need-returns-2 Inv-loop μ-loop
 returns-2 c = sym (room-closing _ _ _ (c .loop-test .left)) ∙ c .before .loop .inv .0
@@ -67,12 +50,7 @@ first-room-spec =
     Inv-loop
     μ-loop
     loop-holds
-    mul-if1
-    shared-slice-read-if1
-    sub-wide
-    mul-wide
-    shared-slice-read-wide
-    wide-requires
+    has-room-requires
     returns
     add-k
     loop-less
