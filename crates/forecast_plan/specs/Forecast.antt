@@ -41,7 +41,7 @@ held d holds i j = count i (land d holds) j
 abbrev pub leftOver : (waiting capacity : ℕ) → ℕ
 leftOver waiting capacity = waiting - capacity
 
--- "waiting at j is those held to j plus left over from j−1"; nobody waits "before period 1"
+-- "waiting at j is those held to j plus left over from j−1"; nobody waits before period 1, so that left over is "0 before period 1"
 unfoldable pub waiting : (heldTo : ℕ → ℕ) (capacities : List ℕ) (j : ℕ) → ℕ
 waiting heldTo capacities zero = 0
 waiting heldTo capacities (suc j) = heldTo (suc j) + leftOver (waiting heldTo capacities j) (ofPeriod capacities j)
