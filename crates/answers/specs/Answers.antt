@@ -22,6 +22,7 @@ use Rattle.answers.specs.declared.Answer.the-variants.{
   NoSuchPeriod,
   BadForecasts,
   BadTerms,
+  BadGrowth,
 }
 use Rattle.answers.specs.declared.Code.{Code}
 
@@ -47,6 +48,7 @@ codeOf (NotLegal place) = code 10 place 0
 codeOf (NoSuchPeriod periods) = code 11 periods 0
 codeOf BadForecasts = code 12 0 0
 codeOf BadTerms = code 13 0 0
+codeOf BadGrowth = code 14 0 0
 
 -- an answer, and the hold row after the call
 pub record Outcome : Type 0 where

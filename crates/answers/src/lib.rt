@@ -21,6 +21,7 @@ pub enum Answer {
     NoSuchPeriod { periods: usize },
     BadForecasts,
     BadTerms,
+    BadGrowth,
 }
 
 // The answer as documents 01 and 02 number it.
@@ -62,5 +63,6 @@ pub fn code_of(answer: Answer) -> Code
         Answer::NoSuchPeriod { periods } => coded(11, periods, 0),
         Answer::BadForecasts => coded(12, 0, 0),
         Answer::BadTerms => coded(13, 0, 0),
+        Answer::BadGrowth => coded(14, 0, 0),
     }
 }

@@ -4,7 +4,7 @@ use mathlib.Core.Path.{_≡_, refl, sym, ap, ap₂, _∙_}
 use mathlib.Core.Logic.{inl, inr, _≢_}
 use mathlib.Core.Bool.{Bool, true, false}
 use Prim.Native.Nat.{ℕ, zero, suc, _+_, _*_, _≤_, _<_, zero-le}
-use native.Mathlib.Nat.{zero-add, suc-add, suc-mul}
+use native.Mathlib.Nat.{zero-add, suc-add, add-mul, mul-suc, suc-mul}
 use native.Mathlib.Omega.{arith}
 use lib.Dec.{ltb, eqb}
 use Rattle.assignment.specs.Sum.{gate, sum, count}
@@ -44,6 +44,24 @@ pub sum-zero : (n : ℕ) (f : ℕ → ℕ) → ((i : ℕ) → i < n → f i ≡ 
 unfolding sum
 sum-zero zero f h = refl
 sum-zero (suc n) f h = omega (arith, sum-zero n f (λ i l. h i (omega arith)), h n (omega arith))
+
+-- n equal terms
+pub sum-same : (n x : ℕ) → sum n (λ i. x) ≡ x * n
+unfolding sum
+sum-same zero x = omega arith
+sum-same (suc n) x = omega (arith, sum-same n x, mul-suc x n)
+
+-- every term m times
+pub sum-times : (n m : ℕ) (f : ℕ → ℕ) → sum n (λ i. f i * m) ≡ sum n f * m
+unfolding sum
+sum-times zero m f = omega arith
+sum-times (suc n) m f = omega (arith, sum-times n m f, add-mul (sum n f) (f n) m)
+
+-- a sum of sums, the other way round
+pub sum-swap : (n m : ℕ) (g : ℕ → ℕ → ℕ) → sum n (λ i. sum m (g i)) ≡ sum m (λ j. sum n (λ i. g i j))
+unfolding sum
+sum-swap zero m g = sym (sum-zero m (λ j. 0) (λ j l. refl))
+sum-swap (suc n) m g = omega (arith, sum-swap n m g, sum-add m (λ j. sum n (λ i. g i j)) (g n))
 
 -- n terms of at most b
 pub sum-most : (n b : ℕ) (f : ℕ → ℕ) → ((i : ℕ) → i < n → f i ≤ b) → sum n f ≤ n * b

@@ -8,6 +8,7 @@ ghost use Rattle.day.specs.Plan.{Cheapest, Accepted};
 ghost use Rattle.sheet.specs.Sheet.{reading, answerOf, capacitiesAfter, flightsAfter};
 ghost use Rattle.sheet_writer.specs.Write.{writeAnswer, writeAfter};
 ghost use Rattle.quick_plan.specs.Calls.{quickPlan};
+ghost use Rattle.growth_plan.specs.Growing.{growthPlan};
 ghost use Rattle.period_card.specs.PeriodCard.{periodCard};
 ghost use Rattle.price_check.specs.Decides.{Decides};
 ghost use Rattle.choice.specs.Choice.{choice};
@@ -66,6 +67,19 @@ pub extern "C" fn hold_desk_quick_plan(
     ensures { λ _. ⌜ now (holds .exit) ≡ quickPlan (lent (capacities .entry) (flights .entry)) (now (holds .entry)) .holds ⌝ }
 {
     code_of(quick_plan::quick_plan(capacities, flights, holds))
+}
+
+#[no_mangle]
+pub extern "C" fn hold_desk_growth_plan(
+    capacities: &[u32],
+    flights: &[u32],
+    growth: u32,
+    holds: &mut [u32],
+) -> Code
+    ensures { λ r. ⌜ r ≡ codeOf (growthPlan growth (lent (capacities .entry) (flights .entry)) (now (holds .entry)) .answer) ⌝ }
+    ensures { λ _. ⌜ now (holds .exit) ≡ growthPlan growth (lent (capacities .entry) (flights .entry)) (now (holds .entry)) .holds ⌝ }
+{
+    code_of(growth_plan::growth_plan(capacities, flights, growth, holds))
 }
 
 #[no_mangle]

@@ -4,6 +4,7 @@ use day::FLIGHTS;
 use day::flight_count;
 use day::is_valid;
 use day::wide;
+use quick_plan::NextCost;
 use quick_plan::first_jump_or_limit;
 use quick_plan::is_waiting;
 use quick_plan::plan_to;
@@ -66,7 +67,7 @@ fn card_in(capacities: &[u32], flights: &[u32], row: &mut [u32], n: usize, j: us
     ensures { λ r. ⌜ r ≡ card (lent (capacities .entry) (flights .entry)) j ⌝ }
 {
     let part = &mut row[0..n];
-    plan_to(capacities, flights, part, j - 1);
+    plan_to(NextCost::Rate, capacities, flights, part, j - 1);
     let set = marks_of(capacities, flights, part, j);
     let size = u64::count_ones(set.low) + u64::count_ones(set.high);
     Card {

@@ -1,36 +1,83 @@
--- What the call comes to, a law for each of its ways.
+-- What the check and the call come to, a law for each of their ways.
 -- Assumes nothing.
-use mathlib.Core.Path.{_≡_, sym, _∙_}
+use mathlib.Core.Path.{_≡_, refl, sym, _∙_}
 use mathlib.Core.Logic.{_≢_}
-use mathlib.Core.Bool.{true, false}
+use mathlib.Core.Bool.{Bool, true, false, cond, not}
 use mathlib.Core.List.{List}
 use Prim.Native.Nat.{ℕ, _≤_, _<_}
 use native.Mathlib.Omega.{arith}
 use lib.ListN.{length}
-use borrow.Author.Tests.{eq-eqb, ne-eqb, lt-ltb, le-ltb}
+use lib.Dec.{ltb, eqb}
+use borrow.Author.Tests.{eq-eqb, ne-eqb, eqb-true, lt-ltb, le-ltb, ltb-false}
 use Rattle.answers.specs.Answers.{outcome}
+use Rattle.answers.specs.declared.Answer.{Answer}
 use Rattle.answers.specs.declared.Answer.the-variants.{Planned, BadDay, BadLength, JumpOrLimit}
-use Rattle.day.specs.Day.{Day, P, N, valid, total}
-use Rattle.day.specs.Plan.{firstJumpOrLimit}
+use Rattle.day.specs.Day.{Day, P, N, flightAt, valid, total}
+use Rattle.day.specs.Plan.{jumpOrLimit, firstJumpOrLimit}
+use Rattle.day.proofs.Tests.{first-le}
+use Rattle.quick_plan.specs.declared.QuickCheck.{QuickCheck}
+use Rattle.quick_plan.specs.declared.QuickCheck.the-variants.{Applies, Refused}
+use Rattle.quick_plan.specs.Quick.{rates}
 use Rattle.quick_plan.specs.Loop.{rowTo}
-use Rattle.quick_plan.specs.Calls.{quickPlan}
+use Rattle.quick_plan.specs.Calls.{quickCheck, quickPlan}
 use Rattle.quick_plan.proofs.Rows.{rowTo-quick}
 
 module _ (d : Day) (h : List ℕ) where
-  pub bad-day : valid d ≡ false → quickPlan d h ≡ outcome BadDay h
-  unfolding quickPlan
+  pub bad-day : valid d ≡ false → Refused BadDay ≡ quickCheck d h
+  unfolding quickCheck
   bad-day e = rw e
 
   module _ (v : valid d ≡ true) {n : ℕ} (size : n ≡ N d) where
-    pub bad-length : length h ≢ n → quickPlan d h ≡ outcome (BadLength n) h
-    unfolding quickPlan
+    pub bad-length : length h ≢ n → Refused (BadLength n) ≡ quickCheck d h
+    unfolding quickCheck
     bad-length o = rw (v, size, ne-eqb (length h) (N d) (λ e. o (e ∙ sym size)))
 
     module _ (each : length h ≡ n) {place : ℕ} (e : place ≡ firstJumpOrLimit (d .flights)) where
-      pub jump-or-limit : place < n → quickPlan d h ≡ outcome (JumpOrLimit place) h
-      unfolding quickPlan
+      pub jump-or-limit : place < n → Refused (JumpOrLimit place) ≡ quickCheck d h
+      unfolding quickCheck
       jump-or-limit l = rw (v, e, eq-eqb (length h) (N d) (each ∙ size), lt-ltb (firstJumpOrLimit (d .flights)) (N d) (omega arith))
 
-      pub planned : n ≤ place → {x : List ℕ} {t : ℕ} → x ≡ rowTo d (P d) → t ≡ total d x → quickPlan d h ≡ outcome (Planned t) x
-      unfolding quickPlan
-      planned g made q = rw (v, eq-eqb (length h) (N d) (each ∙ size), le-ltb (firstJumpOrLimit (d .flights)) (N d) (omega arith), q, made ∙ rowTo-quick d v)
+      pub applies : n ≤ place → Applies ≡ quickCheck d h
+      unfolding quickCheck
+      applies g = rw (v, eq-eqb (length h) (N d) (each ∙ size), le-ltb (firstJumpOrLimit (d .flights)) (N d) (omega arith))
+
+-- what is known of a day and a row where a quick plan is made
+pub record CanPlan (d : Day) (h : List ℕ) : Type 0 where
+  pub good : valid d ≡ true
+  pub each : length h ≡ N d
+  pub plain : firstJumpOrLimit (d .flights) ≡ N d
+
+-- the check, with its three tests laid open
+tests : (d : Day) (v l w : Bool) → QuickCheck
+tests d v l w = cond (not v) (Refused BadDay) (cond (not l) (Refused (BadLength (N d))) (cond w (Refused (JumpOrLimit (firstJumpOrLimit (d .flights)))) Applies))
+
+module _ (d : Day) (h : List ℕ) where
+  opened : quickCheck d h ≡ tests d (valid d) (eqb (length h) (N d)) (ltb (firstJumpOrLimit (d .flights)) (N d))
+  unfolding quickCheck tests
+  opened = refl
+
+  few : firstJumpOrLimit (d .flights) ≤ N d
+  unfolding firstJumpOrLimit
+  few = first-le (N d) (λ i. jumpOrLimit (flightAt (d .flights) i))
+
+  can-at : (v l w : Bool) → valid d ≡ v → eqb (length h) (N d) ≡ l → ltb (firstJumpOrLimit (d .flights)) (N d) ≡ w → tests d v l w ≡ Applies → CanPlan d h
+  unfolding tests
+  can-at true true false v l w e = record {
+    good = v;
+    each = eqb-true (length h) (N d) l;
+    plain = omega (arith, few, ltb-false (firstJumpOrLimit (d .flights)) (N d) w);
+  }
+  can-at true true true v l w e = absurd (let z : _≡_ {A = ℕ} 0 1 = cc in omega (arith, z))
+  can-at true false _ v l w e = absurd (let z : _≡_ {A = ℕ} 0 1 = cc in omega (arith, z))
+  can-at false _ _ v l w e = absurd (let z : _≡_ {A = ℕ} 0 1 = cc in omega (arith, z))
+
+  pub can-plan : quickCheck d h ≡ Applies → CanPlan d h
+  can-plan e = can-at _ _ _ refl refl refl (sym opened ∙ e)
+
+pub refused : (d : Day) (h : List ℕ) {answer : Answer} → quickCheck d h ≡ Refused answer → quickPlan d h ≡ outcome answer h
+unfolding quickPlan
+refused d h e = rw e
+
+pub planned : (d : Day) (h : List ℕ) → quickCheck d h ≡ Applies → {x : List ℕ} {t : ℕ} → x ≡ rowTo d (rates d) (P d) → t ≡ total d x → quickPlan d h ≡ outcome (Planned t) x
+unfolding quickPlan
+planned d h e made q = rw (e, q, made ∙ rowTo-quick d (rates d) (can-plan d h e .good))

@@ -1,5 +1,5 @@
--- No legal plan costs less than the quick plan. A total is the sum, over the periods, of the rates of those that wait; and of those of any
--- rate t or more the quick plan never has more waiting than another legal plan.
+-- No legal plan costs less than the quick plan. A plan costs the sum, over the periods, of the next costs of those that wait; and of those
+-- whose next cost is t or more the quick plan never has more waiting than another legal plan.
 -- Assumes nothing.
 use mathlib.Core.Path.{_≡_, refl, sym, ap, _∙_}
 use mathlib.Core.Logic.{inl, inr}
@@ -7,27 +7,23 @@ use mathlib.Core.Bool.{Bool, true, false, not, _&&_}
 use mathlib.Core.List.{List}
 use Prim.Native.Nat.{ℕ, zero, suc, _+_, _-_, _*_, _≤_, _<_, min}
 use native.Mathlib.Omega.{arith}
-use native.Mathlib.Nat.{mul-suc}
-use lib.Dec.{leb, ltb, eqb, leb→le}
+use native.Mathlib.Nat.{zero-add, suc-add}
+use lib.Dec.{T, leb, ltb, eqb, leb→le, le→leb}
 use borrow.Author.Tests.{lt-ltb, le-ltb, le-leb, lt-leb, eq-eqb, ne-eqb}
 use Rattle.assignment.specs.Sum.{gate, sum, count}
 use Rattle.assignment.proofs.Tests.{and-T, lt?, eq?}
-use Rattle.assignment.proofs.Sums.{sum-ext, sum-le, sum-add, sum-zero, sum-member}
+use Rattle.assignment.proofs.Sums.{sum-ext, sum-le, sum-add, sum-same, sum-swap, sum-member}
 use Rattle.day.specs.Day.{Day, P, N, due, rate, capacity, cost, hold, land, totalOf, total, valid}
 use Rattle.day.specs.Plan.{Legal, Cheapest, firstJumpOrLimit}
 use Rattle.day.proofs.Costs.{cost-plain}
 use Rattle.day.proofs.Valid.{valid-means}
-use Rattle.quick_plan.specs.Quick.{eligible, operates, quick}
+use Rattle.quick_plan.specs.NextCost.{nextCost}
+use Rattle.quick_plan.specs.Quick.{ahead, eligible, operates, quickBy, rates, quick}
 use Rattle.quick_plan.proofs.Applies.{no-jump}
-use Rattle.quick_plan.proofs.First.{rest, crowd, crowd-none, left-over}
-use Rattle.quick_plan.proofs.Plan.{end, end-from, end-to, eligible-end, operates-end, quick-land, quick-legal}
+use Rattle.quick_plan.proofs.First.{ahead-cost, rest, crowd, crowd-none, Upwards, left-over}
+use Rattle.quick_plan.proofs.Plan.{due-by, end, end-from, end-to, eligible-end, operates-end, quick-land, quick-legal}
 
 -- ---- sums
-
-pub sum-swap : (n m : ℕ) (g : ℕ → ℕ → ℕ) → sum n (λ i. sum m (g i)) ≡ sum m (λ j. sum n (λ i. g i j))
-unfolding sum
-sum-swap zero m g = sym (sum-zero m (λ j. 0) (λ j l. refl))
-sum-swap (suc n) m g = omega (arith, sum-swap n m g, sum-add m (λ j. sum n (λ i. g i j)) (g n))
 
 -- r, counted by its layers
 layers : (m r : ℕ) (a : Bool) → r ≤ m → sum m (λ t. gate (leb (suc t) r && a) 1) ≡ gate a r
@@ -55,49 +51,50 @@ layers m r a h = upto m ∙ ap (gate a) (low m h)
     upto zero = zeros a
     upto (suc m) = omega (arith, upto m, turn m a)
 
--- a set that has no more members than another, of each rate t or more, has no higher sum of rates
-crowds : (d : Day) (a b : ℕ → Bool) → ((t : ℕ) → crowd d t a ≤ crowd d t b) → sum (N d) (λ i. gate (a i) (rate d i)) ≤ sum (N d) (λ i. gate (b i) (rate d i))
+-- a set has no higher sum of costs than another, if it has no more members of any cost t or more
+crowds : (d : Day) (costs : ℕ → ℕ) (a b : ℕ → Bool) → ((t : ℕ) → crowd d (λ i. leb t (costs i)) a ≤ crowd d (λ i. leb t (costs i)) b)
+    → sum (N d) (λ i. gate (a i) (costs i)) ≤ sum (N d) (λ i. gate (b i) (costs i))
 unfolding crowd
-crowds d a b h =
-    omega (
-      arith,
-      by a,
-      by b,
-      sum-le (sum (N d) (rate d)) (λ t. crowd d (suc t) a) (λ t. crowd d (suc t) b) (λ t l. h (suc t)),
-    )
+crowds d costs a b h = omega (arith, by a, by b, sum-le most (reach a) (reach b) (λ t l. h (suc t)))
   where
-    by : (e : ℕ → Bool) → sum (N d) (λ i. gate (e i) (rate d i)) ≡ sum (sum (N d) (rate d)) (λ t. crowd d (suc t) e)
-    by e = sum-ext (N d) (λ i. gate (e i) (rate d i)) (λ i. sum (sum (N d) (rate d)) (λ t. gate (leb (suc t) (rate d i) && e i) 1))
-        (λ i l. sym (layers (sum (N d) (rate d)) (rate d i) (e i) (sum-member (N d) i (rate d) l)))
-        ∙ sum-swap (N d) (sum (N d) (rate d)) (λ i t. gate (leb (suc t) (rate d i) && e i) 1)
+    most : ℕ
+    most = sum (N d) costs
 
--- r for each period from d to before l
-stretch : (m d l r : ℕ) → l ≤ m → sum m (λ j. gate (leb d j && ltb j l) r) ≡ r * (l - d)
+    reach : (ℕ → Bool) → ℕ → ℕ
+    reach e t = crowd d (λ i. leb (suc t) (costs i)) e
+
+    by : (e : ℕ → Bool) → sum (N d) (λ i. gate (e i) (costs i)) ≡ sum most (reach e)
+    by e = sum-ext (N d) (λ i. gate (e i) (costs i)) (λ i. sum most (λ t. gate (leb (suc t) (costs i) && e i) 1))
+        (λ i l. sym (layers most (costs i) (e i) (sum-member (N d) i costs l)))
+        ∙ sum-swap (N d) most (λ i t. gate (leb (suc t) (costs i) && e i) 1)
+
+-- the sum of f over the periods from d to before l
+stretch : (m d l : ℕ) (f : ℕ → ℕ) → l ≤ m → sum m (λ j. gate (leb d j && ltb j l) (f j)) ≡ sum (l - d) (λ t. f (d + t))
 unfolding sum
-stretch m d l r h = upto m ∙ ap (λ x. r * (x - d)) (low m h)
+stretch m d l f h = upto m ∙ ap (λ x. sum (x - d) (λ t. f (d + t))) (low m h)
   where
     low : (m : ℕ) → l ≤ m → min l m ≡ l
     low m h = omega arith
 
-    nil : (x y : ℕ) → x ≡ y → r * x + 0 ≡ r * y
+    nil : (x y : ℕ) → x ≡ y → sum x (λ t. f (d + t)) + 0 ≡ sum y (λ t. f (d + t))
     nil x y e = rw e (omega arith)
 
-    one : (x y : ℕ) → suc x ≡ y → r * x + r ≡ r * y
-    one x y e = rw (← e) (omega (arith, mul-suc r x))
+    one : (x y m : ℕ) → suc x ≡ y → d + x ≡ m → sum x (λ t. f (d + t)) + f m ≡ sum y (λ t. f (d + t))
+    one x y m e q = rw (← e, ← q)
 
-    zeros : (x : ℕ) → x ≡ 0 → 0 ≡ r * x
-    zeros x e = rw e (omega arith)
+    zeros : (x : ℕ) → x ≡ 0 → 0 ≡ sum x (λ t. f (d + t))
+    zeros x e = rw e
 
-    turn : (m : ℕ) → r * (min l m - d) + gate (leb d m && ltb m l) r ≡ r * (min l (suc m) - d)
+    turn : (m : ℕ) → sum (min l m - d) (λ t. f (d + t)) + gate (leb d m && ltb m l) (f m) ≡ sum (min l (suc m) - d) (λ t. f (d + t))
     turn m = elim (lt? m d) [
       | inl o ↦ rw (lt-leb d m o) (nil (min l m - d) (min l (suc m) - d) (omega arith))
       | inr o ↦ rw (le-leb d m o) (elim (lt? m l) [
         | inr g ↦ rw (le-ltb m l g) (nil (min l m - d) (min l (suc m) - d) (omega arith))
-        | inl b ↦ rw (lt-ltb m l b) (one (min l m - d) (min l (suc m) - d) (omega arith))
+        | inl b ↦ rw (lt-ltb m l b) (one (min l m - d) (min l (suc m) - d) m (omega arith) (omega arith))
       ])
     ]
 
-    upto : (m : ℕ) → sum m (λ j. gate (leb d j && ltb j l) r) ≡ r * (min l m - d)
+    upto : (m : ℕ) → sum m (λ j. gate (leb d j && ltb j l) (f j)) ≡ sum (min l m - d) (λ t. f (d + t))
     upto zero = zeros (min l 0 - d) (omega arith)
     upto (suc m) = omega (arith, upto m, turn m)
 
@@ -136,100 +133,159 @@ depart true d l j = go (leb d (suc j))
     ]
 
 module _ (d : Day) (l : ℕ → ℕ) where
-  crowd-arrive : (t j : ℕ) → ((i : ℕ) → i < N d → due d i ≤ l i)
-      → crowd d t (waits-in d l j) ≡ crowd d t (waits d l j) + crowd d t (λ i. eqb (due d i) (suc j))
+  crowd-arrive : (u : ℕ → Bool) (j : ℕ) → ((i : ℕ) → i < N d → due d i ≤ l i)
+      → crowd d u (waits-in d l j) ≡ crowd d u (waits d l j) + crowd d u (λ i. eqb (due d i) (suc j))
   unfolding crowd
-  crowd-arrive t j h =
-      sum-ext (N d) (λ i. gate (leb t (rate d i) && waits-in d l j i) 1) (λ i. gate (leb t (rate d i) && waits d l j i) 1 + gate (leb t (rate d i) && eqb (due d i) (suc j)) 1)
-      (λ i m. arrive (leb t (rate d i)) (due d i) (l i) j (h i m))
-      ∙ sum-add (N d) (λ i. gate (leb t (rate d i) && waits d l j i) 1) (λ i. gate (leb t (rate d i) && eqb (due d i) (suc j)) 1)
+  crowd-arrive u j h =
+      sum-ext (N d) (λ i. gate (u i && waits-in d l j i) 1) (λ i. gate (u i && waits d l j i) 1 + gate (u i && eqb (due d i) (suc j)) 1)
+      (λ i m. arrive (u i) (due d i) (l i) j (h i m))
+      ∙ sum-add (N d) (λ i. gate (u i && waits d l j i) 1) (λ i. gate (u i && eqb (due d i) (suc j)) 1)
 
-  crowd-depart : (t j : ℕ) → crowd d t (waits-in d l j) ≤ crowd d t (waits d l (suc j)) + count (N d) l (suc j)
+  crowd-depart : (u : ℕ → Bool) (j : ℕ) → crowd d u (waits-in d l j) ≤ crowd d u (waits d l (suc j)) + count (N d) l (suc j)
   unfolding crowd count
-  crowd-depart t j =
+  crowd-depart u j =
       omega (
         arith,
-        sum-le (N d) (λ i. gate (leb t (rate d i) && waits-in d l j i) 1) (λ i. gate (leb t (rate d i) && waits d l (suc j) i) 1 + gate (eqb (l i) (suc j)) 1)
-            (λ i m. depart (leb t (rate d i)) (due d i) (l i) j),
-        sum-add (N d) (λ i. gate (leb t (rate d i) && waits d l (suc j) i) 1) (λ i. gate (eqb (l i) (suc j)) 1),
+        sum-le (N d) (λ i. gate (u i && waits-in d l j i) 1) (λ i. gate (u i && waits d l (suc j) i) 1 + gate (eqb (l i) (suc j)) 1)
+            (λ i m. depart (u i) (due d i) (l i) j),
+        sum-add (N d) (λ i. gate (u i && waits d l (suc j) i) 1) (λ i. gate (eqb (l i) (suc j)) 1),
       )
 
-  -- what the waits add up to
-  waits-sum : (m : ℕ) → ((i : ℕ) → i < N d → l i ≤ m) → sum (N d) (λ i. rate d i * (l i - due d i)) ≡ sum m (λ j. sum (N d) (λ i. gate (waits d l j i) (rate d i)))
-  waits-sum m h =
-      sum-ext (N d) (λ i. rate d i * (l i - due d i)) (λ i. sum m (λ j. gate (waits d l j i) (rate d i))) (λ i k. sym (stretch m (due d i) (l i) (rate d i) (h i k)))
-      ∙ sum-swap (N d) m (λ i j. gate (waits d l j i) (rate d i))
+-- ---- what a plan costs
+
+-- what flight i pays for a hold of h: the next cost of each period from its due on
+abbrev pub paid : Day → (next : ℕ → ℕ → ℕ) → ℕ → ℕ → ℕ
+paid d next i h = sum h (λ t. next (due d i + t) i)
+
+-- what the flights pay together
+unfoldable pub spent : Day → (next : ℕ → ℕ → ℕ) → List ℕ → ℕ
+unfolding sum
+spent d next holds = sum (N d) (λ i. paid d next i (hold holds i))
+
+-- it is, added up by periods, the next costs of those who wait
+waits-sum : (d : Day) (next : ℕ → ℕ → ℕ) (l : ℕ → ℕ) (m : ℕ) → ((i : ℕ) → i < N d → l i ≤ m)
+    → sum (N d) (λ i. paid d next i (l i - due d i)) ≡ sum m (λ j. sum (N d) (λ i. gate (waits d l j i) (next j i)))
+waits-sum d next l m h =
+    sum-ext (N d) (λ i. paid d next i (l i - due d i)) (λ i. sum m (λ j. gate (waits d l j i) (next j i))) (λ i k. sym (stretch m (due d i) (l i) (λ j. next j i) (h i k)))
+    ∙ sum-swap (N d) m (λ i j. gate (waits d l j i) (next j i))
 
 -- ---- the quick plan against another
 
--- The proof on paper. Fix a rate t and look at the flights of that rate or more. In the quick plan they never wait for others: as many of them
--- land in a period as it takes, or all. In any legal plan no more than that land. So, period by period, the quick plan has the fewest of them
--- waiting. A flight's rate is the number of those t that it reaches, so the rates of all who wait add up to the least too; and with no jumps
--- the total is that sum over the periods.
-module _ (d : Day) (v : valid d ≡ true) (applies : firstJumpOrLimit (d .flights) ≡ N d) (y : List ℕ) (legal : Legal d y) where
-  left-next : (t j : ℕ) → j < P d
-      → crowd d t (waits d (end d v) (suc j)) ≤ crowd d t (waits-in d (end d v) j) - capacity d (suc j)
-  unfolding crowd operates
-  left-next t j p =
+-- who goes before whom among flights that wait stays so from one period to the next
+abbrev pub Keeps : Day → (next : ℕ → ℕ → ℕ) → Type 0
+Keeps d next = (j k i : ℕ) → j < P d → k < N d → i < N d → due d k ≤ j → due d i ≤ j → T (ahead d (next j) k i) → T (ahead d (next (suc j)) k i)
+
+-- The proof on paper. Fix a period and a cost t, and look at the flights whose next cost in that period is t or more. Who goes before one
+-- of them then is one of them; and who goes before whom was so in all periods up to it. So in the quick plan they never wait for others: as
+-- many of them land in a period as it takes, or all. In any legal plan no more than that land. So the quick plan has the fewest of them
+-- waiting after that period. A flight's next cost is the number of those t that it reaches, so the next costs of all who wait add up to the
+-- least too; and a plan costs the sum of them over the periods.
+module _ (d : Day) (next : ℕ → ℕ → ℕ) (v : valid d ≡ true) (keeps : Keeps d next) (y : List ℕ) (legal : Legal d y) where
+  -- the landings of the quick plan
+  abbrev lands-in : ℕ → ℕ
+  lands-in = end d next v
+
+  -- who goes before whom in period j does so in every later one
+  stays-ahead : (g j k i : ℕ) → g + j ≤ P d → k < N d → i < N d → due d k ≤ j → due d i ≤ j → T (ahead d (next j) k i) → T (ahead d (next (g + j)) k i)
+  stays-ahead zero j k i p l m a b t = rw zero-add t
+  stays-ahead (suc g) j k i p l m a b t =
+      rw suc-add (keeps (g + j) k i (omega arith) l m (omega arith) (omega arith) (stays-ahead g j k i (omega arith) l m a b t))
+
+  module _ (t last : ℕ) (in-day : last ≤ P d) where
+    -- the flights whose next cost in period `last` is t or more
+    high : ℕ → Bool
+    high i = leb t (next last i)
+
+    high-upwards : (j : ℕ) → j ≤ last → (e : ℕ → Bool) → ((i : ℕ) → i < N d → T (e i) → due d i ≤ j) → Upwards d (next j) high e
+    unfolding high
+    high-upwards j o e by k i l m s r a h =
+        let all : last - j + j ≡ last = omega arith in
+        let later = rw all at (stays-ahead (last - j) j k i (omega arith) l m (by k l s) (by i m r) a) in
+        le→leb t (next last k) (omega (arith, leb→le t (next last i) h, ahead-cost d (next last) k i later))
+
+    left-next : (j : ℕ) → j < last
+        → crowd d high (waits d lands-in (suc j)) ≤ crowd d high (waits-in d lands-in j) - capacity d (suc j)
+    unfolding crowd operates
+    left-next j p =
+        omega (
+          arith,
+          left-over d (next (suc j)) high (capacity d (suc j)) (eligible d next (suc j)) (high-upwards (suc j) p (eligible d next (suc j)) (due-by d next v (suc j))),
+          sum-ext (N d) (λ i. gate (high i && rest d (next (suc j)) (capacity d (suc j)) (eligible d next (suc j)) i) 1) (λ i. gate (high i && waits d lands-in (suc j) i) 1)
+              (λ i l. ap (λ x. gate (high i && x) 1) (still i l)),
+          sum-ext (N d) (λ i. gate (high i && eligible d next (suc j) i) 1) (λ i. gate (high i && waits-in d lands-in j i) 1)
+              (λ i l. ap (λ x. gate (high i && x) 1) (eligible-end d next v j i l (omega arith))),
+        )
+      where
+        go : (x : Bool) (e : ℕ) → (x && ltb j e && not (eqb e (suc j))) ≡ (x && ltb (suc j) e)
+        go false e = refl
+        go true e = elim (lt? (suc j) e) [
+          | inl b ↦ rw (lt-ltb (suc j) e b, lt-ltb j e (omega arith), ne-eqb e (suc j) (omega arith))
+          | inr g ↦ rw (le-ltb (suc j) e g) (elim (eq? e (suc j)) [
+            | inl q ↦ rw (eq-eqb e (suc j) q, lt-ltb j e (omega arith))
+            | inr ne ↦ rw (le-ltb j e (omega arith))
+          ])
+        ]
+
+        still : (i : ℕ) → i < N d → rest d (next (suc j)) (capacity d (suc j)) (eligible d next (suc j)) i ≡ waits d lands-in (suc j) i
+        still i l = rw (operates-end d next v j i l (omega arith), eligible-end d next v j i l (omega arith)) (go (leb (due d i) (suc j)) (lands-in i))
+
+    -- of them, the quick plan has no more waiting
+    fewer : (j : ℕ) → j ≤ last → crowd d high (waits d lands-in j) ≤ crowd d high (waits d (land d y) j)
+    fewer zero p = omega (arith, crowd-none d high (waits d lands-in 0) (λ i l h s. omega (arith, valid-means v .flight i l .due-from, leb→le (due d i) 0 (and-T (leb (due d i) 0) (ltb 0 (lands-in i)) s .0))))
+    fewer (suc j) p =
+        omega (
+          arith,
+          fewer j (omega arith),
+          left-next j p,
+          crowd-arrive d lands-in high j (end-from d next v),
+          crowd-arrive d (land d y) high j (λ i l. omega arith),
+          crowd-depart d (land d y) high j,
+          legal .room (suc j) (omega arith) (omega arith),
+        )
+
+  spent-is : (h : List ℕ) → spent d next h ≡ sum (N d) (λ i. paid d next i (land d h i - due d i))
+  unfolding spent
+  spent-is h = sum-ext (N d) (λ i. paid d next i (hold h i)) (λ i. paid d next i (land d h i - due d i)) (λ i l.
+      let e : hold h i ≡ land d h i - due d i = omega arith in ap (paid d next i) e)
+
+  pub plan-least : spent d next (quickBy d next) ≤ spent d next y
+  unfolding high
+  plan-least =
       omega (
         arith,
-        left-over d t (capacity d (suc j)) (eligible d (suc j)),
-        sum-ext (N d) (λ i. gate (leb t (rate d i) && rest d (capacity d (suc j)) (eligible d (suc j)) i) 1) (λ i. gate (leb t (rate d i) && waits d (end d v) (suc j) i) 1)
-            (λ i l. ap (λ x. gate (leb t (rate d i) && x) 1) (still i l)),
-        sum-ext (N d) (λ i. gate (leb t (rate d i) && eligible d (suc j) i) 1) (λ i. gate (leb t (rate d i) && waits-in d (end d v) j i) 1)
-            (λ i l. ap (λ x. gate (leb t (rate d i) && x) 1) (eligible-end d v j i l p)),
-      )
-    where
-      go : (x : Bool) (e : ℕ) → (x && ltb j e && not (eqb e (suc j))) ≡ (x && ltb (suc j) e)
-      go false e = refl
-      go true e = elim (lt? (suc j) e) [
-        | inl b ↦ rw (lt-ltb (suc j) e b, lt-ltb j e (omega arith), ne-eqb e (suc j) (omega arith))
-        | inr g ↦ rw (le-ltb (suc j) e g) (elim (eq? e (suc j)) [
-          | inl q ↦ rw (eq-eqb e (suc j) q, lt-ltb j e (omega arith))
-          | inr ne ↦ rw (le-ltb j e (omega arith))
-        ])
-      ]
-
-      still : (i : ℕ) → i < N d → rest d (capacity d (suc j)) (eligible d (suc j)) i ≡ waits d (end d v) (suc j) i
-      still i l = rw (operates-end d v j i l p, eligible-end d v j i l p) (go (leb (due d i) (suc j)) (end d v i))
-
-  -- of those of rate t or more, the quick plan has no more waiting
-  fewer : (t j : ℕ) → j ≤ P d → crowd d t (waits d (end d v) j) ≤ crowd d t (waits d (land d y) j)
-  fewer t zero p = omega (arith, crowd-none d t (waits d (end d v) 0) (λ i l h s. omega (arith, valid-means v .flight i l .due-from, leb→le (due d i) 0 (and-T (leb (due d i) 0) (ltb 0 (end d v i)) s .0))))
-  fewer t (suc j) p =
-      omega (
-        arith,
-        fewer t j (omega arith),
-        left-next t j p,
-        crowd-arrive d (end d v) t j (end-from d v),
-        crowd-arrive d (land d y) t j (λ i l. omega arith),
-        crowd-depart d (land d y) t j,
-        legal .room (suc j) (omega arith) p,
+        spent-is (quickBy d next),
+        spent-is y,
+        sum-ext (N d) (λ i. paid d next i (land d (quickBy d next) i - due d i)) (λ i. paid d next i (lands-in i - due d i)) (λ i l. ap (λ x. paid d next i (x - due d i)) (quick-land d next v i l)),
+        waits-sum d next lands-in (P d + 1) (end-to d next v),
+        waits-sum d next (land d y) (P d + 1) (λ i l. legal .window i l .closing),
+        sum-le (P d + 1) (λ j. sum (N d) (λ i. gate (waits d lands-in j i) (next j i))) (λ j. sum (N d) (λ i. gate (waits d (land d y) j i) (next j i)))
+            (λ j l. crowds d (next j) (waits d lands-in j) (waits d (land d y) j) (λ t. fewer t j (omega arith) j (omega arith))),
       )
 
-  plain-total : (h : List ℕ) → total d h ≡ sum (N d) (λ i. rate d i * (land d h i - due d i))
-  unfolding totalOf
-  plain-total h = sum-ext (N d) (λ i. cost d i (hold h i)) (λ i. rate d i * (land d h i - due d i)) (λ i l.
-      let e : land d h i - due d i ≡ hold h i = omega arith in
-      rw e (cost-plain d i (hold h i) (no-jump d applies i l)))
+-- ---- document 01's quick plan: the next cost is the rate
 
-  pub quick-least : total d (quick d) ≤ total d y
-  quick-least =
-      omega (
-        arith,
-        plain-total (quick d),
-        plain-total y,
-        sum-ext (N d) (λ i. rate d i * (land d (quick d) i - due d i)) (λ i. rate d i * (end d v i - due d i)) (λ i l. ap (λ x. rate d i * (x - due d i)) (quick-land d v i l)),
-        waits-sum d (end d v) (P d + 1) (end-to d v),
-        waits-sum d (land d y) (P d + 1) (λ i l. legal .window i l .closing),
-        sum-le (P d + 1) (λ j. sum (N d) (λ i. gate (waits d (end d v) j i) (rate d i))) (λ j. sum (N d) (λ i. gate (waits d (land d y) j i) (rate d i)))
-            (λ j l. crowds d (waits d (end d v) j) (waits d (land d y) j) (λ t. fewer t j (omega arith))),
-      )
+rates-keep : (d : Day) → Keeps d (rates d)
+unfolding nextCost
+rates-keep d j k i p l m a b t = t
+
+-- with no jumps a total is what the flights pay at their rates
+plain-total : (d : Day) → firstJumpOrLimit (d .flights) ≡ N d → (h : List ℕ) → total d h ≡ spent d (rates d) h
+unfolding totalOf spent nextCost
+plain-total d applies h = sum-ext (N d) (λ i. cost d i (hold h i)) (λ i. sum (hold h i) (λ t. rate d i)) (λ i l.
+    cost-plain d i (hold h i) (no-jump d applies i l) ∙ sym (sum-same (hold h i) (rate d i)))
 
 -- the quick plan is legal, and no legal plan costs less
 pub quick-cheapest : (d : Day) → valid d ≡ true → firstJumpOrLimit (d .flights) ≡ N d → Cheapest d (quick d)
-quick-cheapest d v applies = record { legal = quick-legal d v applies; least = λ y legal. quick-least d v applies y legal }
+quick-cheapest d v applies = record {
+  legal = quick-legal d (rates d) v applies;
+  least = λ y legal. omega (
+    arith,
+    plain-total d applies (quick d),
+    plain-total d applies y,
+    plan-least d (rates d) v (rates-keep d) y legal,
+  );
+}
 
 -- so it costs as much as any other cheapest plan
 pub same-total : (d : Day) → valid d ≡ true → firstJumpOrLimit (d .flights) ≡ N d → (holds : List ℕ) → Cheapest d holds → total d (quick d) ≡ total d holds
-same-total d v applies holds w = omega (arith, quick-least d v applies holds (w .legal), w .least (quick d) (quick-legal d v applies))
+same-total d v applies holds w = let q = quick-cheapest d v applies in omega (arith, q .least holds (w .legal), w .least (quick d) (q .legal))

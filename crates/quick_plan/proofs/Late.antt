@@ -1,27 +1,29 @@
 -- The quick plan has no jumps, so that the delay that flights bring along changes nothing in it (#102).
 -- Assumes nothing.
 use mathlib.Core.Path.{_≡_, refl, sym, ap, _∙_}
-use mathlib.Core.Bool.{Bool, true, false, cond, not, _&&_}
+use mathlib.Core.Bool.{Bool, true, false, cond, not}
 use mathlib.Core.List.{List}
-use Prim.Native.Nat.{ℕ, zero, suc, _-_, _*_, _/_, _<_, _≤_}
+use Prim.Native.Nat.{ℕ, _*_, _/_, _<_, _≤_}
 use native.Mathlib.Omega.{arith}
 use lib.ListN.{length}
 use lib.Dec.{lit<, ltb, eqb}
 use borrow.Author.Tests.{ltb-false}
-use Rattle.assignment.specs.Sum.{gate, sum}
-use Rattle.assignment.specs.Rows.{row}
+use Rattle.assignment.specs.Sum.{sum}
 use Rattle.assignment.proofs.Sums.{sum-ext}
-use Rattle.assignment.proofs.Rows.{row-ext}
 use Rattle.answers.specs.Answers.{outcome}
 use Rattle.answers.specs.declared.Answer.the-variants.{Planned, BadLength, JumpOrLimit}
-use Rattle.day.specs.Day.{Day, day, P, N, width, due, rate, capacity, cost, hold, flightAt, flightCount, totalOf, total, valid}
+use Rattle.day.specs.Day.{Day, day, N, width, due, rate, cost, hold, flightAt, flightCount, totalOf, total, valid}
 use Rattle.day.specs.Flights.{SameBut}
 use Rattle.day.specs.Plan.{firstOf, jumpOrLimit, firstJumpOrLimit}
 use Rattle.day.proofs.Costs.{cost-plain}
 use Rattle.day.proofs.Tests.{first-same, first-le}
-use Rattle.quick_plan.specs.Quick.{aheadOf, ahead, goingBefore, highest, eligible, operates, lands, quick}
-use Rattle.quick_plan.specs.Calls.{quickPlan}
+use Rattle.quick_plan.specs.declared.QuickCheck.{QuickCheck}
+use Rattle.quick_plan.specs.declared.QuickCheck.the-variants.{Applies, Refused}
+use Rattle.quick_plan.specs.NextCost.{nextCost}
+use Rattle.quick_plan.specs.Quick.{aheadOf, rates, quick}
+use Rattle.quick_plan.specs.Calls.{quickCheck, onQuick, quickPlan}
 use Rattle.quick_plan.proofs.Applies.{no-jump}
+use Rattle.quick_plan.proofs.Same.{SameOrder, quick-same}
 
 -- two rows of flights that differ in column 6, late, alone
 module _ (capacities : List ℕ) {flights others : List ℕ} (same : SameBut 6 flights others) where
@@ -43,37 +45,13 @@ module _ (capacities : List ℕ) {flights others : List ℕ} (same : SameBut 6 f
 
   -- ---- the plan: it reads due periods and rates alone
 
-  ahead-same : (k i : ℕ) → k < N d → i < N d → ahead d k i ≡ ahead e k i
-  unfolding aheadOf
-  ahead-same k i a b = rw (rate-same k a, rate-same i b, due-same k a, due-same i b)
-
-  before-same : (s t : ℕ → Bool) → ((k : ℕ) → k < N d → s k ≡ t k) → (i : ℕ) → i < N d → goingBefore d s i ≡ goingBefore e t i
-  unfolding goingBefore
-  before-same s t h i l =
-      sum-ext (N d) (λ k. gate (s k && ahead d k i) 1) (λ k. gate (t k && ahead e k i) 1) (λ k b. rw (h k b, ahead-same k i b l))
-      ∙ ap (λ n. sum n (λ k. gate (t k && ahead e k i) 1)) count-same
-
-  highest-same : (m : ℕ) (s t : ℕ → Bool) → ((k : ℕ) → k < N d → s k ≡ t k) → (i : ℕ) → i < N d → highest d m s i ≡ highest e m t i
-  unfolding highest
-  highest-same m s t h i l = rw (h i l, before-same s t h i l)
-
-  eligible-same : (j i : ℕ) → i < N d → eligible d j i ≡ eligible e j i
-  unfolding eligible
-  eligible-same zero i l = refl
-  eligible-same (suc j) i l =
-      rw (due-same i l, eligible-same j i l, highest-same (capacity d j) (eligible d j) (eligible e j) (eligible-same j) i l)
-
-  lands-same : (j i : ℕ) → i < N d → lands d j i ≡ lands e j i
-  unfolding lands operates
-  lands-same zero i l = refl
-  lands-same (suc j) i l =
-      rw (highest-same (capacity d (suc j)) (eligible d (suc j)) (eligible e (suc j)) (eligible-same (suc j)) i l, lands-same j i l)
-
-  quick-same : quick d ≡ quick e
-  unfolding quick
-  quick-same =
-      row-ext (N d) (λ i. lands d (P d) i - due d i) (λ i. lands e (P e) i - due e i) (λ i l. rw (lands-same (P d) i l, due-same i l))
-      ∙ ap (λ n. row n (λ i. lands e (P e) i - due e i)) count-same
+  order-same : SameOrder d e (rates d) (rates e)
+  unfolding nextCost aheadOf
+  order-same = record {
+    count = count-same;
+    dues = due-same;
+    order = λ j k i p a b. rw (rate-same k a, rate-same i b, due-same k a, due-same i b);
+  }
 
   -- ---- the answer
 
@@ -100,13 +78,21 @@ module _ (capacities : List ℕ) {flights others : List ℕ} (same : SameBut 6 f
   -- For days that differ in their lates alone the call answers the same and leaves the same row: the plan reads due periods and rates, and
   -- where no flight has a jump a hold costs its periods.
   pub late-changes-nothing : valid d ≡ true → valid e ≡ true → (holds : List ℕ) → quickPlan d holds ≡ quickPlan e holds
-  unfolding quickPlan
-  late-changes-nothing v w holds = rw (v, w, first-is-same, count-same) (ap (λ o. cond (not (eqb (length holds) (N e))) (outcome (BadLength (N e)) holds) o) (go (ltb (firstJumpOrLimit others) (N e)) refl))
+  unfolding quickPlan quickCheck
+  late-changes-nothing v w holds = rw (v, w, first-is-same, count-same) (row-length (eqb (length holds) (N e)))
     where
-      go : (b : Bool) → ltb (firstJumpOrLimit others) (N e) ≡ b
-          → cond b (outcome (JumpOrLimit (firstJumpOrLimit others)) holds) (outcome (Planned (total d (quick d))) (quick d))
-          ≡ cond b (outcome (JumpOrLimit (firstJumpOrLimit others)) holds) (outcome (Planned (total e (quick e))) (quick e))
-      go true q = refl
-      go false q =
+      after : Bool → Bool → QuickCheck
+      after x b = cond (not x) (Refused (BadLength (N e))) (cond b (Refused (JumpOrLimit (firstJumpOrLimit others))) Applies)
+
+      planned : (b : Bool) → ltb (firstJumpOrLimit others) (N e) ≡ b
+          → onQuick (after true b) holds (outcome (Planned (total d (quick d))) (quick d)) ≡ onQuick (after true b) holds (outcome (Planned (total e (quick e))) (quick e))
+      planned true q = refl
+      planned false q =
           let applies : firstJumpOrLimit flights ≡ N d = omega (arith, first-is-same, count-same, ltb-false (firstJumpOrLimit others) (N e) q, few) in
-          rw (total-same applies (quick d), quick-same)
+          rw (total-same applies (quick d), quick-same capacities flights others (rates d) (rates e) order-same)
+
+      row-length : (x : Bool)
+          → onQuick (after x (ltb (firstJumpOrLimit others) (N e))) holds (outcome (Planned (total d (quick d))) (quick d))
+          ≡ onQuick (after x (ltb (firstJumpOrLimit others) (N e))) holds (outcome (Planned (total e (quick e))) (quick e))
+      row-length false = refl
+      row-length true = planned (ltb (firstJumpOrLimit others) (N e)) refl

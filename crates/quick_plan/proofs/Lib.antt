@@ -1,4 +1,5 @@
 pub mod Applies
+pub mod NextCosts
 pub mod First
 pub mod Meaning
 pub mod Plan
@@ -6,4 +7,5 @@ pub mod Cheapest
 pub mod Rows
 pub mod Steps
 pub mod Calls
+pub mod Same
 pub mod Late

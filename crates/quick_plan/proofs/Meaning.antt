@@ -13,14 +13,14 @@ use Rattle.day.specs.Day.{Day, N, rate}
 use Rattle.quick_plan.specs.Quick.{ahead, goingBefore, highest}
 use Rattle.quick_plan.proofs.First.{rest, crowd, landed, left-over, first-in, ahead-trans, ahead-total}
 
-module _ (d : Day) (m : ℕ) (e : ℕ → Bool) where
-  all-crowd : (a : ℕ → Bool) → crowd d 0 a ≡ sum (N d) (λ i. gate (a i) 1)
+module _ (d : Day) (costs : ℕ → ℕ) (m : ℕ) (e : ℕ → Bool) where
+  all-crowd : (a : ℕ → Bool) → crowd d (λ i. true) a ≡ sum (N d) (λ i. gate (a i) 1)
   unfolding crowd
-  all-crowd a = sum-ext (N d) (λ i. gate (leb 0 (rate d i) && a i) 1) (λ i. gate (a i) 1) (λ i l. rw (on (leb 0 (rate d i)) (le→leb 0 (rate d i) zero-le)))
+  all-crowd a = refl
 
-  parted : sum (N d) (λ i. gate (e i) 1) ≡ sum (N d) (λ i. gate (highest d m e i) 1) + sum (N d) (λ i. gate (rest d m e i) 1)
-  parted = sum-ext (N d) (λ i. gate (e i) 1) (λ i. gate (highest d m e i) 1 + gate (rest d m e i) 1) (λ i l. go (e i) (highest d m e i) (first-in d m e i))
-      ∙ sum-add (N d) (λ i. gate (highest d m e i) 1) (λ i. gate (rest d m e i) 1)
+  parted : sum (N d) (λ i. gate (e i) 1) ≡ sum (N d) (λ i. gate (highest d costs m e i) 1) + sum (N d) (λ i. gate (rest d costs m e i) 1)
+  parted = sum-ext (N d) (λ i. gate (e i) 1) (λ i. gate (highest d costs m e i) 1 + gate (rest d costs m e i) 1) (λ i l. go (e i) (highest d costs m e i) (first-in d costs m e i))
+      ∙ sum-add (N d) (λ i. gate (highest d costs m e i) 1) (λ i. gate (rest d costs m e i) 1)
     where
       go : (x y : Bool) → (T y → T x) → gate x 1 ≡ gate y 1 + gate (x && not y) 1
       go true true h = refl
@@ -29,23 +29,23 @@ module _ (d : Day) (m : ℕ) (e : ℕ → Bool) where
       go false false h = refl
 
   -- m land, or all if fewer
-  pub highest-number : sum (N d) (λ i. gate (highest d m e i) 1) ≡ min m (sum (N d) (λ i. gate (e i) 1))
-  highest-number = omega (arith, landed d m e, left-over d 0 m e, all-crowd e, all-crowd (rest d m e), parted)
+  pub highest-number : sum (N d) (λ i. gate (highest d costs m e i) 1) ≡ min m (sum (N d) (λ i. gate (e i) 1))
+  highest-number = omega (arith, landed d costs m e, left-over d costs (λ i. true) m e (λ k i _ _ _ _ _ t. t), all-crowd e, all-crowd (rest d costs m e), parted)
 
-  before-mono : (k i : ℕ) → T (ahead d k i) → goingBefore d e k ≤ goingBefore d e i
+  before-mono : (k i : ℕ) → T (ahead d costs k i) → goingBefore d costs e k ≤ goingBefore d costs e i
   unfolding goingBefore
-  before-mono k i t = sum-le (N d) (λ a. gate (e a && ahead d a k) 1) (λ a. gate (e a && ahead d a i) 1) (λ a l.
-      gate-le (e a && ahead d a k) 1 (gate (e a && ahead d a i) 1) (λ s. let w = and-T (e a) (ahead d a k) s in
-      omega (arith, gate-on (e a && ahead d a i) 1 (T-and (e a) (ahead d a i) (w .0) (ahead-trans d a k i (w .1) t)))))
+  before-mono k i t = sum-le (N d) (λ a. gate (e a && ahead d costs a k) 1) (λ a. gate (e a && ahead d costs a i) 1) (λ a l.
+      gate-le (e a && ahead d costs a k) 1 (gate (e a && ahead d costs a i) 1) (λ s. let w = and-T (e a) (ahead d costs a k) s in
+      omega (arith, gate-on (e a && ahead d costs a i) 1 (T-and (e a) (ahead d costs a i) (w .0) (ahead-trans d costs a k i (w .1) t)))))
 
   -- who lands goes before who is left
-  pub highest-leads : (i k : ℕ) → T (highest d m e i) → T (rest d m e k) → T (ahead d i k)
+  pub highest-leads : (i k : ℕ) → T (highest d costs m e i) → T (rest d costs m e k) → T (ahead d costs i k)
   unfolding highest
   highest-leads i k s t =
-      let q = and-T (e k) (not (e k && ltb (goingBefore d e k) m)) t in
-      let low = ltb→lt (goingBefore d e i) m (and-T (e i) (ltb (goingBefore d e i) m) s .1) in
-      let high = nltb→le (goingBefore d e k) m (not-T (ltb (goingBefore d e k) m) (λ z. T-not (e k && ltb (goingBefore d e k) m) (q .1) (T-and (e k) (ltb (goingBefore d e k) m) (q .0) z))) in
+      let q = and-T (e k) (not (e k && ltb (goingBefore d costs e k) m)) t in
+      let low = ltb→lt (goingBefore d costs e i) m (and-T (e i) (ltb (goingBefore d costs e i) m) s .1) in
+      let high = nltb→le (goingBefore d costs e k) m (not-T (ltb (goingBefore d costs e k) m) (λ z. T-not (e k && ltb (goingBefore d costs e k) m) (q .1) (T-and (e k) (ltb (goingBefore d costs e k) m) (q .0) z))) in
       elim (eq? i k) [
-        | inl u ↦ absurd (omega (arith, ap (goingBefore d e) u))
-        | inr ne ↦ elim (ahead-total d i k ne) [ inl a ↦ a | inr a ↦ absurd (omega (arith, before-mono k i a)) ]
+        | inl u ↦ absurd (omega (arith, ap (goingBefore d costs e) u))
+        | inr ne ↦ elim (ahead-total d costs i k ne) [ inl a ↦ a | inr a ↦ absurd (omega (arith, before-mono k i a)) ]
       ]

@@ -9,10 +9,10 @@ use native.Mathlib.Omega.{arith}
 use native.Mathlib.Numerals.{add-one}
 use lib.ListN.{length, getD, set, take, length-set}
 use lib.Seq.{take-suc-set, take-all}
-use lib.Dec.{ltb, eqb}
+use lib.Dec.{T, ltb, eqb}
 use borrow.Author.Tests.{eq-eqb, ne-eqb, le-leb, lt-leb, le-ltb}
 use Rattle.day.specs.declared.Flight.{Flight}
-use Rattle.day.specs.Day.{Day, P, N, width, column, flightAt, flightCount, due, capacity, valid}
+use Rattle.day.specs.Day.{Day, P, N, mostPeriods, width, column, flightAt, flightCount, due, capacity, valid}
 use Rattle.day.specs.Plan.{jumpOrLimit, firstJumpOrLimit}
 use Rattle.day.proofs.Flights.{there}
 use Rattle.day.proofs.Tests.{first-at, first-none}
@@ -20,7 +20,7 @@ use Rattle.day.proofs.Valid.{valid-means}
 use Rattle.assignment.specs.Rows.{row}
 use Rattle.assignment.proofs.Tests.{eq?}
 use Rattle.quick_plan.specs.Quick.{aheadOf, ahead}
-use Rattle.quick_plan.specs.Loop.{pick, bestTo, waiting, top, put, landAll, rowTo}
+use Rattle.quick_plan.specs.Loop.{DueBy, closing, pick, bestTo, waiting, top, put, landAll, rowTo}
 use Rattle.quick_plan.proofs.First.{Found, found}
 use Rattle.quick_plan.proofs.Rows.{top-found, waits-due, land-none, land-one}
 
@@ -30,19 +30,19 @@ or-false false = refl
 
 -- ---- which flight goes before
 
-module _ (f : List ℕ) (k i : ℕ) {ri rk : ℕ} (er : ri ≡ column 2 f i) (ek : rk ≡ column 2 f k) where
-  pub ahead-rates : ri ≢ rk → ltb ri rk ≡ aheadOf f k i
+module _ (f : List ℕ) (costs : ℕ → ℕ) (k i : ℕ) {ci ck : ℕ} (er : ci ≡ costs i) (ek : ck ≡ costs k) where
+  pub ahead-costs : ci ≢ ck → ltb ci ck ≡ aheadOf f costs k i
   unfolding aheadOf
-  ahead-rates ne = rw (← er, ← ek, ne-eqb ri rk ne) (or-false (ltb ri rk))
+  ahead-costs ne = rw (← er, ← ek, ne-eqb ci ck ne) (or-false (ltb ci ck))
 
-  module _ {di dk : ℕ} (ed : di ≡ column 1 f i) (el : dk ≡ column 1 f k) (e : ri ≡ rk) where
-    pub ahead-dues : dk ≢ di → ltb dk di ≡ aheadOf f k i
+  module _ {di dk : ℕ} (ed : di ≡ column 1 f i) (el : dk ≡ column 1 f k) (e : ci ≡ ck) where
+    pub ahead-dues : dk ≢ di → ltb dk di ≡ aheadOf f costs k i
     unfolding aheadOf
-    ahead-dues ne = rw (← er, ← ek, ← ed, ← el, le-ltb ri rk (omega arith), eq-eqb ri rk e, ne-eqb dk di ne) (or-false (ltb dk di))
+    ahead-dues ne = rw (← er, ← ek, ← ed, ← el, le-ltb ci ck (omega arith), eq-eqb ci ck e, ne-eqb dk di ne) (or-false (ltb dk di))
 
-    pub ahead-places : dk ≡ di → ltb k i ≡ aheadOf f k i
+    pub ahead-places : dk ≡ di → ltb k i ≡ aheadOf f costs k i
     unfolding aheadOf
-    ahead-places q = rw (← er, ← ek, ← ed, ← el, le-ltb ri rk (omega arith), eq-eqb ri rk e, le-ltb dk di (omega arith), eq-eqb dk di q)
+    ahead-places q = rw (← er, ← ek, ← ed, ← el, le-ltb ci ck (omega arith), eq-eqb ci ck e, le-ltb dk di (omega arith), eq-eqb dk di q)
 
 -- ---- who waits
 
@@ -58,82 +58,99 @@ module _ (d : Day) (h : List ℕ) (j i : ℕ) {from : ℕ} (ed : from ≡ due d 
 -- ---- the best one
 
 -- b is the best of the flights below i that wait
-pub record Scan (d : Day) (h : List ℕ) (j n i b : ℕ) : Type 0 where
-  pub so-far : b ≡ bestTo d (waiting d h j) n i
+pub record Scan (d : Day) (costs : ℕ → ℕ) (h : List ℕ) (j n i b : ℕ) : Type 0 where
+  pub is-valid : valid d ≡ true
+  pub so-far : b ≡ bestTo d costs (waiting d h j) n i
   pub within : i ≤ n
   pub size : n ≡ N d
 
-pub scan-start : {d : Day} {h : List ℕ} {j n : ℕ} → n ≡ N d → Scan d h j n 0 n
+pub scan-start : {d : Day} (costs : ℕ → ℕ) {h : List ℕ} {j n : ℕ} → valid d ≡ true → n ≡ N d → Scan d costs h j n 0 n
 unfolding bestTo
-scan-start e = record { so-far = refl; within = omega arith; size = e }
+scan-start costs v e = record { is-valid = v; so-far = refl; within = omega arith; size = e }
 
-module _ {d : Day} {h : List ℕ} {j n i b : ℕ} (s : Scan d h j n i b) where
-  pub scan-below : b ≢ n → b < i
-  scan-below ne = go (bestTo d (waiting d h j) n i) (s .so-far) (found d (waiting d h j) n i (s .within))
-    where
-      go : (x : ℕ) → b ≡ x → Found d i (waiting d h j) n x → b < i
-      go x q (inl w) = absurd (omega (arith, w .0))
-      go x q (inr w) = omega (arith, w .below)
+-- a flight that waits is due by the period
+waits-by : (d : Day) (costs : ℕ → ℕ) (h : List ℕ) (j i : ℕ) → valid d ≡ true → i < N d → T (waiting d h j i) → DueBy (d .flights) j i
+waits-by d costs h j i v l t = record { there = there (d .flights) i l; from = valid-means v .flight i l .due-from; by = waits-due d costs h j i t }
 
-  -- the flight looked at, and the best so far, are flights of the row
+module _ {d : Day} {costs : ℕ → ℕ} {h : List ℕ} {j n i b : ℕ} (s : Scan d costs h j n i b) where
+  -- the flight looked at is one of the row
   pub scan-there : i < n → (i + 1) * width ≤ length (d .flights)
   scan-there l = there (d .flights) i (omega (arith, s .size))
 
-  pub best-there : i < n → b ≢ n → (b + 1) * width ≤ length (d .flights)
-  best-there l ne = there (d .flights) b (omega (arith, s .size, scan-below ne))
+  pub scan-periods : P d ≤ mostPeriods
+  scan-periods = valid-means (s .is-valid) .periods-to
 
   module _ {r : Bool} (l : i < n) (er : r ≡ waiting d h j i) where
-    pub scan-skip : r ≡ false → Scan d h j n (i + 1) b
+    pub scan-due : r ≡ true → DueBy (d .flights) j i
+    scan-due t = waits-by d costs h j i (s .is-valid) (omega (arith, s .size)) (rw (sym er ∙ t) tt)
+
+    pub scan-skip : r ≡ false → Scan d costs h j n (i + 1) b
     unfolding bestTo pick
-    scan-skip t = record { so-far = rw (add-one, ← er, t) (s .so-far); within = omega arith; size = s .size }
+    scan-skip t = record { is-valid = s .is-valid; so-far = rw (add-one, ← er, t) (s .so-far); within = omega arith; size = s .size }
 
-    pub scan-fresh : r ≡ true → b ≡ n → Scan d h j n (i + 1) i
+    pub scan-fresh : r ≡ true → b ≡ n → Scan d costs h j n (i + 1) i
     unfolding bestTo pick
-    scan-fresh t q = record { so-far = rw (add-one, ← er, t, ← s .so-far, eq-eqb b n q); within = omega arith; size = s .size }
+    scan-fresh t q = record { is-valid = s .is-valid; so-far = rw (add-one, ← er, t, ← s .so-far, eq-eqb b n q); within = omega arith; size = s .size }
 
-    module _ {g : Bool} (eg : g ≡ ahead d i b) (t : r ≡ true) (q : b ≢ n) where
-      pub scan-better : g ≡ true → Scan d h j n (i + 1) i
+    module _ {g : Bool} (eg : g ≡ ahead d costs i b) (t : r ≡ true) (q : b ≢ n) where
+      pub scan-better : g ≡ true → Scan d costs h j n (i + 1) i
       unfolding bestTo pick
-      scan-better u = record { so-far = rw (add-one, ← er, t, ← s .so-far, ne-eqb b n q, ← eg, u); within = omega arith; size = s .size }
+      scan-better u = record { is-valid = s .is-valid; so-far = rw (add-one, ← er, t, ← s .so-far, ne-eqb b n q, ← eg, u); within = omega arith; size = s .size }
 
-      pub scan-worse : g ≡ false → Scan d h j n (i + 1) b
+      pub scan-worse : g ≡ false → Scan d costs h j n (i + 1) b
       unfolding bestTo pick
-      scan-worse u = record { so-far = rw (add-one, ← er, t, ← s .so-far, ne-eqb b n q, ← eg, u); within = omega arith; size = s .size }
+      scan-worse u = record { is-valid = s .is-valid; so-far = rw (add-one, ← er, t, ← s .so-far, ne-eqb b n q, ← eg, u); within = omega arith; size = s .size }
 
-pub scan-end : {d : Day} {h : List ℕ} {j n i b : ℕ} → Scan d h j n i b → n ≤ i → b ≡ top d j h
+  -- the best so far waits too
+  pub best-due : b ≢ n → DueBy (d .flights) j b
+  best-due ne = go (bestTo d costs (waiting d h j) n i) (s .so-far) (found d costs (waiting d h j) n i (s .within))
+    where
+      go : (x : ℕ) → b ≡ x → Found d costs i (waiting d h j) n x → DueBy (d .flights) j b
+      go x q (inl w) = absurd (omega (arith, w .0))
+      go x q (inr w) = rw q (waits-by d costs h j x (s .is-valid) (omega (arith, w .below, s .within, s .size)) (w .is-in))
+
+pub scan-end : {d : Day} {costs : ℕ → ℕ} {h : List ℕ} {j n i b : ℕ} → Scan d costs h j n i b → n ≤ i → b ≡ top d costs j h
 unfolding top
 scan-end {d = d} {i = i} s g = let a : i ≡ N d = omega (arith, s .within, s .size) in s .so-far ∙ rw (a, s .size)
 
 -- ---- the landings of a period
 
 -- the best one, where there is one, can land
-pub top-lands : (d : Day) (h : List ℕ) (j : ℕ) {b : ℕ} → b ≡ top d j h → b ≢ N d → (b < N d) × (due d b ≤ j)
-top-lands d h j {b = b} e ne = go (top d j h) e (top-found d h j)
+pub top-lands : (d : Day) (costs : ℕ → ℕ) (h : List ℕ) (j : ℕ) {b : ℕ} → b ≡ top d costs j h → b ≢ N d → (b < N d) × (due d b ≤ j)
+top-lands d costs h j {b = b} e ne = go (top d costs j h) e (top-found d costs h j)
   where
-    go : (x : ℕ) → b ≡ x → Found d (N d) (waiting d h j) (N d) x → (b < N d) × (due d b ≤ j)
+    go : (x : ℕ) → b ≡ x → Found d costs (N d) (waiting d h j) (N d) x → (b < N d) × (due d b ≤ j)
     go x q (inl w) = absurd (omega (arith, w .0))
-    go x q (inr w) = rw q (w .below, waits-due d h j x (w .is-in))
+    go x q (inr w) = rw q (w .below, waits-due d costs h j x (w .is-in))
 
 -- the row h₀ and m landings come to the row h and the landings that are left
-pub record Landing (d : Day) (j m : ℕ) (h₀ : List ℕ) (left : ℕ) (h : List ℕ) : Type 0 where
+pub record Landing (d : Day) (costs : ℕ → ℕ) (j m : ℕ) (h₀ : List ℕ) (left : ℕ) (h : List ℕ) : Type 0 where
+  pub is-valid : valid d ≡ true
   pub open-period : j ≤ P d
   pub rows : length h₀ ≡ N d
   pub same-length : length h ≡ length h₀
-  pub same-row : landAll d j m h₀ ≡ landAll d j left h
+  pub same-row : landAll d costs j m h₀ ≡ landAll d costs j left h
 
-module _ {d : Day} {j m left : ℕ} {h₀ h : List ℕ} (s : Landing d j m h₀ left h) where
-  module _ {b : ℕ} (eb : b ≡ top d j h) where
-    pub landing-stop : b ≡ length h₀ → h ≡ landAll d j m h₀
-    landing-stop q = sym (s .same-row ∙ land-none d j (s .open-period) left h (sym eb ∙ q ∙ s .rows))
+pub landing-start : {d : Day} (costs : ℕ → ℕ) {j m : ℕ} {h : List ℕ} → valid d ≡ true → j ≤ P d → length h ≡ N d → {left : ℕ} → left ≡ m → Landing d costs j m h left h
+landing-start {d = d} costs {j = j} {h = h} v p e q = record { is-valid = v; open-period = p; rows = e; same-length = refl; same-row = ap (λ m. landAll d costs j m h) (sym q) }
+
+module _ {d : Day} {costs : ℕ → ℕ} {j m left : ℕ} {h₀ h : List ℕ} (s : Landing d costs j m h₀ left h) where
+  pub landing-early : j ≤ mostPeriods
+  landing-early = omega (arith, s .open-period, valid-means (s .is-valid) .periods-to)
+
+  module _ {b : ℕ} (eb : b ≡ top d costs j h) where
+    pub landing-stop : b ≡ length h₀ → h ≡ landAll d costs j m h₀
+    landing-stop q = sym (s .same-row ∙ land-none d costs j (s .open-period) left h (sym eb ∙ q ∙ s .rows))
 
     -- the flight found is one of the row, and due by now
     pub landing-flight : b ≢ length h₀ → (b < length h) × ((b + 1) * width ≤ length (d .flights)) × (due d b ≤ j)
     landing-flight q =
-        let w = top-lands d h j eb (λ e. q (e ∙ sym (s .rows))) in
+        let w = top-lands d costs h j eb (λ e. q (e ∙ sym (s .rows))) in
         (omega (arith, w .0, s .same-length, s .rows), there (d .flights) b (w .0), w .1)
 
-    pub landing-more : 0 < left → b ≢ length h₀ → {from : ℕ} → from ≡ due d b → Landing d j m h₀ (left - 1) (set h b (j - from))
+    pub landing-more : 0 < left → b ≢ length h₀ → {from : ℕ} → from ≡ due d b → Landing d costs j m h₀ (left - 1) (set h b (j - from))
     landing-more l q ed = record {
+      is-valid = s .is-valid;
       open-period = s .open-period;
       rows = s .rows;
       same-length = length-set h b _ ∙ s .same-length;
@@ -143,22 +160,19 @@ module _ {d : Day} {j m left : ℕ} {h₀ h : List ℕ} (s : Landing d j m h₀ 
         pred : (k : ℕ) → suc k - 1 ≡ k
         pred k = omega arith
 
-        go : (left : ℕ) → 0 < left → landAll d j left h ≡ landAll d j (left - 1) (put d j h (top d j h))
+        go : (left : ℕ) → 0 < left → landAll d costs j left h ≡ landAll d costs j (left - 1) (put d j h (top d costs j h))
         go zero l = absurd (omega arith)
-        go (suc k) l = rw (pred k) (land-one d j (s .open-period) k h (λ z. q (eb ∙ z ∙ sym (s .rows))))
+        go (suc k) l = rw (pred k) (land-one d costs j (s .open-period) k h (λ z. q (eb ∙ z ∙ sym (s .rows))))
 
-  pub landing-end : left ≤ 0 → h ≡ landAll d j m h₀
+  pub landing-end : left ≤ 0 → h ≡ landAll d costs j m h₀
   unfolding landAll
   landing-end l = go left l (s .same-row)
     where
-      go : (left : ℕ) → left ≤ 0 → landAll d j m h₀ ≡ landAll d j left h → h ≡ landAll d j m h₀
+      go : (left : ℕ) → left ≤ 0 → landAll d costs j m h₀ ≡ landAll d costs j left h → h ≡ landAll d costs j m h₀
       go zero l e = sym e
       go (suc k) l e = absurd (omega arith)
 
 -- ---- the start
-
-abbrev pub closing : Day → ℕ → ℕ
-closing d i = P d + 1 - due d i
 
 -- the first i entries stand at the closing period
 pub record Started (d : Day) (h₀ h : List ℕ) (i : ℕ) : Type 0 where
@@ -192,8 +206,7 @@ module _ {d : Day} {h₀ h : List ℕ} {i : ℕ} (s : Started d h₀ h i) where
     front = rw (add-one, ed) (take-suc-set h i (closing d i) l ∙ ap (λ x. x ++ (closing d i ∷ [])) (s .front));
   }
 
-  pub started-end : length h ≤ i → h ≡ rowTo d 0
-  unfolding rowTo
+  pub started-end : length h ≤ i → h ≡ row (N d) (closing d)
   started-end g =
       let q : i ≡ N d = omega (arith, s .within, s .same-length, s .rows) in
       sym (take-all i h (omega arith)) ∙ s .front ∙ ap (λ n. row n (closing d)) q
@@ -201,24 +214,22 @@ module _ {d : Day} {h₀ h : List ℕ} {i : ℕ} (s : Started d h₀ h i) where
 -- ---- the periods
 
 -- h is the row after the periods 1 to j
-pub record Planned (d : Day) (h : List ℕ) (j : ℕ) : Type 0 where
+pub record Planned (d : Day) (next : ℕ → ℕ → ℕ) (h : List ℕ) (j : ℕ) : Type 0 where
   pub is-valid : valid d ≡ true
   pub rows : length h ≡ N d
-  pub so-far : h ≡ rowTo d j
+  pub so-far : h ≡ rowTo d next j
 
-pub planned-start : {d : Day} {h : List ℕ} → valid d ≡ true → length h ≡ N d → h ≡ rowTo d 0 → Planned d h 0
-planned-start v q e = record { is-valid = v; rows = q; so-far = e }
+pub planned-start : {d : Day} (next : ℕ → ℕ → ℕ) {h : List ℕ} → valid d ≡ true → length h ≡ N d → h ≡ row (N d) (closing d) → Planned d next h 0
+unfolding rowTo
+planned-start next v q e = record { is-valid = v; rows = q; so-far = e }
 
-module _ {d : Day} {h : List ℕ} {j : ℕ} (s : Planned d h j) where
-  pub planned-periods : P d ≤ 96
-  planned-periods = valid-means (s .is-valid) .periods-to
-
-  pub planned-next : {x : List ℕ} {m : ℕ} → m ≡ capacity d (j + 1) → length x ≡ length h → x ≡ landAll d (j + 1) m h → Planned d x (j + 1)
+module _ {d : Day} {next : ℕ → ℕ → ℕ} {h : List ℕ} {j : ℕ} (s : Planned d next h j) where
+  pub planned-next : {x : List ℕ} → length x ≡ length h → x ≡ landAll d (next (j + 1)) (j + 1) (capacity d (j + 1)) h → Planned d next x (j + 1)
   unfolding rowTo
-  planned-next em q ex = record { is-valid = s .is-valid; rows = q ∙ s .rows; so-far = rw add-one (ex ∙ rw (em, s .so-far, add-one)) }
+  planned-next q ex = record { is-valid = s .is-valid; rows = q ∙ s .rows; so-far = rw add-one (ex ∙ rw (s .so-far, add-one)) }
 
-  pub planned-end : {stop : ℕ} → j ≤ stop → stop ≤ j → h ≡ rowTo d stop
-  planned-end l g = s .so-far ∙ ap (rowTo d) (omega arith)
+  pub planned-end : {stop : ℕ} → j ≤ stop → stop ≤ j → h ≡ rowTo d next stop
+  planned-end l g = s .so-far ∙ ap (rowTo d next) (omega arith)
 
 -- ---- the first jump or limit
 

@@ -9,12 +9,23 @@ use Rattle.answers.specs.Answers.{Outcome, outcome}
 use Rattle.answers.specs.declared.Answer.the-variants.{Planned, BadDay, BadLength, JumpOrLimit}
 use Rattle.day.specs.Day.{Day, N, valid, total}
 use Rattle.day.specs.Plan.{firstJumpOrLimit}
+use Rattle.quick_plan.specs.declared.QuickCheck.{QuickCheck}
+use Rattle.quick_plan.specs.declared.QuickCheck.the-variants.{Applies, Refused}
 use Rattle.quick_plan.specs.Quick.{quick}
 
--- the quick plan: refusals 6, 7 and 8 in this order, which leave the row as it was
+-- what every quick plan tests first: refusals 6, 7 and 8 in this order
+unfoldable pub quickCheck : Day → List ℕ → QuickCheck
+quickCheck d holds =
+    cond (not (valid d)) (Refused BadDay)
+    (cond (not (eqb (length holds) (N d))) (Refused (BadLength (N d)))
+    (cond (ltb (firstJumpOrLimit (d .flights)) (N d)) (Refused (JumpOrLimit (firstJumpOrLimit (d .flights))))
+    Applies))
+
+-- a refusal leaves the row as it was
+abbrev pub onQuick : QuickCheck → List ℕ → Outcome → Outcome
+onQuick Applies holds plan = plan
+onQuick (Refused answer) holds plan = outcome answer holds
+
+-- the quick plan, and its total
 unfoldable pub quickPlan : Day → List ℕ → Outcome
-quickPlan d holds =
-    cond (not (valid d)) (outcome BadDay holds)
-    (cond (not (eqb (length holds) (N d))) (outcome (BadLength (N d)) holds)
-    (cond (ltb (firstJumpOrLimit (d .flights)) (N d)) (outcome (JumpOrLimit (firstJumpOrLimit (d .flights))) holds)
-    (outcome (Planned (total d (quick d))) (quick d))))
+quickPlan d holds = onQuick (quickCheck d holds) holds (outcome (Planned (total d (quick d))) (quick d))

@@ -1,3 +1,4 @@
+pub mod NextCost
 pub mod Quick
 pub mod Calls
 pub mod Loop

@@ -1,5 +1,5 @@
-// The quick plan: period by period, those of the flights that wait land that go first. A hold row starts with every flight at the closing
-// period, so that a flight that stands there has yet to land.
+// The quick plan: period by period, those of the flights that wait land that go first, which are those that one more period of hold
+// would cost most. A hold row starts with every flight at the closing period, so that a flight that stands there has yet to land.
 use answers::Answer;
 use day::Flight;
 use day::MISSING;
@@ -10,26 +10,55 @@ use day::is_valid;
 use day::of_period;
 use day::rate_of;
 use day::wide;
+use growth::further_cost;
 use legality::total_of;
 ghost use mathlib.Core.Path.{_≡_};
 ghost use mathlib.Core.Bool.{true};
 ghost use Prim.Native.Nat.{_+_, _*_, _<_, _≤_};
 ghost use lib.ListN.{length};
-ghost use Rattle.day.specs.Day.{lent, N, mostPeriods, width, valid};
+ghost use Rattle.assignment.specs.Rows.{row};
+ghost use Rattle.day.specs.Day.{lent, N, mostPeriods, width, capacity, valid};
 ghost use Rattle.day.specs.Plan.{jumpOrLimit, firstJumpOrLimit};
+ghost use Rattle.quick_plan.specs.NextCost.{nextCost, fits};
 ghost use Rattle.quick_plan.specs.Quick.{aheadOf};
-ghost use Rattle.quick_plan.specs.Loop.{waiting, top, landAll, rowTo};
-ghost use Rattle.quick_plan.specs.Calls.{quickPlan};
+ghost use Rattle.quick_plan.specs.Loop.{DueBy, closing, waiting, top, landAll, rowTo};
+ghost use Rattle.quick_plan.specs.Calls.{quickCheck, quickPlan};
 
-// Flight k goes before flight i.
-fn goes_before(flights: &[u32], k: usize, i: usize) -> bool
-    requires { ⌜ ((k + 1) * width ≤ length (now flights)) × ((i + 1) * width ≤ length (now flights)) ⌝ }
-    ensures { λ r. ⌜ r ≡ aheadOf (now (flights .entry)) k i ⌝ }
+// What one more period of hold costs: the rate, or in millionths what grows with the hold.
+pub enum NextCost {
+    Rate,
+    Growing { growth: usize },
+}
+
+// What is found of a day and a hold row: a quick plan can be made, or the refusal.
+pub enum QuickCheck {
+    Applies,
+    Refused(Answer),
+}
+
+// What one more period of hold costs flight i in period j.
+fn next_cost(next: NextCost, flights: &[u32], j: usize, i: usize) -> usize
+    requires { ⌜ (fits next j ≡ true) × DueBy (now flights) j i ⌝ }
+    ensures { λ r. ⌜ r ≡ nextCost next (now (flights .entry)) j i ⌝ }
 {
-    let rate_k = rate_of(flights, k);
-    let rate_i = rate_of(flights, i);
-    if rate_i != rate_k {
-        return rate_i < rate_k;
+    let rate = rate_of(flights, i);
+    match next {
+        NextCost::Rate => rate,
+        NextCost::Growing { growth } => {
+            further_cost(growth, rate, j - due_of(flights, i))
+        }
+    }
+}
+
+// Flight k goes before flight i in period j.
+fn goes_before(next: NextCost, flights: &[u32], j: usize, k: usize, i: usize) -> bool
+    requires { ⌜ (fits next j ≡ true) × DueBy (now flights) j k × DueBy (now flights) j i ⌝ }
+    ensures { λ r. ⌜ r ≡ aheadOf (now (flights .entry)) (nextCost next (now (flights .entry)) j) k i ⌝ }
+{
+    let cost_k = next_cost(next, flights, j, k);
+    let cost_i = next_cost(next, flights, j, i);
+    if cost_i != cost_k {
+        return cost_i < cost_k;
     }
     let due_k = due_of(flights, k);
     let due_i = due_of(flights, i);
@@ -52,9 +81,15 @@ pub fn is_waiting(capacities: &[u32], flights: &[u32], holds: &[u32], j: usize, 
 }
 
 // The flight that goes first of those that wait in period j, or the number of flights where none waits.
-fn first_waiting(capacities: &[u32], flights: &[u32], holds: &[u32], j: usize) -> usize
-    requires { ⌜ (length (now holds) ≡ N (lent capacities flights)) × (length (now capacities) ≤ mostPeriods) ⌝ }
-    ensures { λ r. ⌜ r ≡ top (lent (capacities .entry) (flights .entry)) j (now (holds .entry)) ⌝ }
+fn first_waiting(
+    next: NextCost,
+    capacities: &[u32],
+    flights: &[u32],
+    holds: &[u32],
+    j: usize,
+) -> usize
+    requires { ⌜ (valid (lent capacities flights) ≡ true) × (length (now holds) ≡ N (lent capacities flights)) × (fits next j ≡ true) ⌝ }
+    ensures { λ r. ⌜ r ≡ top (lent (capacities .entry) (flights .entry)) (nextCost next (now (flights .entry)) j) j (now (holds .entry)) ⌝ }
 {
     let n = holds.len();
     let mut best = n;
@@ -66,7 +101,7 @@ fn first_waiting(capacities: &[u32], flights: &[u32], holds: &[u32], j: usize) -
             if best == n {
                 best = k;
             } else {
-                if goes_before(flights, k, best) {
+                if goes_before(next, flights, j, k, best) {
                     best = k;
                 }
             }
@@ -76,14 +111,20 @@ fn first_waiting(capacities: &[u32], flights: &[u32], holds: &[u32], j: usize) -
 }
 
 // Lands as many flights as period j takes, or all that wait.
-fn land_period(capacities: &[u32], flights: &[u32], holds: &mut [u32], j: usize, capacity: usize)
-    requires { ⌜ (length (now holds) ≡ N (lent capacities flights)) × (length (now capacities) ≤ mostPeriods) × (j ≤ length (now capacities)) ⌝ }
-    ensures { λ _. ⌜ now (holds .exit) ≡ landAll (lent (capacities .entry) (flights .entry)) j capacity (now (holds .entry)) ⌝ }
+fn land_period(
+    next: NextCost,
+    capacities: &[u32],
+    flights: &[u32],
+    holds: &mut [u32],
+    j: usize,
+)
+    requires { ⌜ (valid (lent capacities flights) ≡ true) × (length (now holds) ≡ N (lent capacities flights)) × (fits next j ≡ true) × (j ≤ length (now capacities)) ⌝ }
+    ensures { λ _. ⌜ now (holds .exit) ≡ landAll (lent (capacities .entry) (flights .entry)) (nextCost next (now (flights .entry)) j) j (capacity (lent (capacities .entry) (flights .entry)) j) (now (holds .entry)) ⌝ }
 {
     let n = holds.len();
-    let mut left = capacity;
+    let mut left = of_period(capacities, j);
     while 0 < left {
-        let i = first_waiting(capacities, flights, holds, j);
+        let i = first_waiting(next, capacities, flights, holds, j);
         if i == n {
             return;
         }
@@ -96,7 +137,7 @@ fn land_period(capacities: &[u32], flights: &[u32], holds: &mut [u32], j: usize,
 // Every flight at the closing period.
 fn start_row(capacities: &[u32], flights: &[u32], holds: &mut [u32])
     requires { ⌜ (valid (lent capacities flights) ≡ true) × (length (now holds) ≡ N (lent capacities flights)) ⌝ }
-    ensures { λ _. ⌜ now (holds .exit) ≡ rowTo (lent (capacities .entry) (flights .entry)) 0 ⌝ }
+    ensures { λ _. ⌜ now (holds .exit) ≡ row (N (lent (capacities .entry) (flights .entry))) (closing (lent (capacities .entry) (flights .entry))) ⌝ }
 {
     let mut i = 0;
     while i < holds.len() {
@@ -107,16 +148,22 @@ fn start_row(capacities: &[u32], flights: &[u32], holds: &mut [u32])
 }
 
 // The row after the periods 1 to stop.
-pub fn plan_to(capacities: &[u32], flights: &[u32], holds: &mut [u32], stop: usize)
+pub fn plan_to(
+    next: NextCost,
+    capacities: &[u32],
+    flights: &[u32],
+    holds: &mut [u32],
+    stop: usize,
+)
     requires { ⌜ (valid (lent capacities flights) ≡ true) × (length (now holds) ≡ N (lent capacities flights)) ⌝ }
-    requires { ⌜ stop ≤ length (now capacities) ⌝ }
-    ensures { λ _. ⌜ now (holds .exit) ≡ rowTo (lent (capacities .entry) (flights .entry)) stop ⌝ }
+    requires { ⌜ (fits next (length (now capacities)) ≡ true) × (stop ≤ length (now capacities)) ⌝ }
+    ensures { λ _. ⌜ now (holds .exit) ≡ rowTo (lent (capacities .entry) (flights .entry)) (nextCost next (now (flights .entry))) stop ⌝ }
 {
     start_row(capacities, flights, holds);
     let mut j = 0;
     while j < stop {
         j += 1;
-        land_period(capacities, flights, holds, j, of_period(capacities, j));
+        land_period(next, capacities, flights, holds, j);
     }
 }
 
@@ -142,25 +189,38 @@ pub fn first_jump_or_limit(flights: &[u32]) -> usize
     n
 }
 
-// Fills the hold row with the quick plan and answers its total. Refusals, in this order: 6, a bad day; 7, a row that has not one entry
-// for each flight; 8, the first flight with a jump or a limit. They leave the row as it was.
+// What every quick plan tests first. Refusals, in this order: 6, a bad day; 7, a row that has not one entry for each flight; 8, the first
+// flight with a jump or a limit.
+pub fn check_quick(capacities: &[u32], flights: &[u32], holds: &[u32]) -> QuickCheck
+    ensures { λ r. ⌜ r ≡ quickCheck (lent (capacities .entry) (flights .entry)) (now (holds .entry)) ⌝ }
+{
+    if !is_valid(capacities, flights) {
+        return QuickCheck::Refused(Answer::BadDay);
+    }
+    let n = flight_count(flights);
+    if holds.len() != n {
+        return QuickCheck::Refused(Answer::BadLength { needed: n });
+    }
+    let place = first_jump_or_limit(flights);
+    if place < n {
+        return QuickCheck::Refused(Answer::JumpOrLimit { place });
+    }
+    QuickCheck::Applies
+}
+
+// Fills the hold row with the quick plan and answers its total; or refuses, and leaves the row as it was.
 pub fn quick_plan(capacities: &[u32], flights: &[u32], holds: &mut [u32]) -> Answer
     ensures { λ r. ⌜ r ≡ quickPlan (lent (capacities .entry) (flights .entry)) (now (holds .entry)) .answer ⌝ }
     ensures { λ _. ⌜ now (holds .exit) ≡ quickPlan (lent (capacities .entry) (flights .entry)) (now (holds .entry)) .holds ⌝ }
 {
-    if !is_valid(capacities, flights) {
-        return Answer::BadDay;
-    }
-    let n = flight_count(flights);
-    if holds.len() != n {
-        return Answer::BadLength { needed: n };
-    }
-    let place = first_jump_or_limit(flights);
-    if place < n {
-        return Answer::JumpOrLimit { place };
-    }
-    plan_to(capacities, flights, holds, capacities.len());
-    Answer::Planned {
-        total: total_of(flights, holds),
+    let found = check_quick(capacities, flights, holds);
+    match found {
+        QuickCheck::Refused(refusal) => refusal,
+        QuickCheck::Applies => {
+            plan_to(NextCost::Rate, capacities, flights, holds, capacities.len());
+            Answer::Planned {
+                total: total_of(flights, holds),
+            }
+        }
     }
 }

@@ -108,56 +108,65 @@ enum-told-5 c = search needs
 coded-requires-17 : tie.Need-coded-requires-17
 coded-requires-17 c κs = search needs
 
+enum-told-6 : tie.Need-enum-told-6
+enum-told-6 c = search needs
+
+coded-requires-18 : tie.Need-coded-requires-18
+coded-requires-18 c κs = search needs
+
 returns : tie.Need-returns
 returns c = c .coded .ensures ∙ ap codeOf (sym (c .before .before .answer .given .1))
 
 returns-2 : tie.Need-returns-2
-returns-2 c = cc
+returns-2 c = c .coded2 .ensures ∙ ap codeOf (sym (c .before .before .answer2 .given .1))
 
 returns-3 : tie.Need-returns-3
-returns-3 c = cc
+returns-3 c = c .coded3 .ensures ∙ ap codeOf (sym (c .before .before .answer3 .given .1))
 
 returns-4 : tie.Need-returns-4
-returns-4 c = cc
+returns-4 c = c .coded4 .ensures ∙ ap codeOf (sym (c .before .enum-told .given .1))
 
 returns-5 : tie.Need-returns-5
-returns-5 c = cc
+returns-5 c = c .coded5 .ensures ∙ ap codeOf (sym (c .before .enum-told2 .given .1))
 
 returns-6 : tie.Need-returns-6
-returns-6 c = cc
+returns-6 c = c .coded6 .ensures ∙ ap codeOf (sym (c .before .before .answer4 .given .1))
 
 returns-7 : tie.Need-returns-7
-returns-7 c = cc
+returns-7 c = c .coded7 .ensures ∙ ap codeOf (sym (c .before .before .answer5 .given .1))
 
 returns-8 : tie.Need-returns-8
-returns-8 c = cc
+returns-8 c = c .coded8 .ensures ∙ ap codeOf (sym (c .before .before .answer6 .given .1))
 
 returns-9 : tie.Need-returns-9
-returns-9 c = cc
+returns-9 c = c .coded9 .ensures ∙ ap codeOf (sym (c .before .before .answer7 .given .1))
 
 returns-10 : tie.Need-returns-10
-returns-10 c = cc
+returns-10 c = c .coded10 .ensures ∙ ap codeOf (sym (c .before .enum-told3 .given .1))
 
 returns-11 : tie.Need-returns-11
-returns-11 c = cc
+returns-11 c = c .coded11 .ensures ∙ ap codeOf (sym (c .before .before .answer8 .given .1))
 
 returns-12 : tie.Need-returns-12
-returns-12 c = cc
+returns-12 c = c .coded12 .ensures ∙ ap codeOf (sym (c .before .before .answer9 .given .1))
 
 returns-13 : tie.Need-returns-13
 returns-13 c = c .coded13 .ensures ∙ ap codeOf (sym (c .before .before .answer10 .given .1))
 
 returns-14 : tie.Need-returns-14
-returns-14 c = cc
+returns-14 c = c .coded14 .ensures ∙ ap codeOf (sym (c .before .before .answer11 .given .1))
 
 returns-15 : tie.Need-returns-15
-returns-15 c = cc
+returns-15 c = c .coded15 .ensures ∙ ap codeOf (sym (c .before .before .answer12 .given .1))
 
 returns-16 : tie.Need-returns-16
-returns-16 c = cc
+returns-16 c = c .coded16 .ensures ∙ ap codeOf (sym (c .before .enum-told4 .given .1))
 
 returns-17 : tie.Need-returns-17
-returns-17 c = cc
+returns-17 c = c .coded17 .ensures ∙ ap codeOf (sym (c .before .enum-told5 .given .1))
+
+returns-18 : tie.Need-returns-18
+returns-18 c = c .coded18 .ensures ∙ ap codeOf (sym (c .before .enum-told6 .given .1))
 
 pub code-of-spec : {M : Type 1} → statement M
 code-of-spec =
@@ -197,6 +206,8 @@ code-of-spec =
     coded-requires-16
     enum-told-5
     coded-requires-17
+    enum-told-6
+    coded-requires-18
     returns
     returns-2
     returns-3
@@ -213,4 +224,5 @@ code-of-spec =
     returns-14
     returns-15
     returns-16
-    returns-17)
+    returns-17
+    returns-18)

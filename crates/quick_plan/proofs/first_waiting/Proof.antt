@@ -3,24 +3,25 @@
 use borrow.Author.Needs.{needs}
 use Prim.Native.Nat.{_-_}
 use Rattle.day.specs.Day.{day}
-use Rattle.quick_plan.proofs.Steps.{Scan, scan-start, scan-there, best-there, scan-skip, scan-fresh, scan-better, scan-worse, scan-end}
+use Rattle.quick_plan.specs.NextCost.{nextCost}
+use Rattle.quick_plan.proofs.Steps.{Scan, scan-start, scan-there, scan-periods, scan-due, best-due, scan-skip, scan-fresh, scan-better, scan-worse, scan-end}
 use Rattle.quick_plan.proofs.first_waiting.Statement.{statement}
 use Rattle.quick_plan.proofs.first_waiting.Tie as tie
 
 abbrev Inv-loop : tie.InvT-loop
-Inv-loop capacities flights holds j n best₀ i₀ best i = Scan (day capacities flights) holds j n i best
+Inv-loop next capacities flights holds j n best₀ i₀ best i = Scan (day capacities flights) (nextCost next flights j) holds j n i best
 
 abbrev μ-loop : tie.MeasureT-loop
-μ-loop capacities flights holds j n best₀ i₀ best i = n - i
+μ-loop next capacities flights holds j n best₀ i₀ best i = n - i
 
 loop-holds : tie.Need-loop-holds Inv-loop μ-loop
-loop-holds c = scan-start (c .before .before .before .pre .0)
+loop-holds c = scan-start _ (c .before .before .before .pre .0) (c .before .before .before .pre .1)
 
 add-i : tie.Need-add-i Inv-loop μ-loop
 add-i c = search needs
 
 is-waiting-requires : tie.Need-is-waiting-requires Inv-loop μ-loop
-is-waiting-requires c κs = (scan-there (c .before .loop .inv) (c .loop-test .taken), search needs, search needs)
+is-waiting-requires c κs = (scan-there (c .before .loop .inv) (c .loop-test .taken), search needs, scan-periods (c .before .loop .inv))
 
 loop-less : tie.Need-loop-less Inv-loop μ-loop
 loop-less c = search needs
@@ -29,7 +30,16 @@ loop-again : tie.Need-loop-again Inv-loop μ-loop
 loop-again c = scan-fresh (c .before .before .before .before .loop .inv) (c .before .before .before .loop-test .taken) (c .before .before .is-waiting .ensures) (c .before .if1 .taken) (c .if2 .taken)
 
 goes-before-requires : tie.Need-goes-before-requires Inv-loop μ-loop
-goes-before-requires c κs = (scan-there (c .before .before .before .before .loop .inv) (c .before .before .before .loop-test .taken), best-there (c .before .before .before .before .loop .inv) (c .before .before .before .loop-test .taken) (c .if2 .left))
+goes-before-requires c κs =
+    let at-is-waiting = c .before .before in
+    let at-loop-test = at-is-waiting .before in
+    let at-loop = at-loop-test .before in
+    let at-start = at-loop .before .before .before .before in
+    (
+      at-start .pre .2,
+      scan-due (at-loop .loop .inv) (at-loop-test .loop-test .taken) (at-is-waiting .is-waiting .ensures) (c .before .if1 .taken),
+      best-due (at-loop .loop .inv) (c .if2 .left),
+    )
 
 loop-less-2 : tie.Need-loop-less-2 Inv-loop μ-loop
 loop-less-2 c = search needs

@@ -2,22 +2,30 @@
 -- Assumes nothing.
 use native.Mathlib.Omega.{arith}
 use borrow.Author.Needs.{needs}
-use Rattle.day.specs.Day.{day}
-use Rattle.quick_plan.proofs.Steps.{Landing, landing-stop, landing-flight, landing-more, landing-end}
+use Rattle.day.specs.Day.{day, capacity}
+use Rattle.quick_plan.specs.NextCost.{nextCost}
+use Rattle.quick_plan.proofs.Steps.{Landing, landing-start, landing-early, landing-stop, landing-flight, landing-more, landing-end}
 use Rattle.quick_plan.proofs.land_period.Statement.{statement}
 use Rattle.quick_plan.proofs.land_period.Tie as tie
 
 abbrev Inv-loop : tie.InvT-loop
-Inv-loop capacities flights holds₀ j capacity n left₀ holds left = Landing (day capacities flights) j capacity holds₀ left holds
+Inv-loop next capacities flights holds₀ j n left₀ holds left = Landing (day capacities flights) (nextCost next flights j) j (capacity (day capacities flights) j) holds₀ left holds
 
 abbrev μ-loop : tie.MeasureT-loop
-μ-loop capacities flights holds₀ j capacity n left₀ holds left = left
+μ-loop next capacities flights holds₀ j n left₀ holds left = left
+
+of-period-requires : tie.Need-of-period-requires Inv-loop μ-loop
+of-period-requires c κs = search needs
 
 loop-holds : tie.Need-loop-holds Inv-loop μ-loop
-loop-holds c = search needs
+loop-holds c =
+    let at-start = c .before .before .before .before in
+    landing-start _ (at-start .pre .0) (at-start .pre .3) (at-start .pre .1) (c .of-period .ensures .0)
 
 first-waiting-requires : tie.Need-first-waiting-requires Inv-loop μ-loop
-first-waiting-requires c κs = search needs
+first-waiting-requires c κs =
+    let at-start = c .before .before .before .before .before .before .before in
+    (at-start .pre .0, search needs, at-start .pre .2)
 
 same-length : tie.Need-same-length Inv-loop μ-loop
 same-length c = search needs
@@ -32,7 +40,7 @@ sub-hold : tie.Need-sub-hold Inv-loop μ-loop
 sub-hold c = omega (arith, c .due-of .ensures .0, landing-flight (c .before .before .before .before .before .loop .inv) (c .before .before .first-waiting .ensures) (c .before .if1 .left) .2)
 
 cast-holds : tie.Need-cast-holds Inv-loop μ-loop
-cast-holds c = search needs
+cast-holds c = omega (arith, landing-early (c .before .before .before .before .before .loop .inv))
 
 mul-holds : tie.Need-mul-holds Inv-loop μ-loop
 mul-holds c = omega (arith, landing-flight (c .before .before .before .before .before .loop .inv) (c .before .before .first-waiting .ensures) (c .before .if1 .left) .0)
@@ -61,6 +69,7 @@ land-period-spec =
     (tie.spec
     Inv-loop
     μ-loop
+    of-period-requires
     loop-holds
     first-waiting-requires
     same-length

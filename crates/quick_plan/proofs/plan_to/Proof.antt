@@ -5,15 +5,17 @@ use native.Mathlib.Omega.{arith}
 use mathlib.Core.Path.{sym, _∙_}
 use Prim.Native.Nat.{_-_, _≤_}
 use Rattle.day.specs.Day.{day}
-use Rattle.quick_plan.proofs.Steps.{Planned, planned-start, planned-periods, planned-next, planned-end}
+use Rattle.quick_plan.specs.NextCost.{nextCost}
+use Rattle.quick_plan.proofs.NextCosts.{fits-to}
+use Rattle.quick_plan.proofs.Steps.{Planned, planned-start, planned-next, planned-end}
 use Rattle.quick_plan.proofs.plan_to.Statement.{statement}
 use Rattle.quick_plan.proofs.plan_to.Tie as tie
 
 abbrev Inv-loop : tie.InvT-loop
-Inv-loop capacities flights holds₀ stop j₀ holds j = (j ≤ stop) × Planned (day capacities flights) holds j
+Inv-loop next capacities flights holds₀ stop j₀ holds j = (j ≤ stop) × Planned (day capacities flights) (nextCost next flights) holds j
 
 abbrev μ-loop : tie.MeasureT-loop
-μ-loop capacities flights holds₀ stop j₀ holds j = stop - j
+μ-loop next capacities flights holds₀ stop j₀ holds j = stop - j
 
 start-row-requires : tie.Need-start-row-requires Inv-loop μ-loop
 start-row-requires c κs = search needs
@@ -22,25 +24,25 @@ loop-holds : tie.Need-loop-holds Inv-loop μ-loop
 loop-holds c =
     let at-shared-slice-known2 = c .before .before .before .before .before in
     let at-start = at-shared-slice-known2 .before .before in
-    (omega arith, planned-start (at-start .pre .0 .0) (c .before .before .start-row .kept .1 .1 .0 ∙ at-start .pre .0 .1) (c .before .before .start-row .ensures))
+    (omega arith, planned-start _ (at-start .pre .0 .0) (c .before .before .start-row .kept .1 .1 .0 ∙ at-start .pre .0 .1) (c .before .before .start-row .ensures))
 
 add-j : tie.Need-add-j Inv-loop μ-loop
 add-j c = search needs
 
-of-period-requires : tie.Need-of-period-requires Inv-loop μ-loop
-of-period-requires c κs = search needs
-
 land-period-requires : tie.Need-land-period-requires Inv-loop μ-loop
-land-period-requires c κs = (c .before .before .before .loop .inv .1 .rows, planned-periods (c .before .before .before .loop .inv .1), omega arith)
+land-period-requires c κs =
+    let at-loop = c .before .before in
+    let at-shared-slice-known2 = at-loop .before .before .before .before .before .before in
+    let at-start = at-shared-slice-known2 .before .before in
+    (at-start .pre .0 .0, at-loop .loop .inv .1 .rows, fits-to _ (omega arith) (at-start .pre .1 .0), omega arith)
 
 loop-less : tie.Need-loop-less Inv-loop μ-loop
 loop-less c = search needs
 
 loop-again : tie.Need-loop-again Inv-loop μ-loop
 loop-again c =
-    let at-of-period = c .before .before .before in
-    let at-loop = at-of-period .before .before .before in
-    (omega arith, planned-next (at-loop .loop .inv .1) (at-of-period .of-period .ensures .0) (c .before .before .land-period .kept .1 .1 .0) (c .before .before .land-period .ensures))
+    let at-loop = c .before .before .before .before .before in
+    (omega arith, planned-next (at-loop .loop .inv .1) (c .before .before .land-period .kept .1 .1 .1 .0) (c .before .before .land-period .ensures))
 
 same-length : tie.Need-same-length Inv-loop μ-loop
 same-length c =
@@ -60,7 +62,6 @@ plan-to-spec =
     start-row-requires
     loop-holds
     add-j
-    of-period-requires
     land-period-requires
     loop-less
     loop-again

@@ -1,0 +1,5 @@
+pub mod Scaled
+pub mod Growing
+pub mod Sums
+pub mod Calls
+pub mod Meaning

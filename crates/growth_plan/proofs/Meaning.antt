@@ -1,0 +1,3 @@
+-- What the definitions say: the growing plan is a cheapest plan in millionths, without growth it is the quick plan, and no total is above
+-- 4,999,680,000,000,000.
+-- Assumes nothing.

@@ -1,0 +1,63 @@
+// The growing plan: the quick plan of a day on which each further period of hold costs more than the one before.
+use answers::Answer;
+use day::rate_of;
+use day::wide;
+use growth::GROWTH;
+use growth::GROWTH_PERIODS;
+use growth::growth_cost;
+use quick_plan::NextCost;
+use quick_plan::QuickCheck;
+use quick_plan::check_quick;
+use quick_plan::plan_to;
+ghost use mathlib.Core.Path.{_≡_};
+ghost use mathlib.Core.Bool.{true};
+ghost use lib.ListN.{length};
+ghost use Prim.Native.Nat.{_≤_};
+ghost use Rattle.day.specs.Day.{lent};
+ghost use Rattle.growth.specs.Growth.{growthFits};
+ghost use Rattle.growth_plan.specs.Growing.{growingTotal, growthPlan};
+ghost use Rattle.growth_plan.specs.Loop.{CanSum};
+
+// What a row of holds costs, in millionths.
+fn total_in_millionths(growth: usize, flights: &[u32], holds: &[u32]) -> usize
+    requires { ⌜ CanSum growth (now flights) (now holds) ⌝ }
+    ensures { λ r. ⌜ r ≡ growingTotal growth (now (flights .entry)) (now (holds .entry)) ⌝ }
+{
+    let mut sum = 0;
+    let mut i = 0;
+    while i < holds.len() {
+        sum += growth_cost(growth, rate_of(flights, i), wide(holds[i]));
+        i += 1;
+    }
+    sum
+}
+
+// The growth and the number of periods are within their ranges.
+fn growth_fits(growth: usize, periods: usize) -> bool
+    ensures { λ r. ⌜ r ≡ growthFits growth periods ⌝ }
+{
+    growth <= GROWTH && periods <= GROWTH_PERIODS
+}
+
+// Fills the hold row with the growing plan for a growth in tenths, and answers its total in millionths. Refusals, in this order: 6, 7 and 8
+// as the quick plan; 14, a growth or a number of periods out of range. They leave the row as it was.
+pub fn growth_plan(capacities: &[u32], flights: &[u32], growth: u32, holds: &mut [u32]) -> Answer
+    ensures { λ r. ⌜ r ≡ growthPlan growth (lent (capacities .entry) (flights .entry)) (now (holds .entry)) .answer ⌝ }
+    ensures { λ _. ⌜ now (holds .exit) ≡ growthPlan growth (lent (capacities .entry) (flights .entry)) (now (holds .entry)) .holds ⌝ }
+{
+    let found = check_quick(capacities, flights, holds);
+    match found {
+        QuickCheck::Refused(refusal) => refusal,
+        QuickCheck::Applies => {
+            let tenths = wide(growth);
+            if !growth_fits(tenths, capacities.len()) {
+                return Answer::BadGrowth;
+            }
+            let next = NextCost::Growing { growth: tenths };
+            plan_to(next, capacities, flights, holds, capacities.len());
+            Answer::Planned {
+                total: total_in_millionths(tenths, flights, holds),
+            }
+        }
+    }
+}
