@@ -20,7 +20,7 @@ use Rattle.day.proofs.Valid.{valid-means}
 use Rattle.day.proofs.Instance.{accepted-is-cheapest, short-has-no-plan}
 use Rattle.day.proofs.Prices.{saves-price, saved-smallest, one-row}
 use Rattle.legality.proofs.Meaning.{none-legal}
-use Rattle.quick_plan.specs.Quick.{quick}
+use Rattle.quick_plan.specs.Quick.{rates, quick}
 use Rattle.quick_plan.specs.Loop.{rowTo}
 use Rattle.quick_plan.proofs.Plan.{operates-end, quick-land}
 use Rattle.quick_plan.proofs.Rows.{rowTo-quick}
@@ -184,9 +184,9 @@ module _ (d : Day) (a b : ℕ) where
 
 -- ---- the quick plan, by the row that is made landing by landing
 
-module _ (d : Day) (holds : List ℕ) (v : valid d ≡ true) (made : rowTo d (P d) ≡ holds) where
+module _ (d : Day) (holds : List ℕ) (v : valid d ≡ true) (made : rowTo d (rates d) (P d) ≡ holds) where
   pub quick-holds : quick d ≡ holds
-  quick-holds = sym (rowTo-quick d v) ∙ made
+  quick-holds = sym (rowTo-quick d (rates d) v) ∙ made
 
   -- who lands in period j + 1, as a row of tests
   unfoldable pub landIn : ℕ → ℕ → Bool
@@ -199,6 +199,6 @@ module _ (d : Day) (holds : List ℕ) (v : valid d ≡ true) (made : rowTo d (P 
   unfolding landIn oneOf
   two-land j {x} {y} in-day same = record {
     landing = λ i l.
-        operates-end d v j i l in-day ∙ ap (λ k. eqb k (suc j)) (sym (quick-land d v i l) ∙ ap (λ h. land d h i) quick-holds)
+        operates-end d (rates d) v j i l in-day ∙ ap (λ k. eqb k (suc j)) (sym (quick-land d (rates d) v i l) ∙ ap (λ h. land d h i) quick-holds)
         ∙ sym (row-at (N d) (landIn j) i false l) ∙ ap (λ r. getD r i false) same ∙ row-at (N d) (oneOf x y) i false l;
   }

@@ -8,7 +8,7 @@ use lib.Dec.{eqb}
 use Rattle.day.specs.Day.{Day, day, N, number, cost, total, valid}
 use Rattle.day.specs.Flights.{numbersOf}
 use Rattle.day.specs.Plan.{Legal, Cheapest, Accepted, Smallest, PricesSave, Picked}
-use Rattle.quick_plan.specs.Quick.{operates, quick}
+use Rattle.quick_plan.specs.Quick.{operates, rates, quick}
 
 -- ---- what a case says of its day
 
@@ -44,7 +44,7 @@ pub record NoneIsLegal (d : Day) (first last : ℕ) : Type 0 where
   pub none : (holds : List ℕ) → Legal d holds → ⊥
 
 pub record OnlyTwoLand (d : Day) (j x y : ℕ) : Type 0 where
-  pub landing : (i : ℕ) → i < N d → operates d j i ≡ (eqb (number d i) x || eqb (number d i) y)
+  pub landing : (i : ℕ) → i < N d → operates d (rates d) j i ≡ (eqb (number d i) x || eqb (number d i) y)
 
 -- what a claim says of a day
 abbrev pub Says : Day → Claim → Type 0

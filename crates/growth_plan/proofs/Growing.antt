@@ -21,7 +21,7 @@ use Rattle.quick_plan.proofs.Applies.{no-jump}
 use Rattle.quick_plan.proofs.NextCosts.{growth-within}
 use Rattle.quick_plan.proofs.Same.{SameOrder, quick-same}
 use Rattle.quick_plan.proofs.Plan.{quick-legal}
-use Rattle.quick_plan.proofs.Cheapest.{paid, spent, Keeps, plan-least}
+use Rattle.quick_plan.proofs.Cheapest.{paid, spent, Regular, plan-least}
 use Rattle.growth_plan.specs.Growing.{growing, growingQuick, growingTotal}
 use Rattle.growth_plan.proofs.Scaled.{ahead-scaled}
 
@@ -39,11 +39,11 @@ module _ (a : ℕ) (d : Day) (within : growthFits a (P d) ≡ true) where
       let up : suc j - due d i ≡ suc (j - due d i) = omega arith in
       rw up (further-next a (rate d i) (j - due d i) (omega (arith, growth-within a (P d) within .1)))
 
-  pub growing-keeps : valid d ≡ true → Keeps d (growing a d)
-  growing-keeps v j k i p l m b c t =
+  pub growing-regular : valid d ≡ true → Regular d (growing a d)
+  growing-regular v j k i p l m b c t =
       let from : (i : ℕ) → i < N d → 1 ≤ due d i = λ i l. valid-means v .flight i l .due-from in
       let e : ahead d (growing a d j) k i ≡ ahead d (growing a d (suc j)) k i
-          = ahead-scaled 10 (10 + a) (lit< tt) (omega arith) (d .flights) (growing a d j) (growing a d (suc j)) k i (dearer j k p (from k l) b) (dearer j i p (from i m) c) in
+      = ahead-scaled 10 (10 + a) (lit< tt) (omega arith) (d .flights) (growing a d j) (growing a d (suc j)) k i (dearer j k p (from k l) b) (dearer j i p (from i m) c) in
       rw e at t
 
 -- ---- the cost
@@ -70,7 +70,7 @@ module _ (a : ℕ) (d : Day) (v : valid d ≡ true) (plain : firstJumpOrLimit (d
         arith,
         total-spent a d (growingQuick a d),
         total-spent a d other,
-        plan-least d (growing a d) v (growing-keeps a d within v) other legal,
+        plan-least d (growing a d) v (growing-regular a d within v) other legal,
       )
 
 -- ---- without growth

@@ -13,7 +13,7 @@ use Rattle.answers.specs.declared.Answer.the-variants.{Done, BadDay, JumpOrLimi
 use Rattle.day.specs.Day.{Day, P, N, width, valid, mostPeriods, mostFlights}
 use Rattle.day.specs.Plan.{firstJumpOrLimit}
 use Rattle.day.proofs.Valid.{valid-means}
-use Rattle.quick_plan.specs.Quick.{eligible}
+use Rattle.quick_plan.specs.Quick.{eligible, rates}
 use Rattle.quick_plan.specs.Loop.{waiting, rowTo}
 use Rattle.day.proofs.Flights.{there}
 use Rattle.quick_plan.proofs.Rows.{row-eligible, rowTo-length}
@@ -81,18 +81,18 @@ pub part-length : (row : List ℕ) (n : ℕ) → n ≤ length row → length (ta
 part-length row n l = simp length-take (omega arith)
 
 -- who waits after the periods before j is who is eligible in j
-pub card-is : (d : Day) {h : List ℕ} {j : ℕ} {s : Marks} → valid d ≡ true → 1 ≤ j → j ≤ P d → h ≡ rowTo d (j - 1)
+pub card-is : (d : Day) {h : List ℕ} {j : ℕ} {s : Marks} → valid d ≡ true → 1 ≤ j → j ≤ P d → h ≡ rowTo d (rates d) (j - 1)
     → s ≡ marks (waiting d h j) (length h)
     → _≡_ {A = Card} (record { answer = Done; low = s .low; high = s .high; size = ones (s .low) + ones (s .high) }) (card d j)
 unfolding card
 card-is d {h = h} {j = j} v a b eh es =
-    rw (es, eh, rowTo-length d v (j - 1) (omega arith), marks-ext (waiting d (rowTo d (j - 1)) j) (eligible d j) (N d) who, size-of (eligible d j) (N d))
+    rw (es, eh, rowTo-length d (rates d) v (j - 1) (omega arith), marks-ext (waiting d (rowTo d (rates d) (j - 1)) j) (eligible d (rates d) j) (N d) who, size-of (eligible d (rates d) j) (N d))
   where
     up : suc (j - 1) ≡ j
     up = omega arith
 
-    who : (i : ℕ) → i < N d → waiting d (rowTo d (j - 1)) j i ≡ eligible d j i
-    who i l = rw up at (row-eligible d v (j - 1) (omega arith) i l)
+    who : (i : ℕ) → i < N d → waiting d (rowTo d (rates d) (j - 1)) j i ≡ eligible d (rates d) j i
+    who i l = rw up at (row-eligible d (rates d) v (j - 1) (omega arith) i l)
 
 -- ---- the call
 

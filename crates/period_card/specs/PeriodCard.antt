@@ -9,7 +9,7 @@ use Rattle.answers.specs.declared.Answer.the-variants.{Done, BadDay, JumpOrLimi
 use Rattle.assignment.specs.Sum.{gate, sum}
 use Rattle.day.specs.Day.{Day, P, N, inside, valid}
 use Rattle.day.specs.Plan.{firstJumpOrLimit}
-use Rattle.quick_plan.specs.Quick.{eligible}
+use Rattle.quick_plan.specs.Quick.{eligible, rates}
 use Rattle.period_card.specs.declared.Marks.{Marks}
 use Rattle.period_card.specs.declared.Card.{Card}
 
@@ -28,7 +28,7 @@ size set n = sum n (λ i. gate (set i) 1)
 
 -- the card of period j
 unfoldable pub card : Day → ℕ → Card
-card d j = record { answer = Done; low = marks (eligible d j) (N d) .low; high = marks (eligible d j) (N d) .high; size = size (eligible d j) (N d) }
+card d j = record { answer = Done; low = marks (eligible d (rates d) j) (N d) .low; high = marks (eligible d (rates d) j) (N d) .high; size = size (eligible d (rates d) j) (N d) }
 
 abbrev pub refused : Answer → Card
 refused answer = record { answer = answer; low = 0; high = 0; size = 0 }

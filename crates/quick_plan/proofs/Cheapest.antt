@@ -171,16 +171,16 @@ waits-sum d next l m h =
 
 -- ---- the quick plan against another
 
--- who goes before whom among flights that wait stays so from one period to the next
-abbrev pub Keeps : Day → (next : ℕ → ℕ → ℕ) → Type 0
-Keeps d next = (j k i : ℕ) → j < P d → k < N d → i < N d → due d k ≤ j → due d i ≤ j → T (ahead d (next j) k i) → T (ahead d (next (suc j)) k i)
+-- the report's regular costs (section 2.2.1): who goes before whom among flights that are due goes before in the next period too
+abbrev pub Regular : Day → (next : ℕ → ℕ → ℕ) → Type 0
+Regular d next = (j k i : ℕ) → j < P d → k < N d → i < N d → due d k ≤ j → due d i ≤ j → T (ahead d (next j) k i) → T (ahead d (next (suc j)) k i)
 
 -- The proof on paper. Fix a period and a cost t, and look at the flights whose next cost in that period is t or more. Who goes before one
 -- of them then is one of them; and who goes before whom was so in all periods up to it. So in the quick plan they never wait for others: as
 -- many of them land in a period as it takes, or all. In any legal plan no more than that land. So the quick plan has the fewest of them
 -- waiting after that period. A flight's next cost is the number of those t that it reaches, so the next costs of all who wait add up to the
 -- least too; and a plan costs the sum of them over the periods.
-module _ (d : Day) (next : ℕ → ℕ → ℕ) (v : valid d ≡ true) (keeps : Keeps d next) (y : List ℕ) (legal : Legal d y) where
+module _ (d : Day) (next : ℕ → ℕ → ℕ) (v : valid d ≡ true) (regular : Regular d next) (y : List ℕ) (legal : Legal d y) where
   -- the landings of the quick plan
   abbrev lands-in : ℕ → ℕ
   lands-in = end d next v
@@ -189,7 +189,7 @@ module _ (d : Day) (next : ℕ → ℕ → ℕ) (v : valid d ≡ true) (keeps : 
   stays-ahead : (g j k i : ℕ) → g + j ≤ P d → k < N d → i < N d → due d k ≤ j → due d i ≤ j → T (ahead d (next j) k i) → T (ahead d (next (g + j)) k i)
   stays-ahead zero j k i p l m a b t = rw zero-add t
   stays-ahead (suc g) j k i p l m a b t =
-      rw suc-add (keeps (g + j) k i (omega arith) l m (omega arith) (omega arith) (stays-ahead g j k i (omega arith) l m a b t))
+      rw suc-add (regular (g + j) k i (omega arith) l m (omega arith) (omega arith) (stays-ahead g j k i (omega arith) l m a b t))
 
   module _ (t last : ℕ) (in-day : last ≤ P d) where
     -- the flights whose next cost in period `last` is t or more
@@ -264,9 +264,9 @@ module _ (d : Day) (next : ℕ → ℕ → ℕ) (v : valid d ≡ true) (keeps : 
 
 -- ---- document 01's quick plan: the next cost is the rate
 
-rates-keep : (d : Day) → Keeps d (rates d)
+rates-regular : (d : Day) → Regular d (rates d)
 unfolding nextCost
-rates-keep d j k i p l m a b t = t
+rates-regular d j k i p l m a b t = t
 
 -- with no jumps a total is what the flights pay at their rates
 plain-total : (d : Day) → firstJumpOrLimit (d .flights) ≡ N d → (h : List ℕ) → total d h ≡ spent d (rates d) h
@@ -282,7 +282,7 @@ quick-cheapest d v applies = record {
     arith,
     plain-total d applies (quick d),
     plain-total d applies y,
-    plan-least d (rates d) v (rates-keep d) y legal,
+    plan-least d (rates d) v (rates-regular d) y legal,
   );
 }
 

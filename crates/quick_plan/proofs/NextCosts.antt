@@ -18,6 +18,11 @@ pub growth-within : (a periods : ℕ) → growthFits a periods ≡ true → (a �
 unfolding growthFits
 growth-within a periods e = let w = and-true {a = leb a mostGrowth} e in (leb-true a mostGrowth (w .0), leb-true periods mostGrowthPeriods (w .1))
 
+-- rates are known on every day
+pub rate-fits : (periods : ℕ) → fits Rate periods ≡ true
+unfolding fits
+rate-fits periods = refl
+
 -- what is known on a day is known on a shorter one
 pub fits-to : (next : NextCost) {periods j : ℕ} → j ≤ periods → fits next periods ≡ true → fits next j ≡ true
 unfolding fits growthFits

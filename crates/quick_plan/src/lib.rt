@@ -44,9 +44,7 @@ fn next_cost(next: NextCost, flights: &[u32], j: usize, i: usize) -> usize
     let rate = rate_of(flights, i);
     match next {
         NextCost::Rate => rate,
-        NextCost::Growing { growth } => {
-            further_cost(growth, rate, j - due_of(flights, i))
-        }
+        NextCost::Growing { growth } => { further_cost(growth, rate, j - due_of(flights, i)) }
     }
 }
 
@@ -111,13 +109,7 @@ fn first_waiting(
 }
 
 // Lands as many flights as period j takes, or all that wait.
-fn land_period(
-    next: NextCost,
-    capacities: &[u32],
-    flights: &[u32],
-    holds: &mut [u32],
-    j: usize,
-)
+fn land_period(next: NextCost, capacities: &[u32], flights: &[u32], holds: &mut [u32], j: usize)
     requires { ⌜ (valid (lent capacities flights) ≡ true) × (length (now holds) ≡ N (lent capacities flights)) × (fits next j ≡ true) × (j ≤ length (now capacities)) ⌝ }
     ensures { λ _. ⌜ now (holds .exit) ≡ landAll (lent (capacities .entry) (flights .entry)) (nextCost next (now (flights .entry)) j) j (capacity (lent (capacities .entry) (flights .entry)) j) (now (holds .entry)) ⌝ }
 {
@@ -148,13 +140,7 @@ fn start_row(capacities: &[u32], flights: &[u32], holds: &mut [u32])
 }
 
 // The row after the periods 1 to stop.
-pub fn plan_to(
-    next: NextCost,
-    capacities: &[u32],
-    flights: &[u32],
-    holds: &mut [u32],
-    stop: usize,
-)
+pub fn plan_to(next: NextCost, capacities: &[u32], flights: &[u32], holds: &mut [u32], stop: usize)
     requires { ⌜ (valid (lent capacities flights) ≡ true) × (length (now holds) ≡ N (lent capacities flights)) ⌝ }
     requires { ⌜ (fits next (length (now capacities)) ≡ true) × (stop ≤ length (now capacities)) ⌝ }
     ensures { λ _. ⌜ now (holds .exit) ≡ rowTo (lent (capacities .entry) (flights .entry)) (nextCost next (now (flights .entry))) stop ⌝ }

@@ -1,6 +1,7 @@
 -- Who waits after the periods before j is who is eligible in j, and the ones of both words are as many.
 -- Assumes nothing.
 use Rattle.period_card.proofs.Steps.{part-length, card-is}
+use Rattle.quick_plan.proofs.NextCosts.{rate-fits}
 use lib.Count.{ones-le}
 use mathlib.Core.Path.{_∙_}
 use native.Mathlib.Omega.{arith}
@@ -21,7 +22,7 @@ sub-plan-to : tie.Need-sub-plan-to
 sub-plan-to c = search needs
 
 plan-to-requires : tie.Need-plan-to-requires
-plan-to-requires c κs = (let a = c .before .before .before .before .before in (a .pre .0 .0, part-length (a .args .row .now) (a .args .n) (a .pre .1) ∙ a .pre .0 .1), omega arith)
+plan-to-requires c κs = (let a = c .before .before .before .before .before in (a .pre .0 .0, part-length (a .args .row .now) (a .args .n) (a .pre .1) ∙ a .pre .0 .1), (rate-fits _, omega arith))
 
 marks-of-requires : tie.Need-marks-of-requires
 marks-of-requires c κs = search needs

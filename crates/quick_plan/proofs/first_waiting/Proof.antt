@@ -34,8 +34,7 @@ goes-before-requires c κs =
     let at-is-waiting = c .before .before in
     let at-loop-test = at-is-waiting .before in
     let at-loop = at-loop-test .before in
-    let at-start = at-loop .before .before .before .before in
-    (
+    let at-start = at-loop .before .before .before .before in (
       at-start .pre .2,
       scan-due (at-loop .loop .inv) (at-loop-test .loop-test .taken) (at-is-waiting .is-waiting .ensures) (c .before .if1 .taken),
       best-due (at-loop .loop .inv) (c .if2 .left),

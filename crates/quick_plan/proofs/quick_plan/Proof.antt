@@ -1,8 +1,8 @@
 -- A refusal is the check's; else the row made for all periods is the quick plan.
 -- Assumes nothing.
-use mathlib.Core.Path.{refl, sym, _∙_}
+use mathlib.Core.Path.{sym, _∙_}
 use Rattle.answers.proofs.Outcomes.{says}
-use Rattle.quick_plan.specs.NextCost.{fits}
+use Rattle.quick_plan.proofs.NextCosts.{rate-fits}
 use Rattle.quick_plan.proofs.Calls.{can-plan, refused, planned}
 use Rattle.legality.proofs.Laws.{can-sum}
 use borrow.Author.Needs.{needs}
@@ -19,12 +19,11 @@ enum-told : tie.Need-enum-told
 enum-told c = search needs
 
 plan-to-requires : tie.Need-plan-to-requires
-unfolding fits
 plan-to-requires c κs =
     let at-told = c .before in
     let at-check = at-told .before .before in
     let w = can-plan _ _ (sym (at-check .check-quick .ensures) ∙ at-told .enum-told .given .1) in
-    ((w .good, w .each), (refl, search needs))
+    ((w .good, w .each), (rate-fits _, search needs))
 
 total-of-requires : tie.Need-total-of-requires
 total-of-requires c κs =
