@@ -1,11 +1,12 @@
 // Runs the examples of documents 01 and 02 and of the report and prints what every call answers, with the rows and texts that it filled; the
 // file stdout has what they must be. An example is a line `kind name length`, then that many bytes of sheet, then an end byte. Its kind says
-// what is run: `read` the reader; `day` every call for the sheet's day, but for the forecast plan; `odds` the forecast plan; `lengths` every
-// call with rows of other lengths; `values` every call for days in memory that differ from the sheet's in a value or a length; `unfit` the
-// reader with rows of other lengths; `program` the text that the program writes.
+// what is run: `read` the reader; `day` every call for the sheet's day, but for the forecast and the growing plan; `odds` the forecast plan;
+// `growth` the growing plan; `lengths` every call with rows of other lengths; `values` every call for days in memory that differ from the
+// sheet's in a value or a length; `unfit` the reader with rows of other lengths; `program` the text that the program writes.
 // What a call changed though it had to leave it is reported as `CHANGED`, and a text that is not the expected one as `OTHER`.
 mod calls;
 mod forecasts;
+mod growth;
 mod input;
 mod plans;
 mod refused;

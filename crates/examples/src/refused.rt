@@ -9,6 +9,7 @@ use crate::calls::price_check;
 use crate::calls::quick_plan;
 use crate::calls::sheet_text;
 use crate::forecasts::forecast_plan_of;
+use crate::growth::growth_plan;
 use crate::rows::capacity_row;
 use crate::rows::copy;
 use crate::rows::due_row;
@@ -41,10 +42,11 @@ fn shorter(length: usize) -> usize {
     if 0 < length { length - 1 } else { 1 }
 }
 
-// Every call. The card is asked for period 0, which is refused last.
+// Every call. The card is asked for period 0, and the growing plan for a growth of 41, which are refused last.
 fn run_calls(capacities: &[u32], flights: &[u32], holds: &[u32], lent: Lent) {
     let prices = price_row();
     quick_plan(capacities, flights, holds.len());
+    growth_plan(capacities, flights, 41, holds.len());
     card(capacities, flights, 0);
     full_plan_of(capacities, flights, holds.len(), lent.prices);
     price_check(capacities, flights, holds, front(&prices, lent.prices));

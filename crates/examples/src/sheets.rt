@@ -1,5 +1,6 @@
 // The reader: sheets, and rows of other lengths.
 use crate::forecasts::run_forecasts;
+use crate::growth::run_growths;
 use crate::plans::run_day;
 use crate::refused::run_lengths;
 use crate::refused::run_values;
@@ -67,6 +68,7 @@ fn run_read(kind: u8, capacities: &[u32], flights: &[u32], sheet: &[u8]) {
         b'l' => run_lengths(capacities, flights),
         b'v' => run_values(capacities, flights),
         b'o' => run_forecasts(capacities, flights),
+        b'g' => run_growths(capacities, flights),
         _ => (),
     }
 }

@@ -6,10 +6,9 @@ use mathlib.Core.List.{List}
 use Prim.Native.Nat.{ℕ, suc, _+_, _-_, _*_, _≤_, _<_}
 use native.Mathlib.Omega.{arith}
 use native.Mathlib.Nat.{mul-assoc, mul-one, mul-right-comm}
-use lib.Dec.{T, lit<}
-use Rattle.assignment.specs.Sum.{sum}
+use lib.Dec.{lit<}
 use Rattle.assignment.proofs.Sums.{sum-ext, sum-same, sum-times}
-use Rattle.day.specs.Day.{Day, P, N, due, rate, rateOf, cost, hold, land, flightCount, totalOf, total, valid}
+use Rattle.day.specs.Day.{Day, P, N, due, rate, cost, hold, totalOf, total, valid}
 use Rattle.day.specs.Plan.{Legal, firstJumpOrLimit}
 use Rattle.day.proofs.Costs.{cost-plain}
 use Rattle.day.proofs.Valid.{valid-means}

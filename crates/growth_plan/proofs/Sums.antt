@@ -1,16 +1,15 @@
 -- The sum in millionths, flight by flight.
 -- Assumes nothing.
-use mathlib.Core.Path.{_≡_, refl, sym, ap, _∙_}
+use mathlib.Core.Path.{_≡_, refl, ap, _∙_}
 use mathlib.Core.Bool.{true}
 use mathlib.Core.List.{List}
 use Prim.Native.Nat.{ℕ, _+_, _*_, _≤_, _<_}
 use native.Mathlib.Omega.{arith}
-use native.Mathlib.Nat.{mul-le-mul-right}
 use native.Mathlib.Numerals.{add-one}
 use lib.ListN.{length}
 use Rattle.assignment.specs.Sum.{sum}
 use Rattle.assignment.proofs.Sums.{sum-most}
-use Rattle.day.specs.Day.{Day, P, N, width, flightCount, rateOf, hold, valid}
+use Rattle.day.specs.Day.{Day, P, width, flightCount, rateOf, hold, valid}
 use Rattle.day.specs.Plan.{Legal}
 use Rattle.day.proofs.Flights.{there}
 use Rattle.day.proofs.Valid.{valid-means}

@@ -2,10 +2,10 @@
 -- Assumes nothing.
 use mathlib.Core.List.{List}
 use mathlib.Core.Path.{_≡_}
-use Prim.Native.Nat.{ℕ, _*_, _≤_, _<_}
+use Prim.Native.Nat.{ℕ, _≤_, _<_}
 use lib.ListN.{length}
 use Rattle.assignment.specs.Sum.{sum}
-use Rattle.day.specs.Day.{mostFlights, width, flightCount, rateOf, hold}
+use Rattle.day.specs.Day.{mostFlights, flightCount, rateOf, hold}
 use Rattle.growth.specs.Growth.{mostGrowth, mostGrowthPeriods, growthCost}
 
 -- a hold for each flight, and numbers in their ranges

@@ -5,7 +5,7 @@ use mathlib.Core.Logic.{_⊎_, inl, inr, _≢_}
 use mathlib.Core.Bool.{Bool, true, false, not, _&&_, _||_}
 use Prim.Native.Nat.{ℕ, zero, suc, _+_, _-_, _≤_, _<_, zero-le}
 use native.Mathlib.Omega.{arith}
-use lib.Dec.{T, leb, ltb, eqb, ltb→lt, lt→ltb, leb→le, le→leb, eqb→eq, eqb-refl, leb·suc-suc, not-T, T-not}
+use lib.Dec.{T, leb, ltb, eqb, ltb→lt, lt→ltb, le→leb, eqb→eq, eqb-refl, leb·suc-suc, not-T, T-not}
 use borrow.Author.Tests.{eq-eqb, ne-eqb}
 use Rattle.assignment.specs.Sum.{gate, sum}
 use Rattle.assignment.proofs.Tests.{gate-on, gate-off, and-T, T-and, test, lt?, eq?, is-true as on, is-false as off, or-T, T-or-l, T-or-r}

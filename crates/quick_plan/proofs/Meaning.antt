@@ -3,13 +3,13 @@
 use mathlib.Core.Path.{_≡_, refl, ap, _∙_}
 use mathlib.Core.Logic.{inl, inr}
 use mathlib.Core.Bool.{Bool, true, false, not, _&&_}
-use Prim.Native.Nat.{ℕ, _+_, _≤_, zero-le, min}
+use Prim.Native.Nat.{ℕ, _+_, _≤_, min}
 use native.Mathlib.Omega.{arith}
-use lib.Dec.{T, leb, ltb, ltb→lt, nltb→le, le→leb, T-not, not-T}
+use lib.Dec.{T, ltb, ltb→lt, nltb→le, T-not, not-T}
 use Rattle.assignment.specs.Sum.{gate, sum}
-use Rattle.assignment.proofs.Tests.{and-T, T-and, gate-le, gate-on, eq?, is-true as on}
+use Rattle.assignment.proofs.Tests.{and-T, T-and, gate-le, gate-on, eq?}
 use Rattle.assignment.proofs.Sums.{sum-ext, sum-add, sum-le}
-use Rattle.day.specs.Day.{Day, N, rate}
+use Rattle.day.specs.Day.{Day, N}
 use Rattle.quick_plan.specs.Quick.{ahead, goingBefore, highest}
 use Rattle.quick_plan.proofs.First.{rest, crowd, landed, left-over, first-in, ahead-trans, ahead-total}
 

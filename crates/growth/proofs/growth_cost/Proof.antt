@@ -18,7 +18,7 @@ loop-holds : tie.Need-loop-holds Inv-loop μ-loop
 loop-holds c = (growth-start _ _, omega arith)
 
 further-cost-requires : tie.Need-further-cost-requires Inv-loop μ-loop
-further-cost-requires c κs = (c .before .before .pre .0, omega arith, omega arith)
+further-cost-requires c κs = (omega arith, omega arith, omega arith)
 
 add-sum : tie.Need-add-sum Inv-loop μ-loop
 add-sum c =
