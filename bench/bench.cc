@@ -1,5 +1,5 @@
-// The core beside LEMON's min-cost-flow solvers, on the same days in one run with equal repeats, and its forecast plan beside
-// two programs of ours. Every total is compared. A share is the core's time over the other's (below 1: the core is faster); a
+// The core's full and growing plans beside LEMON's min-cost-flow solvers, on the same days in one run with equal repeats, and
+// its forecast plan beside two programs of ours. Every total is compared. A share is the core's time over the other's (below 1: the core is faster); a
 // solver's is of solving only and with its network built each time. A shared machine puts a program aside for moments and is
 // slower for whiles. So a time is the least of a few repeats, a share is of two such times close together (a turn), a day's
 // figure is the median over the turns, and all is measured in rounds, each over all days.
@@ -8,12 +8,26 @@
 #include <lemon/cost_scaling.h>
 #include <map>
 
+constexpr uint32_t GROWTH = 5; // each further period of hold costs half as much again
+
+// A day's periods put together to the most that the growing plan takes.
+static Day by_the_hour(Day day)
+{
+    size_t periods = day.periods(), hours = std::min<size_t>(periods, HOLD_DESK_MOST_GROWTH_PERIODS);
+    std::vector<uint32_t> capacities(hours);
+    for (size_t k = 0; k < periods; k++) capacities[k * hours / periods] += day.capacities[k];
+    for (uint32_t &capacity : capacities) capacity = std::min<uint32_t>(capacity, 255);
+    for (size_t i = 0; i < day.count(); i++) day.field(i, DUE) = uint32_t(1 + (day.field(i, DUE) - 1) * hours / periods);
+    day.capacities = capacities;
+    return day;
+}
+
 // One day with all rows that the core's calls read and write. The forecast plan gets it without jumps, the quick plan and the
-// card without jumps and limits.
+// card without jumps and limits, and the growing plan so and by the hour.
 struct Desk {
-    Day day, jumpless, plain;
+    Day day, jumpless, plain, hourly;
     Forecasts forecasts;
-    uint64_t total = 0, expected = 0, beside_total = 0;
+    uint64_t total = 0, expected = 0, beside_total = 0, grown = 0;
     std::string sheet, buffer = std::string(MOST_BYTES, ' ');
     std::vector<uint32_t> capacities = std::vector<uint32_t>(MOST_PERIODS), flights = std::vector<uint32_t>(FLIGHT_ROW), places, beside_holds;
 
@@ -22,6 +36,7 @@ struct Desk {
         jumpless.set(JUMP, 0);
         plain = jumpless;
         plain.set(LIMIT, MISSING);
+        hourly = by_the_hour(plain);
         expect(full(), day.name + " has no plan");
     }
 
@@ -29,6 +44,13 @@ struct Desk {
     bool read() { return hold_desk_read_sheet((const uint8_t *)sheet.data(), sheet.size(), capacities.data(), MOST_PERIODS, flights.data(), FLIGHT_ROW).number == 0; }
     bool write() { return hold_desk_write_sheet(day.capacities.data(), day.periods(), day.flights.data(), day.flights.size(), (uint8_t *)buffer.data(), buffer.size(), 0).number == 0; }
     bool quick() { return hold_desk_quick_plan(plain.capacities.data(), plain.periods(), plain.flights.data(), plain.flights.size(), plain.holds.data(), plain.holds.size()).number == 0; }
+    bool hourly_quick() { return hold_desk_quick_plan(hourly.capacities.data(), hourly.periods(), hourly.flights.data(), hourly.flights.size(), hourly.holds.data(), hourly.holds.size()).number == 0; }
+    bool growth()
+    {
+        hold_desk_answer plan = hold_desk_growth_plan(hourly.capacities.data(), hourly.periods(), hourly.flights.data(), hourly.flights.size(), GROWTH, hourly.holds.data(), hourly.holds.size());
+        grown = plan.first;
+        return plan.number == 0;
+    }
     // of the last period, since a card plans all periods before its own
     bool card() { return hold_desk_period_card(plain.capacities.data(), plain.periods(), plain.flights.data(), plain.flights.size(), uint32_t(plain.periods())).number == 0; }
     bool full()
@@ -76,29 +98,36 @@ static std::vector<double> times_of(Desk &desk, Call call, int repeats)
     return times;
 }
 
-// The full plan, measured before, as a share of a solver's time.
-template <class Solver> static void beside(const Desk &desk, int repeats, const std::string &column, Figures &row)
+// A plan of the core, measured before in the column `own`, as a share of a solver's time on the same day and costs.
+template <class Solver, class Cost = Plain> static void beside(const Day &day, uint64_t total, int repeats, const std::string &own, const std::string &column, Figures &row, Cost cost_of = {})
 {
     Solved least{1e9, 1e9};
     for (int r = 0; r < repeats; r++) {
-        Solved one = solve<Solver>(desk.day, desk.total);
+        Solved one = solve<Solver>(day, total, cost_of);
         least = {std::min(least.solving, one.solving), std::min(least.building, one.building)};
     }
-    row[column] = row.at("full us") / (least.solving * 1e6);
-    row[column + "+build"] = row.at("full us") / (least.building * 1e6);
+    row[column] = row.at(own) / (least.solving * 1e6);
+    row[column + "+build"] = row.at(own) / (least.building * 1e6);
 }
 
 static void measure_plan(Desk &desk, int repeats, Figures &row)
 {
     row["full us"] = times_of(desk, &Desk::full, repeats).front();
-    beside<Simplex>(desk, repeats, "simplex", row);
+    beside<Simplex>(desk.day, desk.total, repeats, "full us", "simplex", row);
+}
+
+static void measure_growth(Desk &desk, int repeats, Figures &row)
+{
+    row["growth us"] = times_of(desk, &Desk::growth, repeats).front();
+    beside<WideSimplex>(desk.hourly, desk.grown, repeats, "growth us", "simplex", row, Growing{GROWTH});
+    row["growth/quick"] = row["growth us"] / times_of(desk, &Desk::hourly_quick, repeats).front();
 }
 
 static void measure_all(Desk &desk, int repeats, Figures &row)
 {
     measure_plan(desk, repeats, row);
-    beside<lemon::CapacityScaling<Graph>>(desk, repeats, "capacity", row);
-    beside<lemon::CostScaling<Graph>>(desk, repeats, "cost", row);
+    beside<lemon::CapacityScaling<Graph>>(desk.day, desk.total, repeats, "full us", "capacity", row);
+    beside<lemon::CostScaling<Graph>>(desk.day, desk.total, repeats, "full us", "cost", row);
     row["quick/full"] = times_of(desk, &Desk::quick, repeats).front() / row["full us"];
     row["read/full"] = times_of(desk, &Desk::read, repeats).front() / row["full us"];
     row["write/full"] = times_of(desk, &Desk::write, repeats).front() / row["full us"];
@@ -273,7 +302,7 @@ static std::vector<Desk> growing_days()
 // machine did.
 static void print_longest(std::vector<Desk> &desks, int repeats)
 {
-    const std::pair<const char *, Call> calls[] = {{"read_sheet", &Desk::read}, {"write_sheet", &Desk::write}, {"quick_plan", &Desk::quick}, {"period_card", &Desk::card}, {"full_plan", &Desk::full}, {"price_check", &Desk::check}, {"choice", &Desk::choice}, {"board", &Desk::board}, {"plan_text", &Desk::text}, {"forecast_plan", &Desk::forecast}};
+    const std::pair<const char *, Call> calls[] = {{"read_sheet", &Desk::read}, {"write_sheet", &Desk::write}, {"quick_plan", &Desk::quick}, {"period_card", &Desk::card}, {"full_plan", &Desk::full}, {"price_check", &Desk::check}, {"choice", &Desk::choice}, {"board", &Desk::board}, {"plan_text", &Desk::text}, {"forecast_plan", &Desk::forecast}, {"growth_plan", &Desk::growth}};
     print_heads({"call", "longest us", "on day", "longest seen us"});
     for (auto &[name, call] : calls) {
         double longest = 0, seen = 0;
@@ -301,6 +330,8 @@ int main(int argc, char **argv)
     Rounds forecasts = measure(desks, repeats, rounds, measure_forecasts);
     print_classes(desks, forecasts, {"forecast us", "forecast/full", "plain", "placed"});
     print_bar(desks, forecasts);
+    std::printf("\nGrowing cost: each day without jumps and limits, its periods put together to %d at most, with a growth of %u tenths:\n\n", HOLD_DESK_MOST_GROWTH_PERIODS, GROWTH);
+    print_classes(desks, measure(desks, repeats, rounds, measure_growth), {"growth us", "simplex", "simplex+build", "growth/quick"});
     std::printf("\nThe longest time of a single call, over all days of the folder:\n\n");
     print_longest(desks, repeats);
 }

@@ -129,13 +129,37 @@ inline std::vector<Day> load(const std::filesystem::path &folder)
     return days;
 }
 
+// What a hold costs the flight at table place i.
+struct Plain {
+    using Value = int;
+    int operator()(const Day &day, size_t i, size_t hold) const
+    {
+        int jump = int(day.field(i, LATE)) + int(hold) > int(day.field(i, AFTER)) ? int(day.field(i, JUMP)) : 0;
+        return int(day.field(i, RATE)) * int(hold) + jump;
+    }
+};
+
+// The same with a growth, in millionths; there are no jumps.
+struct Growing {
+    using Value = int64_t;
+    uint32_t growth;
+    int64_t operator()(const Day &day, size_t i, size_t hold) const
+    {
+        int64_t cost = 0, next = int64_t(day.field(i, RATE)) * 1000000;
+        for (size_t t = 0; t < hold; t++) cost += next, next = next / 10 * (10 + growth);
+        return cost;
+    }
+};
+
 // Flights to periods to a sink; the closing period takes everyone.
-struct Network {
+template <class Cost> struct Network {
+    using Value = typename Cost::Value;
     Graph graph;
-    Graph::ArcMap<int> capacity{graph}, cost{graph};
+    Graph::ArcMap<int> capacity{graph};
+    Graph::ArcMap<Value> cost{graph};
     Graph::NodeMap<int> supply{graph};
 
-    explicit Network(const Day &day)
+    Network(const Day &day, Cost cost_of)
     {
         size_t periods = day.periods();
         std::vector<Graph::Node> at(periods + 1);
@@ -150,15 +174,11 @@ struct Network {
             Graph::Node flight = graph.addNode();
             supply[flight] = 1;
             size_t due = day.field(i, DUE), last = day.last(i);
-            for (size_t k = due; k <= last; k++) {
-                int hold = int(k - due);
-                int jump = int(day.field(i, LATE)) + hold > int(day.field(i, AFTER)) ? int(day.field(i, JUMP)) : 0;
-                add(flight, at[k - 1], 1, int(day.field(i, RATE)) * hold + jump);
-            }
+            for (size_t k = due; k <= last; k++) add(flight, at[k - 1], 1, cost_of(day, i, k - due));
         }
     }
 
-    void add(Graph::Node a, Graph::Node b, int most, int each)
+    void add(Graph::Node a, Graph::Node b, int most, Value each)
     {
         Graph::Arc arc = graph.addArc(a, b);
         capacity[arc] = most;
@@ -171,10 +191,10 @@ struct Solved {
 };
 
 // One run of a solver on a network of its own. A total other than the core's ends the program, with the sheet.
-template <class Solver> Solved solve(const Day &day, uint64_t total)
+template <class Solver, class Cost = Plain> Solved solve(const Day &day, uint64_t total, Cost cost_of = {})
 {
     Clock::time_point start = Clock::now();
-    Network network(day);
+    Network<Cost> network(day, cost_of);
     Solver solver(network.graph);
     solver.upperMap(network.capacity).costMap(network.cost).supplyMap(network.supply);
     Clock::time_point ready = Clock::now();
@@ -186,5 +206,6 @@ template <class Solver> Solved solve(const Day &day, uint64_t total)
 }
 
 using Simplex = lemon::NetworkSimplex<Graph>;
+using WideSimplex = lemon::NetworkSimplex<Graph, int, int64_t>;
 
 #endif

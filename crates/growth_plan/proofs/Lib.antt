@@ -3,3 +3,4 @@ pub mod Growing
 pub mod Sums
 pub mod Calls
 pub mod Meaning
+pub mod Worked

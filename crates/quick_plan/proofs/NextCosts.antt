@@ -1,4 +1,4 @@
--- What the next cost is in each of its cases, and on which days it is known.
+-- What the next cost is in each of its cases, and on which days a plan is made with it.
 -- Assumes nothing.
 use mathlib.Core.Path.{_≡_, refl}
 use mathlib.Core.Bool.{true}
@@ -18,12 +18,12 @@ pub growth-within : (a periods : ℕ) → growthFits a periods ≡ true → (a �
 unfolding growthFits
 growth-within a periods e = let w = and-true {a = leb a mostGrowth} e in (leb-true a mostGrowth (w .0), leb-true periods mostGrowthPeriods (w .1))
 
--- rates are known on every day
+-- by rates on every day
 pub rate-fits : (periods : ℕ) → fits Rate periods ≡ true
 unfolding fits
 rate-fits periods = refl
 
--- what is known on a day is known on a shorter one
+-- if on a day, then on a shorter one
 pub fits-to : (next : NextCost) {periods j : ℕ} → j ≤ periods → fits next periods ≡ true → fits next j ≡ true
 unfolding fits growthFits
 fits-to Rate l e = refl

@@ -14,7 +14,7 @@ unfoldable pub nextCost : NextCost → List ℕ → ℕ → ℕ → ℕ
 nextCost Rate flights j i = rateOf flights i
 nextCost (Growing a) flights j i = furtherCost a (rateOf flights i) (j - dueOf flights i)
 
--- it is known on a day of so many periods
+-- a plan is made with it on a day of so many periods
 unfoldable pub fits : NextCost → ℕ → Bool
 fits Rate periods = true
 fits (Growing a) periods = growthFits a periods
