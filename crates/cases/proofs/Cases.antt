@@ -9,7 +9,7 @@ use Rattle.assignment.specs.Rows.{row}
 use Rattle.day.specs.Day.{flightAt, flightCount, holdCost, latestOf, totalOf, all, flightFits, isNew, valid}
 use Rattle.day.specs.Plan.{mustLand, room, tooLong, overCapacity, breaks, firstOf, firstBreak}
 use Rattle.quick_plan.specs.NextCost.{nextCost}
-use Rattle.quick_plan.specs.Quick.{aheadOf}
+use Rattle.quick_plan.specs.Quick.{before, aheadOf}
 use Rattle.quick_plan.specs.Loop.{pick, bestTo, waiting, top, landAll, rowTo}
 use Rattle.cases.specs.Cases.{dayA, dayB, dayD, dayE, dayF, dayG, dayH, dayI, dayJ, dayK, dayLate, dayLates, dayMost, holdsJ, holdsK, Correct, table}
 use Rattle.cases.proofs.Check.{accepts, gets-yes, cheaperAt, gets-no, least-total, savesAll, smallest-prices, picks, no-plan, landIn, oneOf, quick-holds, two-land}
@@ -43,7 +43,7 @@ plansK =
     ∷ []
 
 pub cases : Correct table
-unfolding dayA dayB dayD dayE dayF dayG dayH dayI dayJ dayK dayLate dayLates dayMost sum count flightAt flightCount holdCost latestOf totalOf all flightFits isNew valid mustLand room tooLong overCapacity breaks firstOf firstBreak nextCost aheadOf row pick bestTo waiting top landAll rowTo accepts cheaperAt savesAll picks landIn oneOf
+unfolding dayA dayB dayD dayE dayF dayG dayH dayI dayJ dayK dayLate dayLates dayMost sum count flightAt flightCount holdCost latestOf totalOf all flightFits isNew valid mustLand room tooLong overCapacity breaks firstOf firstBreak nextCost before aheadOf row pick bestTo waiting top landAll rowTo accepts cheaperAt savesAll picks landIn oneOf
 cases =
     -- A
     (refl, least-total _ _ _ refl refl refl)

@@ -9,7 +9,7 @@ use native.Mathlib.Nat.{mul-le-mul-right, le-of-mul-le-mul-right}
 use lib.Dec.{ltb, eqb}
 use borrow.Author.Tests.{lt-ltb, le-ltb, eq-eqb, ne-eqb}
 use Rattle.assignment.proofs.Tests.{lt?, eq?}
-use Rattle.quick_plan.specs.Quick.{aheadOf}
+use Rattle.quick_plan.specs.Quick.{before, aheadOf}
 
 module _ (m n : ℕ) (some : 0 < m) (more : 0 < n) where
   -- x and y are the m-th part of n times x₀ and y₀
@@ -35,6 +35,6 @@ module _ (m n : ℕ) (some : 0 < m) (more : 0 < n) where
 
   pub ahead-scaled : (flights : List ℕ) (before after : ℕ → ℕ) (k i : ℕ) → after k * m ≡ before k * n → after i * m ≡ before i * n
       → aheadOf flights before k i ≡ aheadOf flights after k i
-  unfolding aheadOf
+  unfolding before aheadOf
   ahead-scaled flights before after k i ek ei =
       rw (ltb-same (before i) (before k) (after i) (after k) ei ek, eqb-same (before i) (before k) (after i) (after k) ei ek)

@@ -11,7 +11,7 @@ use Rattle.assignment.specs.Sum.{gate, sum}
 use Rattle.assignment.proofs.Tests.{gate-on, gate-off, and-T, T-and, test, lt?, eq?, is-true as on, is-false as off, or-T, T-or-l, T-or-r}
 use Rattle.assignment.proofs.Sums.{sum-zero, sum-set, sum-ext, sum-le}
 use Rattle.day.specs.Day.{Day, N, due}
-use Rattle.quick_plan.specs.Quick.{less, aheadOf, ahead, goingBefore, highest}
+use Rattle.quick_plan.specs.Quick.{less, before, aheadOf, ahead, goingBefore, highest}
 use Rattle.quick_plan.specs.Loop.{pick, bestTo}
 
 -- ---- the order
@@ -51,22 +51,22 @@ less-total a b x y h = elim (lt? a b) [
 
 module _ (d : Day) (costs : ℕ → ℕ) where
   pub ahead-trans : (a b c : ℕ) → T (ahead d costs a b) → T (ahead d costs b c) → T (ahead d costs a c)
-  unfolding aheadOf
+  unfolding before aheadOf
   ahead-trans a b c s t = less-trans (costs c) (costs b) (costs a) _ _ _
       (λ u v. less-trans (due d a) (due d b) (due d c) _ _ _ (λ p q. lt→ltb a c (omega (arith, ltb→lt a b p, ltb→lt b c q))) v u) t s
 
   pub ahead-asym : (a b : ℕ) → T (ahead d costs a b) → T (ahead d costs b a) → ⊥
-  unfolding aheadOf
+  unfolding before aheadOf
   ahead-asym a b s t = less-asym (costs b) (costs a) _ _
       (λ u v. less-asym (due d a) (due d b) _ _ (λ p q. omega (arith, ltb→lt a b p, ltb→lt b a q)) u v) s t
 
   pub ahead-total : (a b : ℕ) → a ≢ b → T (ahead d costs a b) ⊎ T (ahead d costs b a)
-  unfolding aheadOf
+  unfolding before aheadOf
   ahead-total a b ne = less-total (costs b) (costs a) _ _ (less-total (due d a) (due d b) _ _
       (elim (lt? a b) [ inl l ↦ inl (lt→ltb a b l) | inr g ↦ inr (lt→ltb b a (omega arith)) ]))
 
   pub ahead-cost : (a b : ℕ) → T (ahead d costs a b) → costs b ≤ costs a
-  unfolding aheadOf
+  unfolding before aheadOf
   ahead-cost a b t = elim (less-cases (costs b) (costs a) _ t) [ inl l ↦ omega arith | inr e ↦ omega (arith, e .0) ]
 
 -- ---- the best of a set

@@ -20,7 +20,7 @@ use Rattle.day.proofs.Tests.{first-same, first-le}
 use Rattle.quick_plan.specs.declared.QuickCheck.{QuickCheck}
 use Rattle.quick_plan.specs.declared.QuickCheck.the-variants.{Applies, Refused}
 use Rattle.quick_plan.specs.NextCost.{nextCost}
-use Rattle.quick_plan.specs.Quick.{aheadOf, rates, quick}
+use Rattle.quick_plan.specs.Quick.{before, aheadOf, rates, quick}
 use Rattle.quick_plan.specs.Calls.{quickCheck, onQuick, quickPlan}
 use Rattle.quick_plan.proofs.Applies.{no-jump}
 use Rattle.quick_plan.proofs.Same.{SameOrder, quick-same}
@@ -46,7 +46,7 @@ module _ (capacities : List ℕ) {flights others : List ℕ} (same : SameBut 6 f
   -- ---- the plan: it reads due periods and rates alone
 
   order-same : SameOrder d e (rates d) (rates e)
-  unfolding nextCost aheadOf
+  unfolding nextCost before aheadOf
   order-same = record {
     count = count-same;
     dues = due-same;

@@ -12,14 +12,14 @@ use lib.Seq.{take-suc-set, take-all}
 use lib.Dec.{T, ltb, eqb}
 use borrow.Author.Tests.{eq-eqb, ne-eqb, le-leb, lt-leb, le-ltb}
 use Rattle.day.specs.declared.Flight.{Flight}
-use Rattle.day.specs.Day.{Day, P, N, mostPeriods, width, column, flightAt, flightCount, due, capacity, valid}
+use Rattle.day.specs.Day.{Day, P, N, mostPeriods, width, flightAt, flightCount, dueOf, due, capacity, valid}
 use Rattle.day.specs.Plan.{jumpOrLimit, firstJumpOrLimit}
 use Rattle.day.proofs.Flights.{there}
 use Rattle.day.proofs.Tests.{first-at, first-none}
 use Rattle.day.proofs.Valid.{valid-means}
 use Rattle.assignment.specs.Rows.{row}
 use Rattle.assignment.proofs.Tests.{eq?}
-use Rattle.quick_plan.specs.Quick.{aheadOf, ahead}
+use Rattle.quick_plan.specs.Quick.{before, aheadOf, ahead}
 use Rattle.quick_plan.specs.Loop.{DueBy, closing, pick, bestTo, waiting, top, put, landAll, rowTo}
 use Rattle.quick_plan.proofs.First.{Found, found}
 use Rattle.quick_plan.proofs.Rows.{top-found, waits-due, land-none, land-one}
@@ -30,19 +30,19 @@ or-false false = refl
 
 -- ---- which flight goes before
 
-module _ (f : List ℕ) (costs : ℕ → ℕ) (k i : ℕ) {ci ck : ℕ} (er : ci ≡ costs i) (ek : ck ≡ costs k) where
-  pub ahead-costs : ci ≢ ck → ltb ci ck ≡ aheadOf f costs k i
-  unfolding aheadOf
-  ahead-costs ne = rw (← er, ← ek, ne-eqb ci ck ne) (or-false (ltb ci ck))
+module _ (f : List ℕ) (ck ci k i : ℕ) where
+  pub before-costs : ci ≢ ck → ltb ci ck ≡ before f ck ci k i
+  unfolding before
+  before-costs ne = rw (ne-eqb ci ck ne) (or-false (ltb ci ck))
 
-  module _ {di dk : ℕ} (ed : di ≡ column 1 f i) (el : dk ≡ column 1 f k) (e : ci ≡ ck) where
-    pub ahead-dues : dk ≢ di → ltb dk di ≡ aheadOf f costs k i
-    unfolding aheadOf
-    ahead-dues ne = rw (← er, ← ek, ← ed, ← el, le-ltb ci ck (omega arith), eq-eqb ci ck e, ne-eqb dk di ne) (or-false (ltb dk di))
+  module _ {di dk : ℕ} (ed : di ≡ dueOf f i) (el : dk ≡ dueOf f k) (e : ci ≡ ck) where
+    pub before-dues : dk ≢ di → ltb dk di ≡ before f ck ci k i
+    unfolding before
+    before-dues ne = rw (← ed, ← el, le-ltb ci ck (omega arith), eq-eqb ci ck e, ne-eqb dk di ne) (or-false (ltb dk di))
 
-    pub ahead-places : dk ≡ di → ltb k i ≡ aheadOf f costs k i
-    unfolding aheadOf
-    ahead-places q = rw (← er, ← ek, ← ed, ← el, le-ltb ci ck (omega arith), eq-eqb ci ck e, le-ltb dk di (omega arith), eq-eqb dk di q)
+    pub before-places : dk ≡ di → ltb k i ≡ before f ck ci k i
+    unfolding before
+    before-places q = rw (← ed, ← el, le-ltb ci ck (omega arith), eq-eqb ci ck e, le-ltb dk di (omega arith), eq-eqb dk di q)
 
 -- ---- who waits
 
@@ -57,25 +57,33 @@ module _ (d : Day) (h : List ℕ) (j i : ℕ) {from : ℕ} (ed : from ≡ due d 
 
 -- ---- the best one
 
--- b is the best of the flights below i that wait
-pub record Scan (d : Day) (costs : ℕ → ℕ) (h : List ℕ) (j n i b : ℕ) : Type 0 where
+-- b is the best of the flights below i that wait, and c its next cost
+pub record Scan (d : Day) (costs : ℕ → ℕ) (h : List ℕ) (j n i b c : ℕ) : Type 0 where
   pub is-valid : valid d ≡ true
   pub so-far : b ≡ bestTo d costs (waiting d h j) n i
+  pub its-cost : b ≢ n → c ≡ costs b
   pub within : i ≤ n
   pub size : n ≡ N d
 
-pub scan-start : {d : Day} (costs : ℕ → ℕ) {h : List ℕ} {j n : ℕ} → valid d ≡ true → n ≡ N d → Scan d costs h j n 0 n
+pub scan-start : {d : Day} (costs : ℕ → ℕ) {h : List ℕ} {j n : ℕ} → valid d ≡ true → n ≡ N d → Scan d costs h j n 0 n 0
 unfolding bestTo
-scan-start costs v e = record { is-valid = v; so-far = refl; within = omega arith; size = e }
+scan-start costs v e = record { is-valid = v; so-far = refl; its-cost = λ o. absurd (o refl); within = omega arith; size = e }
 
 -- a flight that waits is due by the period
 waits-by : (d : Day) (costs : ℕ → ℕ) (h : List ℕ) (j i : ℕ) → valid d ≡ true → i < N d → T (waiting d h j i) → DueBy (d .flights) j i
 waits-by d costs h j i v l t = record { there = there (d .flights) i l; from = valid-means v .flight i l .due-from; by = waits-due d costs h j i t }
 
-module _ {d : Day} {costs : ℕ → ℕ} {h : List ℕ} {j n i b : ℕ} (s : Scan d costs h j n i b) where
-  -- the flight looked at is one of the row
+module _ {d : Day} {costs : ℕ → ℕ} {h : List ℕ} {j n i b c : ℕ} (s : Scan d costs h j n i b c) where
+  -- the flight looked at, and the best so far, are flights of the row
   pub scan-there : i < n → (i + 1) * width ≤ length (d .flights)
   scan-there l = there (d .flights) i (omega (arith, s .size))
+
+  pub best-there : b ≢ n → (b + 1) * width ≤ length (d .flights)
+  best-there ne = go (bestTo d costs (waiting d h j) n i) (s .so-far) (found d costs (waiting d h j) n i (s .within))
+    where
+      go : (x : ℕ) → b ≡ x → Found d costs i (waiting d h j) n x → (b + 1) * width ≤ length (d .flights)
+      go x q (inl w) = absurd (omega (arith, w .0))
+      go x q (inr w) = there (d .flights) b (omega (arith, w .below, s .within, s .size))
 
   pub scan-periods : P d ≤ mostPeriods
   scan-periods = valid-means (s .is-valid) .periods-to
@@ -84,32 +92,53 @@ module _ {d : Day} {costs : ℕ → ℕ} {h : List ℕ} {j n i b : ℕ} (s : Sca
     pub scan-due : r ≡ true → DueBy (d .flights) j i
     scan-due t = waits-by d costs h j i (s .is-valid) (omega (arith, s .size)) (rw (sym er ∙ t) tt)
 
-    pub scan-skip : r ≡ false → Scan d costs h j n (i + 1) b
+    pub scan-skip : r ≡ false → Scan d costs h j n (i + 1) b c
     unfolding bestTo pick
-    scan-skip t = record { is-valid = s .is-valid; so-far = rw (add-one, ← er, t) (s .so-far); within = omega arith; size = s .size }
+    scan-skip t = record {
+      is-valid = s .is-valid;
+      so-far = rw (add-one, ← er, t) (s .so-far);
+      its-cost = s .its-cost;
+      within = omega arith;
+      size = s .size;
+    }
 
-    pub scan-fresh : r ≡ true → b ≡ n → Scan d costs h j n (i + 1) i
-    unfolding bestTo pick
-    scan-fresh t q = record { is-valid = s .is-valid; so-far = rw (add-one, ← er, t, ← s .so-far, eq-eqb b n q); within = omega arith; size = s .size }
-
-    module _ {g : Bool} (eg : g ≡ ahead d costs i b) (t : r ≡ true) (q : b ≢ n) where
-      pub scan-better : g ≡ true → Scan d costs h j n (i + 1) i
+    module _ {x : ℕ} (ex : x ≡ costs i) (t : r ≡ true) where
+      pub scan-fresh : b ≡ n → Scan d costs h j n (i + 1) i x
       unfolding bestTo pick
-      scan-better u = record { is-valid = s .is-valid; so-far = rw (add-one, ← er, t, ← s .so-far, ne-eqb b n q, ← eg, u); within = omega arith; size = s .size }
+      scan-fresh q = record {
+        is-valid = s .is-valid;
+        so-far = rw (add-one, ← er, t, ← s .so-far, eq-eqb b n q);
+        its-cost = λ _. ex;
+        within = omega arith;
+        size = s .size;
+      }
 
-      pub scan-worse : g ≡ false → Scan d costs h j n (i + 1) b
-      unfolding bestTo pick
-      scan-worse u = record { is-valid = s .is-valid; so-far = rw (add-one, ← er, t, ← s .so-far, ne-eqb b n q, ← eg, u); within = omega arith; size = s .size }
+      module _ {g : Bool} (q : b ≢ n) (eg : g ≡ before (d .flights) x c i b) where
+        goes : g ≡ ahead d costs i b
+        unfolding aheadOf
+        goes = rw (← ex, ← s .its-cost q) eg
 
-  -- the best so far waits too
-  pub best-due : b ≢ n → DueBy (d .flights) j b
-  best-due ne = go (bestTo d costs (waiting d h j) n i) (s .so-far) (found d costs (waiting d h j) n i (s .within))
-    where
-      go : (x : ℕ) → b ≡ x → Found d costs i (waiting d h j) n x → DueBy (d .flights) j b
-      go x q (inl w) = absurd (omega (arith, w .0))
-      go x q (inr w) = rw q (waits-by d costs h j x (s .is-valid) (omega (arith, w .below, s .within, s .size)) (w .is-in))
+        pub scan-better : g ≡ true → Scan d costs h j n (i + 1) i x
+        unfolding bestTo pick
+        scan-better u = record {
+          is-valid = s .is-valid;
+          so-far = rw (add-one, ← er, t, ← s .so-far, ne-eqb b n q, ← goes, u);
+          its-cost = λ _. ex;
+          within = omega arith;
+          size = s .size;
+        }
 
-pub scan-end : {d : Day} {costs : ℕ → ℕ} {h : List ℕ} {j n i b : ℕ} → Scan d costs h j n i b → n ≤ i → b ≡ top d costs j h
+        pub scan-worse : g ≡ false → Scan d costs h j n (i + 1) b c
+        unfolding bestTo pick
+        scan-worse u = record {
+          is-valid = s .is-valid;
+          so-far = rw (add-one, ← er, t, ← s .so-far, ne-eqb b n q, ← goes, u);
+          its-cost = s .its-cost;
+          within = omega arith;
+          size = s .size;
+        }
+
+pub scan-end : {d : Day} {costs : ℕ → ℕ} {h : List ℕ} {j n i b c : ℕ} → Scan d costs h j n i b c → n ≤ i → b ≡ top d costs j h
 unfolding top
 scan-end {d = d} {i = i} s g = let a : i ≡ N d = omega (arith, s .within, s .size) in s .so-far ∙ rw (a, s .size)
 

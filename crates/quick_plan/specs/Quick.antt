@@ -16,10 +16,14 @@ use Rattle.quick_plan.specs.NextCost.{nextCost}
 abbrev pub less : ℕ → ℕ → Bool → Bool
 less a b next = ltb a b || eqb a b && next
 
--- flight k goes before flight i, where the period has these next costs: its own is higher; "Ties: earlier due, then lower table place."
--- Of flights that wait, the one that is due earlier is the one "held longest" (#105).
+-- with these next costs, flight k goes before flight i: its own is higher; "Ties: earlier due, then lower table place." Of flights that
+-- wait, the one that is due earlier is the one "held longest" (#105).
+unfoldable pub before : (flights : List ℕ) (costK costI k i : ℕ) → Bool
+before flights costK costI k i = less costI costK (less (dueOf flights k) (dueOf flights i) (ltb k i))
+
+-- the same where `costs` has the next cost of every flight in the period
 unfoldable pub aheadOf : (flights : List ℕ) (costs : ℕ → ℕ) → ℕ → ℕ → Bool
-aheadOf flights costs k i = less (costs i) (costs k) (less (dueOf flights k) (dueOf flights i) (ltb k i))
+aheadOf flights costs k i = before flights (costs k) (costs i) k i
 
 abbrev pub ahead : Day → (ℕ → ℕ) → ℕ → ℕ → Bool
 ahead d = aheadOf (d .flights)

@@ -20,7 +20,7 @@ ghost use Rattle.assignment.specs.Rows.{row};
 ghost use Rattle.day.specs.Day.{lent, N, mostPeriods, width, capacity, valid};
 ghost use Rattle.day.specs.Plan.{jumpOrLimit, firstJumpOrLimit};
 ghost use Rattle.quick_plan.specs.NextCost.{nextCost, fits};
-ghost use Rattle.quick_plan.specs.Quick.{aheadOf};
+ghost use Rattle.quick_plan.specs.Quick.{before};
 ghost use Rattle.quick_plan.specs.Loop.{DueBy, closing, waiting, top, landAll, rowTo};
 ghost use Rattle.quick_plan.specs.Calls.{quickCheck, quickPlan};
 
@@ -48,15 +48,13 @@ fn next_cost(next: NextCost, flights: &[u32], j: usize, i: usize) -> usize
     }
 }
 
-// Flight k goes before flight i in period j.
-fn goes_before(next: NextCost, flights: &[u32], j: usize, k: usize, i: usize) -> bool
-    requires { ⌜ (fits next j ≡ true) × DueBy (now flights) j k × DueBy (now flights) j i ⌝ }
-    ensures { λ r. ⌜ r ≡ aheadOf (now (flights .entry)) (nextCost next (now (flights .entry)) j) k i ⌝ }
+// Flight k goes before flight i, whose next costs are `cost` and `other`.
+fn goes_before(flights: &[u32], cost: usize, other: usize, k: usize, i: usize) -> bool
+    requires { ⌜ ((k + 1) * width ≤ length (now flights)) × ((i + 1) * width ≤ length (now flights)) ⌝ }
+    ensures { λ r. ⌜ r ≡ before (now (flights .entry)) cost other k i ⌝ }
 {
-    let cost_k = next_cost(next, flights, j, k);
-    let cost_i = next_cost(next, flights, j, i);
-    if cost_i != cost_k {
-        return cost_i < cost_k;
+    if other != cost {
+        return other < cost;
     }
     let due_k = due_of(flights, k);
     let due_i = due_of(flights, i);
@@ -78,7 +76,8 @@ pub fn is_waiting(capacities: &[u32], flights: &[u32], holds: &[u32], j: usize, 
     due + wide(holds[i]) == capacities.len() + 1
 }
 
-// The flight that goes first of those that wait in period j, or the number of flights where none waits.
+// The flight that goes first of those that wait in period j, or the number of flights where none waits. The next cost of the best one so
+// far is kept, so that each is worked out once.
 fn first_waiting(
     next: NextCost,
     capacities: &[u32],
@@ -91,16 +90,20 @@ fn first_waiting(
 {
     let n = holds.len();
     let mut best = n;
+    let mut highest = 0;
     let mut i = 0;
     while i < n {
         let k = i;
         i += 1;
         if is_waiting(capacities, flights, holds, j, k) {
+            let cost = next_cost(next, flights, j, k);
             if best == n {
                 best = k;
+                highest = cost;
             } else {
-                if goes_before(next, flights, j, k, best) {
+                if goes_before(flights, cost, highest, k, best) {
                     best = k;
+                    highest = cost;
                 }
             }
         }
