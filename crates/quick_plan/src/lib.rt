@@ -97,14 +97,9 @@ fn first_waiting(
         i += 1;
         if is_waiting(capacities, flights, holds, j, k) {
             let cost = next_cost(next, flights, j, k);
-            if best == n {
+            if best == n || goes_before(flights, cost, highest, k, best) {
                 best = k;
                 highest = cost;
-            } else {
-                if goes_before(flights, cost, highest, k, best) {
-                    best = k;
-                    highest = cost;
-                }
             }
         }
     }

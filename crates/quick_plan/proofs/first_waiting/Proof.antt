@@ -1,6 +1,7 @@
 -- The loop keeps the first of the flights looked at that wait, and its next cost; a flight that waits takes its place where it goes before it.
 -- Assumes nothing.
 use borrow.Author.Needs.{needs}
+use mathlib.Core.Logic.{inl, inr}
 use Prim.Native.Nat.{_-_}
 use Rattle.day.specs.Day.{day}
 use Rattle.quick_plan.specs.NextCost.{nextCost}
@@ -31,6 +32,12 @@ next-cost-requires c κs =
     let at-start = at-loop .before .before .before .before in
     (at-start .pre .2, scan-due (at-loop .loop .inv) (at-loop-test .loop-test .taken) (at-is-waiting .is-waiting .ensures) (c .if1 .taken))
 
+goes-before-requires : tie.Need-goes-before-requires Inv-loop μ-loop
+goes-before-requires c κs =
+    let at-loop-test = c .before .before .before .before in
+    let at-loop = at-loop-test .before in
+    (scan-there (at-loop .loop .inv) (at-loop-test .loop-test .taken), best-there (at-loop .loop .inv) (c .if2 .left))
+
 loop-less : tie.Need-loop-less Inv-loop μ-loop
 loop-less c = search needs
 
@@ -41,13 +48,10 @@ loop-again c =
     let at-is-waiting = at-if1 .before in
     let at-loop-test = at-is-waiting .before in
     let at-loop = at-loop-test .before in
-    scan-fresh (at-loop .loop .inv) (at-loop-test .loop-test .taken) (at-is-waiting .is-waiting .ensures) (at-next-cost .next-cost .ensures) (at-if1 .if1 .taken) (c .if2 .taken)
-
-goes-before-requires : tie.Need-goes-before-requires Inv-loop μ-loop
-goes-before-requires c κs =
-    let at-loop-test = c .before .before .before .before in
-    let at-loop = at-loop-test .before in
-    (scan-there (at-loop .loop .inv) (at-loop-test .loop-test .taken), best-there (at-loop .loop .inv) (c .if2 .left))
+    elim (c .if2 .came) [
+      | inl none ↦ scan-fresh (at-loop .loop .inv) (at-loop-test .loop-test .taken) (at-is-waiting .is-waiting .ensures) (at-next-cost .next-cost .ensures) (at-if1 .if1 .taken) (none .taken)
+      | inr goes ↦ scan-better (at-loop .loop .inv) (at-loop-test .loop-test .taken) (at-is-waiting .is-waiting .ensures) (at-next-cost .next-cost .ensures) (at-if1 .if1 .taken) (goes .0 .left) (goes .1 .ensures) (goes .2 .taken)
+    ]
 
 loop-less-2 : tie.Need-loop-less-2 Inv-loop μ-loop
 loop-less-2 c = search needs
@@ -61,27 +65,13 @@ loop-again-2 c =
     let at-is-waiting = at-if1 .before in
     let at-loop-test = at-is-waiting .before in
     let at-loop = at-loop-test .before in
-    scan-better (at-loop .loop .inv) (at-loop-test .loop-test .taken) (at-is-waiting .is-waiting .ensures) (at-next-cost .next-cost .ensures) (at-if1 .if1 .taken) (at-if2 .if2 .left) (at-goes .goes-before .ensures) (c .if3 .taken)
+    scan-worse (at-loop .loop .inv) (at-loop-test .loop-test .taken) (at-is-waiting .is-waiting .ensures) (at-next-cost .next-cost .ensures) (at-if1 .if1 .taken) (at-if2 .if2 .left) (at-goes .goes-before .ensures) (c .if3 .left)
 
 loop-less-3 : tie.Need-loop-less-3 Inv-loop μ-loop
 loop-less-3 c = search needs
 
 loop-again-3 : tie.Need-loop-again-3 Inv-loop μ-loop
-loop-again-3 c =
-    let at-goes = c .before in
-    let at-if2 = at-goes .before in
-    let at-next-cost = at-if2 .before in
-    let at-if1 = at-next-cost .before in
-    let at-is-waiting = at-if1 .before in
-    let at-loop-test = at-is-waiting .before in
-    let at-loop = at-loop-test .before in
-    scan-worse (at-loop .loop .inv) (at-loop-test .loop-test .taken) (at-is-waiting .is-waiting .ensures) (at-next-cost .next-cost .ensures) (at-if1 .if1 .taken) (at-if2 .if2 .left) (at-goes .goes-before .ensures) (c .if3 .left)
-
-loop-less-4 : tie.Need-loop-less-4 Inv-loop μ-loop
-loop-less-4 c = search needs
-
-loop-again-4 : tie.Need-loop-again-4 Inv-loop μ-loop
-loop-again-4 c = scan-skip (c .before .before .before .loop .inv) (c .before .before .loop-test .taken) (c .before .is-waiting .ensures) (c .if1 .left)
+loop-again-3 c = scan-skip (c .before .before .before .loop .inv) (c .before .before .loop-test .taken) (c .before .is-waiting .ensures) (c .if1 .left)
 
 returns : tie.Need-returns Inv-loop μ-loop
 returns c = scan-end (c .before .loop .inv) (c .loop-test .left)
@@ -96,13 +86,11 @@ first-waiting-spec =
     add-i
     is-waiting-requires
     next-cost-requires
+    goes-before-requires
     loop-less
     loop-again
-    goes-before-requires
     loop-less-2
     loop-again-2
     loop-less-3
     loop-again-3
-    loop-less-4
-    loop-again-4
     returns)
