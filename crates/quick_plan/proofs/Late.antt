@@ -1,28 +1,27 @@
 -- The quick plan has no jumps, so that the delay that flights bring along changes nothing in it (#102).
 -- Assumes nothing.
 use mathlib.Core.Path.{_≡_, refl, sym, ap, _∙_}
-use mathlib.Core.Bool.{Bool, true, false, cond, not}
+use mathlib.Core.Bool.{true}
 use mathlib.Core.List.{List}
-use Prim.Native.Nat.{ℕ, _*_, _/_, _<_, _≤_}
+use Prim.Native.Nat.{ℕ, _*_, _/_, _<_}
 use native.Mathlib.Omega.{arith}
-use lib.ListN.{length}
-use lib.Dec.{lit<, ltb, eqb}
-use borrow.Author.Tests.{ltb-false}
+use lib.Dec.{lit<}
 use Rattle.assignment.specs.Sum.{sum}
 use Rattle.assignment.proofs.Sums.{sum-ext}
 use Rattle.answers.specs.Answers.{outcome}
-use Rattle.answers.specs.declared.Answer.the-variants.{Planned, BadLength, JumpOrLimit}
+use Rattle.answers.specs.declared.Answer.the-variants.{Planned}
 use Rattle.day.specs.Day.{Day, day, N, width, due, rate, cost, hold, flightAt, flightCount, totalOf, total, valid}
 use Rattle.day.specs.Flights.{SameBut}
 use Rattle.day.specs.Plan.{firstOf, jumpOrLimit, firstJumpOrLimit}
 use Rattle.day.proofs.Costs.{cost-plain}
-use Rattle.day.proofs.Tests.{first-same, first-le}
+use Rattle.day.proofs.Tests.{first-same}
 use Rattle.quick_plan.specs.declared.QuickCheck.{QuickCheck}
 use Rattle.quick_plan.specs.declared.QuickCheck.the-variants.{Applies, Refused}
 use Rattle.quick_plan.specs.NextCost.{nextCost}
 use Rattle.quick_plan.specs.Quick.{before, aheadOf, rates, quick}
 use Rattle.quick_plan.specs.Calls.{quickCheck, onQuick, quickPlan}
 use Rattle.quick_plan.proofs.Applies.{no-jump}
+use Rattle.quick_plan.proofs.Calls.{CanPlan, can-plan}
 use Rattle.quick_plan.proofs.Same.{SameOrder, quick-same}
 
 -- two rows of flights that differ in column 6, late, alone
@@ -61,10 +60,6 @@ module _ (capacities : List ℕ) {flights others : List ℕ} (same : SameBut 6 f
       first-same (N d) (λ i. jumpOrLimit (flightAt flights i)) (λ i. jumpOrLimit (flightAt others i)) (λ i l. rw (same .columns 4 i (lit< tt) (λ z. omega arith) l, same .columns 5 i (lit< tt) (λ z. omega arith) l))
       ∙ ap (λ n. firstOf n (λ i. jumpOrLimit (flightAt others i))) count-same
 
-  few : firstJumpOrLimit others ≤ N e
-  unfolding firstJumpOrLimit
-  few = first-le (N e) (λ i. jumpOrLimit (flightAt others i))
-
   total-same : firstJumpOrLimit flights ≡ N d → (holds : List ℕ) → total d holds ≡ total e holds
   unfolding totalOf
   total-same applies holds =
@@ -75,24 +70,19 @@ module _ (capacities : List ℕ) {flights others : List ℕ} (same : SameBut 6 f
       ∙ sym (cost-plain e i (hold holds i) (no-jump e applies-too i (omega (arith, count-same)))))
       ∙ ap (λ n. sum n (λ i. cost e i (hold holds i))) count-same
 
+  check-same : valid d ≡ true → valid e ≡ true → (holds : List ℕ) → quickCheck d holds ≡ quickCheck e holds
+  unfolding quickCheck
+  check-same v w holds = rw (v, w, first-is-same, count-same)
+
   -- For days that differ in their lates alone the call answers the same and leaves the same row: the plan reads due periods and rates, and
   -- where no flight has a jump a hold costs its periods.
   pub late-changes-nothing : valid d ≡ true → valid e ≡ true → (holds : List ℕ) → quickPlan d holds ≡ quickPlan e holds
-  unfolding quickPlan quickCheck
-  late-changes-nothing v w holds = rw (v, w, first-is-same, count-same) (row-length (eqb (length holds) (N e)))
+  unfolding quickPlan
+  late-changes-nothing v w holds = rw (check-same v w holds) (by (quickCheck e holds) (can-plan e holds))
     where
-      after : Bool → Bool → QuickCheck
-      after x b = cond (not x) (Refused (BadLength (N e))) (cond b (Refused (JumpOrLimit (firstJumpOrLimit others))) Applies)
-
-      planned : (b : Bool) → ltb (firstJumpOrLimit others) (N e) ≡ b
-          → onQuick (after true b) holds (outcome (Planned (total d (quick d))) (quick d)) ≡ onQuick (after true b) holds (outcome (Planned (total e (quick e))) (quick e))
-      planned true q = refl
-      planned false q =
-          let applies : firstJumpOrLimit flights ≡ N d = omega (arith, first-is-same, count-same, ltb-false (firstJumpOrLimit others) (N e) q, few) in
+      by : (c : QuickCheck) → (c ≡ Applies → CanPlan e holds)
+          → onQuick c holds (outcome (Planned (total d (quick d))) (quick d)) ≡ onQuick c holds (outcome (Planned (total e (quick e))) (quick e))
+      by (Refused answer) can = refl
+      by Applies can =
+          let applies : firstJumpOrLimit flights ≡ N d = first-is-same ∙ can refl .plain ∙ sym count-same in
           rw (total-same applies (quick d), quick-same capacities flights others (rates d) (rates e) order-same)
-
-      row-length : (x : Bool)
-          → onQuick (after x (ltb (firstJumpOrLimit others) (N e))) holds (outcome (Planned (total d (quick d))) (quick d))
-          ≡ onQuick (after x (ltb (firstJumpOrLimit others) (N e))) holds (outcome (Planned (total e (quick e))) (quick e))
-      row-length false = refl
-      row-length true = planned (ltb (firstJumpOrLimit others) (N e)) refl
