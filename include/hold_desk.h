@@ -20,6 +20,10 @@
  * its jump. The total is the sum over all flights; it is never above 250,880,000. A hold row is legal if no flight lands after
  * P+1, no hold is over its limit, and no period from 1 to P has more landings than its capacity.
  *
+ * GROWING COST. With a growth of a tenths, which hold_desk_growth_plan alone takes, each further period of hold costs (10 + a) / 10
+ * times what the one before cost: the t-th, t from 0, costs rate * (10 + a)^t * 10^(6-t) millionths, and a hold of h costs the sum
+ * for t from 0 to h - 1. The total is the sum over all flights, in millionths.
+ *
  * PRICES. A price row has one entry for each period from 1 to P; the closing period's price is 0. The price that the full plan
  * gives a period is what one more landing in that period would save: by so much the least total would fall if that capacity
  * alone were greater by one. A price of 0 says that one more landing there would save nothing. Several more landings together
@@ -50,7 +54,7 @@
  *       flight number                                                    0, 0
  *    7  lent row not of the exact length, or text without enough bytes
  *       from the given place                                             length needed (the place not added), 0
- *    8  quick plan or card: a jump above 0 or a limit                    table place of the first such flight, 0
+ *    8  quick plan, growing plan or card: a jump above 0 or a limit      table place of the first such flight, 0
  *    9  no legal plan                                                    first and last period of the short stretch
  *   10  hold row not legal                                               table place of the first flight that breaks it, 0
  *   11  card: period 0 or above P                                        P, 0
@@ -58,8 +62,9 @@
  *       capacity above 255                                               0, 0
  *   13  forecasts: a jump above 0, or an air factor or a count of
  *       forecasts out of range                                           0, 0
+ *   14  growing plan: a growth above 40, or more than 6 periods          0, 0
  *
- * Where several apply, the first of 6, 7 (hold row before price or board row), 8, 10, 11, 9 is given; a text's length comes
+ * Where several apply, the first of 6, 7 (hold row before price or board row), 8, 14, 10, 11, 9 is given; a text's length comes
  * last. hold_desk_read_sheet tests 7 (capacity row first), 1, then the lines from the top, in each line 5, 2, 3, 4.
  * hold_desk_forecast_plan tests 6, 13, 7 (hold, weight, forecast row), 12.
  */
@@ -86,6 +91,9 @@ extern "C" {
 #define HOLD_DESK_MOST_AIR_FACTOR 10      /* a period in the air costs 1 to 10 times the rate */
 #define HOLD_DESK_ALL_WEIGHTS 1000        /* what the weights of the forecasts add up to */
 #define HOLD_DESK_MOST_EXPECTED 1228800000000   /* no expected total is greater, in thousandths */
+#define HOLD_DESK_MOST_GROWTH 40          /* tenths of a growth; there may be none */
+#define HOLD_DESK_MOST_GROWTH_PERIODS 6   /* periods of a day that is planned with a growth */
+#define HOLD_DESK_MOST_GROWTH_TOTAL 4999680000000000   /* no total with a growth is greater, in millionths */
 
 /* A flight's seven numbers: the due period of the flight at table place i is flights[i * HOLD_DESK_FLIGHT_WIDTH + HOLD_DESK_DUE]. */
 enum hold_desk_field {
@@ -113,7 +121,8 @@ enum hold_desk_refusal {
     HOLD_DESK_NOT_LEGAL = 10,
     HOLD_DESK_BAD_PERIOD = 11,
     HOLD_DESK_BAD_FORECASTS = 12,
-    HOLD_DESK_BAD_TERMS = 13
+    HOLD_DESK_BAD_TERMS = 13,
+    HOLD_DESK_BAD_GROWTH = 14
 };
 
 typedef struct { uint64_t number, first, second; } hold_desk_answer;
@@ -136,6 +145,16 @@ hold_desk_answer hold_desk_write_sheet(const uint32_t *capacities, size_t capaci
 hold_desk_answer hold_desk_quick_plan(const uint32_t *capacities, size_t capacities_len,
                                       const uint32_t *flights, size_t flights_len,
                                       uint32_t *holds, size_t holds_len);
+
+/* The quick plan of a day of at most 6 periods without jumps and limits, with a growth of so many tenths, 0 to 40. In each period
+ * the waiting flights whose next period of hold would cost most land, as many as the capacity takes; of equal costs the flight that
+ * was held longest goes first, then the lower table place; those left over land in P+1. So the plan is legal, and no legal plan
+ * costs less in millionths. Lates and afters play no part. With growth 0 the holds are hold_desk_quick_plan's, and the total is
+ * 1,000,000 times its total. Fills a hold row of N. Accepted: 0 with the total in millionths. Refusals 6, 7, 8, 14. */
+hold_desk_answer hold_desk_growth_plan(const uint32_t *capacities, size_t capacities_len,
+                                       const uint32_t *flights, size_t flights_len,
+                                       uint32_t growth,
+                                       uint32_t *holds, size_t holds_len);
 
 /* The flights eligible in one period of the quick plan: the flight at table place i is bit i % 64 of low (i < 64) or high,
  * and size is how many there are. Accepted: 0 with 0, 0. Refusals 6, 8, 11, with 0 for low, high and size. */

@@ -133,6 +133,15 @@ static void writing(void)
     expect_text("plan_text's text", text, sizeof text, PLAN);
 }
 
+/* As many flights as a day can have, which differ in number alone. */
+static void all_like(uint32_t *flights, const uint32_t *first)
+{
+    for (uint32_t i = 0; i < HOLD_DESK_MOST_FLIGHTS; i++) {
+        memcpy(flights + i * HOLD_DESK_FLIGHT_WIDTH, first, HOLD_DESK_FLIGHT_WIDTH * sizeof *flights);
+        flights[i * HOLD_DESK_FLIGHT_WIDTH + HOLD_DESK_FLIGHT_NUMBER] += i;
+    }
+}
+
 static void quick(void)
 {
     uint32_t holds[N], plain[ENTRIES];
@@ -152,6 +161,57 @@ static void quick(void)
     expect_card("period_card of period P+1", hold_desk_period_card(CAPACITIES, P, plain, ENTRIES, P + 1), HOLD_DESK_BAD_PERIOD, P, 0, 0, 0);
     expect_card("period_card of period 1", hold_desk_period_card(CAPACITIES, P, plain, ENTRIES, 1), HOLD_DESK_ACCEPTED, 0, 3, 0, 2);
     expect_card("period_card of period 2", hold_desk_period_card(CAPACITIES, P, plain, ENTRIES, 2), HOLD_DESK_ACCEPTED, 0, 6, 0, 2);
+}
+
+/* Period 1 is closed, and period 2 takes one flight: the first, which is due there, or one of the others, which are due in period
+ * 1. Another period of hold costs the first 12 then, and with a growth of a tenths each of the others 10 + a: less than 12 with 0
+ * and 1, as much with 2, when the flight held longest goes first, and more with 5. Of the others the upper one goes first. */
+static const uint32_t ONE_IN_2[] = { 0, 1 };
+static const uint32_t WAITING[] = {
+    1, 2, 12, 0, 0, HOLD_DESK_NO_LIMIT, 255, 2, 1, 10, 96, 0, HOLD_DESK_NO_LIMIT, 0, 3, 1, 10, 0, 0, HOLD_DESK_NO_LIMIT, 3
+};
+
+static void growth(void)
+{
+    const uint32_t growths[] = { 0, 1, 2, 5 }, due_lands[] = { 0, 2, 2 }, held_lands[] = { 1, 1, 2 };
+    const uint64_t totals[] = { 40000000, 42000000, 44000000, 47000000 };
+    uint32_t holds[N + 1];
+    for (size_t k = 0; k < 4; k++) {
+        mark(holds, N + 1);
+        expect_answer("growth_plan", hold_desk_growth_plan(ONE_IN_2, 2, WAITING, ENTRIES, growths[k], holds, N), HOLD_DESK_ACCEPTED, totals[k], 0);
+        expect_row("growth_plan's holds", holds, growths[k] < 2 ? due_lands : held_lands, N);
+        expect_marked("growth_plan changes the entry after the row", holds, N, N + 1);
+    }
+    expect_answer("quick_plan of the same day", hold_desk_quick_plan(ONE_IN_2, 2, WAITING, ENTRIES, holds, N), HOLD_DESK_ACCEPTED, 40, 0);
+    expect_row("quick_plan's holds of the same day", holds, due_lands, N);
+    expect_answer("growth_plan of no flights", hold_desk_growth_plan(ONE_IN_2, 2, NULL, 0, HOLD_DESK_MOST_GROWTH, NULL, 0), HOLD_DESK_ACCEPTED, 0, 0);
+}
+
+/* Each refusal, with all that come after it. */
+static void growth_refused(void)
+{
+    const uint32_t more_periods[HOLD_DESK_MOST_GROWTH_PERIODS + 1] = { 1, 1 };
+    const size_t p = HOLD_DESK_MOST_GROWTH_PERIODS + 1;
+    uint32_t holds[N + 1];
+    mark(holds, N + 1);
+    expect_answer("growth_plan of a bad day", hold_desk_growth_plan(more_periods, p, FLIGHTS, ENTRIES - 1, 41, holds, N), HOLD_DESK_BAD_DAY, 0, 0);
+    expect_answer("growth_plan of a shorter row", hold_desk_growth_plan(more_periods, p, FLIGHTS, ENTRIES, 41, holds, N - 1), HOLD_DESK_BAD_LENGTH, N, 0);
+    expect_answer("growth_plan of a longer row", hold_desk_growth_plan(more_periods, p, FLIGHTS, ENTRIES, 41, holds, N + 1), HOLD_DESK_BAD_LENGTH, N, 0);
+    expect_answer("growth_plan of a limit", hold_desk_growth_plan(more_periods, p, FLIGHTS, ENTRIES, 41, holds, N), HOLD_DESK_JUMP_OR_LIMIT, 2, 0);
+    expect_answer("growth_plan of growth 41", hold_desk_growth_plan(ONE_IN_2, 2, WAITING, ENTRIES, HOLD_DESK_MOST_GROWTH + 1, holds, N), HOLD_DESK_BAD_GROWTH, 0, 0);
+    expect_answer("growth_plan of the largest growth", hold_desk_growth_plan(ONE_IN_2, 2, WAITING, ENTRIES, UINT32_MAX, holds, N), HOLD_DESK_BAD_GROWTH, 0, 0);
+    expect_answer("growth_plan of 7 periods", hold_desk_growth_plan(more_periods, p, WAITING, ENTRIES, 0, holds, N), HOLD_DESK_BAD_GROWTH, 0, 0);
+    expect_marked("growth_plan's refusals change the hold row", holds, 0, N + 1);
+}
+
+/* The largest total with a growth: all are due in period 1, and nobody lands before the closing period. */
+static void dearest_growth(void)
+{
+    static uint32_t c[HOLD_DESK_MOST_GROWTH_PERIODS], f[HOLD_DESK_FLIGHT_ROW], holds[HOLD_DESK_MOST_FLIGHTS];
+    const uint32_t first[] = { 1, 1, 10000, 0, 0, HOLD_DESK_NO_LIMIT, 0 };
+    all_like(f, first);
+    expect_answer("growth_plan of the largest total", hold_desk_growth_plan(c, HOLD_DESK_MOST_GROWTH_PERIODS, f, HOLD_DESK_FLIGHT_ROW, HOLD_DESK_MOST_GROWTH, holds, HOLD_DESK_MOST_FLIGHTS), HOLD_DESK_ACCEPTED, HOLD_DESK_MOST_GROWTH_TOTAL, 0);
+    for (size_t i = 0; i < HOLD_DESK_MOST_FLIGHTS; i++) expect("growth_plan's longest holds", holds[i] == HOLD_DESK_MOST_GROWTH_PERIODS);
 }
 
 static void full(void)
@@ -294,12 +354,8 @@ static void dearest_forecasts(void)
 {
     static uint32_t c[HOLD_DESK_MOST_PERIODS], f[HOLD_DESK_FLIGHT_ROW], holds[HOLD_DESK_MOST_FLIGHTS];
     static uint32_t weights[HOLD_DESK_MOST_FORECASTS], closed[HOLD_DESK_MOST_FORECASTS * HOLD_DESK_MOST_PERIODS];
-    for (uint32_t i = 0; i < HOLD_DESK_MOST_FLIGHTS; i++) {
-        uint32_t *flight = f + i * HOLD_DESK_FLIGHT_WIDTH;
-        flight[HOLD_DESK_FLIGHT_NUMBER] = 1 + i;
-        flight[HOLD_DESK_DUE] = 1;
-        flight[HOLD_DESK_RATE] = 10000;
-    }
+    const uint32_t first[] = { 1, 1, 10000, 0, 0, 0, 0 };
+    all_like(f, first);
     for (size_t s = 0; s < HOLD_DESK_MOST_FORECASTS; s++) weights[s] = HOLD_DESK_ALL_WEIGHTS / HOLD_DESK_MOST_FORECASTS;
     expect_answer("forecast_plan of the largest total", hold_desk_forecast_plan(c, HOLD_DESK_MOST_PERIODS, f, HOLD_DESK_FLIGHT_ROW, HOLD_DESK_MOST_FORECASTS, HOLD_DESK_MOST_AIR_FACTOR, weights, HOLD_DESK_MOST_FORECASTS, closed, HOLD_DESK_MOST_FORECASTS * HOLD_DESK_MOST_PERIODS, holds, HOLD_DESK_MOST_FLIGHTS), HOLD_DESK_ACCEPTED, HOLD_DESK_MOST_EXPECTED, 0);
 }
@@ -309,17 +365,9 @@ static void largest(void)
 {
     static uint32_t c[HOLD_DESK_MOST_PERIODS], f[HOLD_DESK_FLIGHT_ROW], holds[HOLD_DESK_MOST_FLIGHTS], prices[HOLD_DESK_MOST_PERIODS];
     static uint8_t text[HOLD_DESK_MOST_PLAN_BYTES], sheet[4813];
+    const uint32_t first[] = { 1000, 1, 10000, 0, 1000000, HOLD_DESK_NO_LIMIT, 255 };
     hold_desk_card card;
-    for (uint32_t i = 0; i < HOLD_DESK_MOST_FLIGHTS; i++) {
-        uint32_t *flight = f + i * HOLD_DESK_FLIGHT_WIDTH;
-        flight[HOLD_DESK_FLIGHT_NUMBER] = 1000 + i;
-        flight[HOLD_DESK_DUE] = 1;
-        flight[HOLD_DESK_RATE] = 10000;
-        flight[HOLD_DESK_AFTER] = 0;
-        flight[HOLD_DESK_JUMP] = 1000000;
-        flight[HOLD_DESK_LIMIT] = HOLD_DESK_NO_LIMIT;
-        flight[HOLD_DESK_LATE] = 255;
-    }
+    all_like(f, first);
     expect_answer("full_plan of the largest total", hold_desk_full_plan(c, HOLD_DESK_MOST_PERIODS, f, HOLD_DESK_FLIGHT_ROW, holds, HOLD_DESK_MOST_FLIGHTS, prices, HOLD_DESK_MOST_PERIODS), HOLD_DESK_ACCEPTED, HOLD_DESK_MOST_TOTAL, 0);
     for (uint32_t i = 0; i < HOLD_DESK_MOST_FLIGHTS; i++) f[i * HOLD_DESK_FLIGHT_WIDTH + HOLD_DESK_DUE] = 10, holds[i] = 87;
     expect_answer("plan_text of the longest text", hold_desk_plan_text(c, HOLD_DESK_MOST_PERIODS, f, HOLD_DESK_FLIGHT_ROW, holds, HOLD_DESK_MOST_FLIGHTS, text, sizeof text, 0), HOLD_DESK_ACCEPTED, HOLD_DESK_MOST_PLAN_BYTES, 0);
@@ -340,6 +388,9 @@ int main(void)
     reading();
     writing();
     quick();
+    growth();
+    growth_refused();
+    dearest_growth();
     full();
     savings();
     delays();

@@ -10,7 +10,7 @@ _Thread_local bool plain;
 
 static const char *const fault_names[] = { "", FAULT_NAMES };
 static const char *const rule_names[] = { "", RULE_NAMES };
-static const char *const call_names[] = { "read_", "write_", "quick_", "card_", "full_", "check_", "choice_", "board_", "text_", "forecast_" };
+static const char *const call_names[] = { "read_", "write_", "quick_", "growth_", "card_", "full_", "check_", "choice_", "board_", "text_", "forecast_" };
 
 /* Before main: a name that is not listed stops the program. */
 __attribute__((constructor)) static void choose_fault(void)

@@ -16,7 +16,7 @@
 #include <stdlib.h>
 #include <string.h>
 
-enum call { READ, WRITE, QUICK, CARD, FULL, CHECK, CHOICE, BOARD, TEXT, FORECAST };
+enum call { READ, WRITE, QUICK, GROWTH, CARD, FULL, CHECK, CHOICE, BOARD, TEXT, FORECAST };
 enum { P_MOST = 96, N_MOST = 128, WIDTH = 7, ROW_MOST = N_MOST * WIDTH };
 enum { NUMBER, DUE, RATE, AFTER, JUMP, LIMIT, LATE };
 
@@ -84,6 +84,19 @@ enum walk_way {
 };
 size_t walk(struct day d, const uint32_t *holds, int way);
 
+/* The growing plan is the quick plan with a growth; no growth is NULL. What the two share (plans.c), and what a growth changes
+ * (growth.c). */
+void plan_quickly(struct day d, const uint32_t *growth, uint32_t *holds, bool sets[P_MOST][N_MOST]);
+hold_desk_answer not_quick(struct day d, bool bad, uint32_t *holds, size_t holds_len);
+uint64_t add_up(struct day d, const uint32_t *plan, const uint64_t *costs);
+void store(struct day d, uint32_t *plan, uint32_t *holds, size_t holds_len);
+typedef hold_desk_answer planner(struct day d, bool bad, const uint32_t *growth, uint32_t *holds, size_t holds_len);
+hold_desk_answer planned_with_fault(DAY_ROWS, const uint32_t *growth, uint32_t *holds, size_t holds_len, planner *ours);
+uint64_t next_cost(struct day d, uint32_t growth, uint32_t period, size_t i, uint32_t rate);
+bool tie_turned(uint32_t growth, uint32_t period, const uint32_t *x, const uint32_t *y);   /* whether the later due goes first */
+uint32_t growing_room(struct day d, uint32_t period, uint32_t room);
+bool kept_waiting(struct day d, uint32_t period, size_t i);                                /* whether a flight may not land */
+
 /* Puts a text into a buffer from a place on. */
 struct text {
     uint8_t *bytes;
@@ -94,6 +107,7 @@ void add(struct text *t, const char *format, ...);
 hold_desk_answer real_hold_desk_read_sheet(const uint8_t *, size_t, uint32_t *, size_t, uint32_t *, size_t);
 hold_desk_answer real_hold_desk_write_sheet(DAY_ROWS, uint8_t *, size_t, size_t);
 hold_desk_answer real_hold_desk_quick_plan(DAY_ROWS, uint32_t *, size_t);
+hold_desk_answer real_hold_desk_growth_plan(DAY_ROWS, uint32_t, uint32_t *, size_t);
 hold_desk_card real_hold_desk_period_card(DAY_ROWS, uint32_t);
 hold_desk_answer real_hold_desk_full_plan(DAY_ROWS, uint32_t *, size_t, uint32_t *, size_t);
 bool real_hold_desk_price_check(DAY_ROWS, const uint32_t *, size_t, const uint32_t *, size_t);

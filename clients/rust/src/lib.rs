@@ -36,6 +36,7 @@ mod raw {
         pub fn hold_desk_read_sheet(s: *const u8, sn: usize, c: *mut u32, cn: usize, f: *mut u32, fnn: usize) -> Answer;
         pub fn hold_desk_write_sheet(c: *const u32, cn: usize, f: *const u32, fnn: usize, t: *mut u8, tn: usize, place: usize) -> Answer;
         pub fn hold_desk_quick_plan(c: *const u32, cn: usize, f: *const u32, fnn: usize, h: *mut u32, hn: usize) -> Answer;
+        pub fn hold_desk_growth_plan(c: *const u32, cn: usize, f: *const u32, fnn: usize, growth: u32, h: *mut u32, hn: usize) -> Answer;
         pub fn hold_desk_period_card(c: *const u32, cn: usize, f: *const u32, fnn: usize, period: u32) -> Card;
         pub fn hold_desk_full_plan(c: *const u32, cn: usize, f: *const u32, fnn: usize, h: *mut u32, hn: usize, p: *mut u32, pn: usize) -> Answer;
         pub fn hold_desk_price_check(c: *const u32, cn: usize, f: *const u32, fnn: usize, h: *const u32, hn: usize, p: *const u32, pn: usize) -> bool;
@@ -56,6 +57,11 @@ pub fn write_sheet(capacities: &[u32], flights: &[u32], text: &mut [u8], place: 
 
 pub fn quick_plan(capacities: &[u32], flights: &[u32], holds: &mut [u32]) -> Answer {
     unsafe { raw::hold_desk_quick_plan(capacities.as_ptr(), capacities.len(), flights.as_ptr(), flights.len(), holds.as_mut_ptr(), holds.len()) }
+}
+
+/// The growth is in tenths, and the total in millionths.
+pub fn growth_plan(capacities: &[u32], flights: &[u32], growth: u32, holds: &mut [u32]) -> Answer {
+    unsafe { raw::hold_desk_growth_plan(capacities.as_ptr(), capacities.len(), flights.as_ptr(), flights.len(), growth, holds.as_mut_ptr(), holds.len()) }
 }
 
 pub fn period_card(capacities: &[u32], flights: &[u32], period: u32) -> Card {

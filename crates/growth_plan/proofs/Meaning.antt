@@ -1,7 +1,7 @@
 -- What the definitions say: the growing plan is a cheapest plan in millionths, without growth it is the quick plan, and no total is above
 -- 4,999,680,000,000,000.
 -- Assumes nothing.
-use mathlib.Core.Path.{_≡_, refl}
+use mathlib.Core.Path.{_≡_}
 use mathlib.Core.Bool.{true}
 use mathlib.Core.List.{List}
 use Prim.Native.Nat.{ℕ, _*_, _≤_}
@@ -11,11 +11,9 @@ use Rattle.answers.specs.declared.Answer.the-variants.{Planned}
 use Rattle.day.specs.Day.{Day, P, N, valid, total}
 use Rattle.day.specs.Plan.{firstJumpOrLimit}
 use Rattle.growth.specs.Growth.{growthFits}
-use Rattle.quick_plan.specs.declared.QuickCheck.{QuickCheck}
-use Rattle.quick_plan.specs.declared.QuickCheck.the-variants.{Applies, Refused}
 use Rattle.quick_plan.specs.Quick.{rates, quick}
 use Rattle.quick_plan.specs.Calls.{quickCheck, onQuick}
-use Rattle.quick_plan.proofs.Calls.{CanPlan, can-plan}
+use Rattle.quick_plan.proofs.Calls.{same-outcome}
 use Rattle.quick_plan.proofs.NextCosts.{growth-within}
 use Rattle.quick_plan.proofs.Plan.{quick-legal}
 use Rattle.growth_plan.specs.Growing.{growingQuick, growingTotal, CheapestGrowing, growthPlan}
@@ -35,12 +33,5 @@ module _ (a : ℕ) (d : Day) (v : valid d ≡ true) (plain : firstJumpOrLimit (d
 pub zero-is-quick : (d : Day) (holds : List ℕ) → P d ≤ 6
     → growthPlan 0 d holds ≡ onQuick (quickCheck d holds) holds (outcome (Planned (total d (quick d) * 1000000)) (quick d))
 unfolding growthPlan growthFits
-zero-is-quick d holds short = rw (le-leb (P d) 6 short) (by (quickCheck d holds) (can-plan d holds))
-  where
-    by : (c : QuickCheck) → (c ≡ Applies → CanPlan d holds)
-        → onQuick c holds (outcome (Planned (growingTotal 0 (d .flights) (growingQuick 0 d))) (growingQuick 0 d))
-        ≡ onQuick c holds (outcome (Planned (total d (quick d) * 1000000)) (quick d))
-    by (Refused answer) can = refl
-    by Applies can =
-        let w = can refl in
-        rw (zero-holds d short, zero-total d short (w .good) (w .plain) (quick d) (quick-legal d (rates d) (w .good) (w .plain)))
+zero-is-quick d holds short = rw (le-leb (P d) 6 short) (same-outcome d holds _ (outcome (Planned (total d (quick d) * 1000000)) (quick d)) (λ can.
+    rw (zero-holds d short, zero-total d short (can .good) (can .plain) (quick d) (quick-legal d (rates d) (can .good) (can .plain)))))

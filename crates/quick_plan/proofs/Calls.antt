@@ -9,7 +9,7 @@ use native.Mathlib.Omega.{arith}
 use lib.ListN.{length}
 use lib.Dec.{ltb, eqb}
 use borrow.Author.Tests.{eq-eqb, ne-eqb, eqb-true, lt-ltb, le-ltb, ltb-false}
-use Rattle.answers.specs.Answers.{outcome}
+use Rattle.answers.specs.Answers.{Outcome, outcome}
 use Rattle.answers.specs.declared.Answer.{Answer}
 use Rattle.answers.specs.declared.Answer.the-variants.{Planned, BadDay, BadLength, JumpOrLimit}
 use Rattle.day.specs.Day.{Day, P, N, flightAt, valid, total}
@@ -19,7 +19,7 @@ use Rattle.quick_plan.specs.declared.QuickCheck.{QuickCheck}
 use Rattle.quick_plan.specs.declared.QuickCheck.the-variants.{Applies, Refused}
 use Rattle.quick_plan.specs.Quick.{rates}
 use Rattle.quick_plan.specs.Loop.{rowTo}
-use Rattle.quick_plan.specs.Calls.{quickCheck, quickPlan}
+use Rattle.quick_plan.specs.Calls.{quickCheck, onQuick, quickPlan}
 use Rattle.quick_plan.proofs.Rows.{rowTo-quick}
 
 module _ (d : Day) (h : List ℕ) where
@@ -73,6 +73,14 @@ module _ (d : Day) (h : List ℕ) where
 
   pub can-plan : quickCheck d h ≡ Applies → CanPlan d h
   can-plan e = can-at _ _ _ refl refl refl (sym opened ∙ e)
+
+-- two calls that test the same come to the same where they plan the same
+pub same-outcome : (d : Day) (h : List ℕ) (one other : Outcome) → (CanPlan d h → one ≡ other) → onQuick (quickCheck d h) h one ≡ onQuick (quickCheck d h) h other
+same-outcome d h one other same = by (quickCheck d h) (can-plan d h)
+  where
+    by : (c : QuickCheck) → (c ≡ Applies → CanPlan d h) → onQuick c h one ≡ onQuick c h other
+    by (Refused answer) can = refl
+    by Applies can = same (can refl)
 
 pub refused : (d : Day) (h : List ℕ) {answer : Answer} → quickCheck d h ≡ Refused answer → quickPlan d h ≡ outcome answer h
 unfolding quickPlan

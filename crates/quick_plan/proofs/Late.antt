@@ -1,6 +1,6 @@
 -- The quick plan has no jumps, so that the delay that flights bring along changes nothing in it (#102).
 -- Assumes nothing.
-use mathlib.Core.Path.{_≡_, refl, sym, ap, _∙_}
+use mathlib.Core.Path.{_≡_, sym, ap, _∙_}
 use mathlib.Core.Bool.{true}
 use mathlib.Core.List.{List}
 use Prim.Native.Nat.{ℕ, _*_, _/_, _<_}
@@ -15,13 +15,11 @@ use Rattle.day.specs.Flights.{SameBut}
 use Rattle.day.specs.Plan.{firstOf, jumpOrLimit, firstJumpOrLimit}
 use Rattle.day.proofs.Costs.{cost-plain}
 use Rattle.day.proofs.Tests.{first-same}
-use Rattle.quick_plan.specs.declared.QuickCheck.{QuickCheck}
-use Rattle.quick_plan.specs.declared.QuickCheck.the-variants.{Applies, Refused}
 use Rattle.quick_plan.specs.NextCost.{nextCost}
 use Rattle.quick_plan.specs.Quick.{before, aheadOf, rates, quick}
-use Rattle.quick_plan.specs.Calls.{quickCheck, onQuick, quickPlan}
+use Rattle.quick_plan.specs.Calls.{quickCheck, quickPlan}
 use Rattle.quick_plan.proofs.Applies.{no-jump}
-use Rattle.quick_plan.proofs.Calls.{CanPlan, can-plan}
+use Rattle.quick_plan.proofs.Calls.{same-outcome}
 use Rattle.quick_plan.proofs.Same.{SameOrder, quick-same}
 
 -- two rows of flights that differ in column 6, late, alone
@@ -78,11 +76,6 @@ module _ (capacities : List ℕ) {flights others : List ℕ} (same : SameBut 6 f
   -- where no flight has a jump a hold costs its periods.
   pub late-changes-nothing : valid d ≡ true → valid e ≡ true → (holds : List ℕ) → quickPlan d holds ≡ quickPlan e holds
   unfolding quickPlan
-  late-changes-nothing v w holds = rw (check-same v w holds) (by (quickCheck e holds) (can-plan e holds))
-    where
-      by : (c : QuickCheck) → (c ≡ Applies → CanPlan e holds)
-          → onQuick c holds (outcome (Planned (total d (quick d))) (quick d)) ≡ onQuick c holds (outcome (Planned (total e (quick e))) (quick e))
-      by (Refused answer) can = refl
-      by Applies can =
-          let applies : firstJumpOrLimit flights ≡ N d = first-is-same ∙ can refl .plain ∙ sym count-same in
-          rw (total-same applies (quick d), quick-same capacities flights others (rates d) (rates e) order-same)
+  late-changes-nothing v w holds = rw (check-same v w holds) (same-outcome e holds (outcome (Planned (total d (quick d))) (quick d)) (outcome (Planned (total e (quick e))) (quick e)) (λ can.
+      let applies : firstJumpOrLimit flights ≡ N d = first-is-same ∙ can .plain ∙ sym count-same in
+      rw (total-same applies (quick d), quick-same capacities flights others (rates d) (rates e) order-same)))

@@ -1,9 +1,10 @@
-//! Each exported call compared with what document 01, or 02 for the forecast plan, says of it: the answer, and every lent row
-//! afterwards. A call is given rows of any content and length; the refusals that apply are listed in the document's order, and the
-//! first is the answer.
-use crate::day::{plain_read, Day, Rows, FLIGHTS, FLIGHT_ROW, PERIODS, WIDTH};
+//! Each exported call compared with what document 01, or 02 for the growing plan and the forecast plan, says of it: the answer, and
+//! every lent row afterwards. A call is given rows of any content and length; the refusals that apply are listed in the document's
+//! order, and the first is the answer.
+use crate::day::{plain_read, Day, Flight, Rows, FLIGHTS, FLIGHT_ROW, PERIODS, WIDTH};
 use crate::forecasts::{choices_by_places, choices_by_queues, met, met_in_refusal, Terms};
-use crate::planners::{accepts, least_by_moves, quick_by_sorting, savings_by_moves, savings_by_planning, short_stretch};
+use crate::growth;
+use crate::planners::{accepts, least_by_moves, least_by_moves_with, least_by_trial_with, quick_by_sorting, savings_by_moves, savings_by_planning, short_stretch};
 use crate::seed::Seed;
 use hold_desk_client::*;
 use std::collections::BTreeMap;
@@ -175,6 +176,44 @@ impl Run {
         self.reach_sizes("quick plan", &day, got.first);
     }
 
+    pub fn growth(&mut self, rows: &Rows, terms: growth::Terms) {
+        let mut holds = Lent::new(&self.seed, terms.holds);
+        let got = reading(rows, &[], || growth_plan(&rows.capacities, &rows.flights, terms.growth, holds.row()));
+        let refusals = terms.refusals(rows);
+        if let Some(&(_, refusal)) = refusals.first() {
+            assert_eq!(got, refusal, "{refusals:?} {rows:?} {terms:?}");
+            holds.expect_kept();
+            return self.reach_reasons("growing plan", &refusals, |why| growth::met_in_refusal(rows, terms, why));
+        }
+        let day = rows.day().unwrap();
+        let plan = growth::plan_by_paying(&day, terms.growth);
+        assert_eq!(plan.holds, growth::holds_by_places(&day, terms.growth), "the two simulations here");
+        assert_eq!(got, answer(0, plan.total, 0), "{rows:?} {terms:?}");
+        holds.expect(0, &plan.holds);
+        self.growth_is_cheapest(&day, terms.growth, &plan);
+        if terms.growth == 0 {
+            let mut old = vec![0; terms.holds];
+            let quick = quick_plan(&rows.capacities, &rows.flights, &mut old);
+            assert_eq!((quick.first * 1_000_000, old), (plan.total, plan.holds.clone()), "growth 0 is the quick plan");
+        }
+        for what in growth::met(&day, terms.growth, &plan) {
+            self.reach(format!("growing plan, {what}"));
+        }
+    }
+
+    /// The plan is legal, its holds cost its total, and no legal plan costs less: by the planner that knows no order of flights, and on
+    /// small days by trying every plan.
+    fn growth_is_cheapest(&mut self, day: &Day, growth: u32, plan: &growth::Plan) {
+        let cost = |f: &Flight, hold: u32| growth::cost(f, growth, hold);
+        assert!(day.legal_total(&plan.holds).is_some());
+        assert_eq!(day.flights.iter().zip(&plan.holds).map(|(f, &hold)| cost(f, hold)).sum::<u64>(), plan.total, "by the closed formula");
+        assert_eq!(least_by_moves_with(day, cost), Some(plan.total), "{day:?} {growth}");
+        if day.flights.len() <= 5 {
+            assert_eq!(least_by_trial_with(day, cost), Some(plan.total), "{day:?} {growth}");
+            self.reach("growing plan, every plan tried".into());
+        }
+    }
+
     pub fn card(&mut self, rows: &Rows, period: u32) {
         let got = reading(rows, &[], || period_card(&rows.capacities, &rows.flights, period));
         let day = rows.day();
@@ -285,7 +324,7 @@ impl Run {
         if let Some(&(_, refusal)) = refusals.first() {
             assert_eq!(got, refusal, "{refusals:?} {rows:?} {terms:?}");
             holds.expect_kept();
-            return self.reach_reasons(rows, terms, &refusals);
+            return self.reach_reasons("forecast plan", &refusals, |why| met_in_refusal(rows, terms, why));
         }
         let day = rows.day().unwrap();
         let choices = choices_by_queues(&day, terms);
@@ -300,14 +339,14 @@ impl Run {
         }
     }
 
-    /// The reason that was given, before each of the others; and what it was, if no other reason has its answer.
-    fn reach_reasons(&mut self, rows: &Rows, terms: &Terms, refusals: &[(&str, Answer)]) {
+    /// The reason that was given, before each of the others; and what was wrong, if no other reason has its answer.
+    fn reach_reasons(&mut self, call: &str, refusals: &[(&str, Answer)], wrong: impl Fn(&str) -> String) {
         let (why, refusal) = refusals[0];
         for (other, _) in &refusals[1..] {
-            self.reach(format!("forecast plan, {why} before {other}"));
+            self.reach(format!("{call}, {why} before {other}"));
         }
         if refusals.iter().filter(|(_, other)| *other == refusal).count() == 1 {
-            self.reach(format!("forecast plan, {}", met_in_refusal(rows, terms, why)));
+            self.reach(format!("{call}, {}", wrong(why)));
         }
     }
 

@@ -1,7 +1,7 @@
 //! The forecast plan of document 02, #104, apart from the core: what it is lent, why it is refused, its holds by two simulations
 //! of the day, and what a call has met of all that can happen.
-use crate::calls::answer;
 use crate::day::{Day, Flight, Rows, WIDTH};
+use crate::reasons::{applying, off, which, Reason};
 use hold_desk_client::Answer;
 use std::collections::{BTreeSet, VecDeque};
 
@@ -16,13 +16,8 @@ pub struct Terms {
 }
 
 /// Why a call is refused, and its answer's number: in the order of the tests, the reasons of 13 and those of 12 together.
-pub const REASONS: [(&str, u64); 9] =
+pub const REASONS: [Reason; 9] =
     [("day", 6), ("jump", 13), ("air factor", 13), ("count", 13), ("hold row", 7), ("weight row", 7), ("forecast row", 7), ("weights", 12), ("capacity", 12)];
-
-/// Whether the order of two reasons can be seen.
-pub fn apart(one: (&str, u64), other: (&str, u64)) -> bool {
-    one != other && (one.1 != other.1 || one.1 == 7)
-}
 
 impl Terms {
     /// The reasons that apply, each with its answer. Where the rows are no day, those that can be told from the rows alone.
@@ -39,9 +34,7 @@ impl Terms {
             self.sum() == 1_000,
             self.forecasts.iter().all(|&capacity| capacity <= 255),
         ];
-        let needed = [0, 0, 0, 0, n as u64, count, count * p, 0, 0];
-        let all = REASONS.iter().zip(needed).map(|(&(why, number), first)| (why, answer(number, first, 0)));
-        all.zip(good).filter(|(_, good)| !good).map(|(refusal, _)| refusal).collect()
+        applying(&REASONS, &good, &[0, 0, 0, 0, n as u64, count, count * p, 0, 0])
     }
     pub fn sum(&self) -> u64 {
         self.weights.iter().map(|&weight| weight as u64).sum()
@@ -125,7 +118,7 @@ pub fn choices_by_places(day: &Day, terms: &Terms) -> Vec<Choice> {
 pub fn met_in_refusal(rows: &Rows, terms: &Terms, why: &str) -> String {
     let (n, p, count) = (rows.flights.len() / WIDTH, rows.capacities.len(), terms.count as usize);
     match why {
-        "jump" => format!("a jump of {}", jumping(rows)),
+        "jump" => format!("a jump of {}", which(&rows.flights.chunks(WIDTH).map(|f| f[4] > 0).collect::<Vec<_>>())),
         "air factor" => format!("an air factor of {}", past(terms.air_factor as u64, 11)),
         "count" => format!("a count of {}", past(terms.count as u64, 9)),
         "hold row" => format!("a hold row {}", off(terms.holds, n)),
@@ -142,26 +135,6 @@ pub fn met_in_refusal(rows: &Rows, terms: &Terms, why: &str) -> String {
 /// 0, the number just past the most, or more.
 fn past(number: u64, first: u64) -> String {
     if number > first { "more".into() } else { number.to_string() }
-}
-
-fn off(length: usize, exact: usize) -> &'static str {
-    match length as i64 - exact as i64 {
-        1 => "one longer",
-        -1 => "one shorter",
-        _ if length == 0 => "of none",
-        difference if difference > 0 => "longer",
-        _ => "shorter",
-    }
-}
-
-fn jumping(rows: &Rows) -> &'static str {
-    let jumps: Vec<bool> = rows.flights.chunks(WIDTH).map(|f| f[4] > 0).collect();
-    match (jumps.iter().filter(|&&jump| jump).count(), jumps.first(), jumps.last()) {
-        (1, Some(true), Some(false)) => "the first flight",
-        (1, Some(false), Some(true)) => "the last flight",
-        (1, Some(false), Some(false)) => "a flight between",
-        _ => "several flights, or of the only one",
-    }
 }
 
 fn summing(terms: &Terms) -> &'static str {

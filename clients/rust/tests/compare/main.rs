@@ -5,8 +5,11 @@ mod calls;
 mod day;
 mod forecast_inputs;
 mod forecasts;
+mod growth;
+mod growth_inputs;
 mod inputs;
 mod planners;
+mod reasons;
 mod seed;
 
 use calls::{answer, Run};
@@ -14,6 +17,7 @@ use day::{plain_read, Day, Rows, FLIGHT_ROW, PERIODS, WIDTH};
 use forecasts::Terms;
 use hold_desk_client::{forecast_plan, period_card, quick_plan};
 use planners::{least_by_moves, least_by_trial, quick_by_sorting, savings_by_moves, savings_by_planning};
+use reasons::orders;
 use seed::days;
 
 /// Every call for one pair of rows, each with lent rows of a length of its own; hold and price rows near those given, also where
@@ -101,6 +105,24 @@ fn forecasts_of_a_day(run: &mut Run, day: &Day, times: u64) {
             forecast_inputs::spoil(&run.seed, &mut rows, &mut terms);
         }
         run.forecast(&rows, &terms);
+    }
+}
+
+/// The growing plan of a day that it takes: as it is; and so often with any growth and with something wrong, and so often spoiled
+/// as a day too.
+fn growth_of_a_day(run: &mut Run, day: &Day, growth: u32, times: u64) {
+    let terms = growth::Terms { growth, holds: day.flights.len() };
+    run.growth(&day.rows(), terms);
+    for call in 0..2 * times {
+        let mut rows = day.rows();
+        let mut terms = growth::Terms { growth: growth_inputs::growth(&run.seed), ..terms };
+        for _ in 0..run.seed.pick(&[0, 1, 1, 1, 2, 3]) {
+            growth_inputs::spoil(&run.seed, &mut rows, &mut terms);
+        }
+        if call % 2 == 1 {
+            inputs::spoil(&run.seed, &mut rows);
+        }
+        run.growth(&rows, terms);
     }
 }
 
@@ -220,16 +242,49 @@ const FORECAST_SIZES: [&str; 8] = [
     "no day",
 ];
 
-/// Each reason for a refusal before each other, where their order can be seen.
-fn orders() -> Vec<String> {
-    let reasons = forecasts::REASONS;
-    let later = |one: usize| reasons[one..].iter().filter(move |&&other| forecasts::apart(reasons[one], other));
-    (0..reasons.len()).flat_map(|one| later(one).map(move |other| format!("{} before {}", reasons[one].0, other.0))).collect()
+/// What the growing plan must have met: every number of periods, who goes first, and every refusal at its edges.
+#[rustfmt::skip]
+const GROWTH: [&str; 51] = [
+    "1 periods", "2 periods", "3 periods", "4 periods", "5 periods", "6 periods",
+    "held for 0 periods", "held for 1 periods", "held for 2 periods", "held for 3 periods", "held for 4 periods", "held for 5 periods", "held for 6 periods",
+    "some land and some wait in period 1", "some land and some wait in period 2", "some land and some wait in period 3",
+    "some land and some wait in period 4", "some land and some wait in period 5", "some land and some wait in period 6",
+    "a tie of dues 1 apart", "a tie of dues 2 apart", "a tie of dues 3 apart", "a tie of dues 4 apart", "a tie of dues 5 apart",
+    "a tie of two dues against table order", "a tie of one due",
+    "the later due first, which whole units do not tell", "the later due first, which thousandths do not tell", "the later due first, which 24 bits do not tell",
+    "no flight", "nobody held", "held, with a late and an after", "every plan tried",
+    "no day", "a hold row of none", "a hold row one shorter", "a hold row one longer", "a hold row longer",
+    "a jump of the first flight", "a jump of a flight between", "a jump of the last flight",
+    "a limit of the first flight", "a limit of a flight between", "a limit of the last flight",
+    "a growth of 41", "a growth of 42", "a growth of 4,294,967,295", "a growth that fits in a byte", "a growth that fits in 16 bits",
+    "7 periods", "8 periods",
+];
+
+const GROWTH_SIZES: [&str; 13] = [
+    "6 periods and 128 flights",
+    "a tie of two dues past table place 64",
+    "a tie of one due from table place 64 on",
+    "a tie with the 128th flight",
+    "a total above 2^32",
+    "a total above 2^48",
+    "a total above 2^52",
+    "a total of 4,999,680,000,000,000",
+    "96 periods",
+    "more than 8 periods",
+    "too many periods, and growth 0",
+    "no day",
+    "a hold row shorter",
+];
+
+/// What must have been met with each growth; with growth 0 no lower rate lands first.
+fn with_each_growth() -> Vec<String> {
+    let every = (0..=growth::MOST).flat_map(|a| growth::FOR_EACH.map(|what| format!("{what}, growth {a}")));
+    every.filter(|what| what != "the lower rate first, growth 0").collect()
 }
 
-/// What `must_reach` asks, of the forecast plan.
-fn must_meet(run: &Run, least: u64, wanted: &[&str], orders: &[String]) {
-    let all: Vec<String> = wanted.iter().copied().chain(orders.iter().map(String::as_str)).map(|what| format!("forecast plan, {what}")).collect();
+/// What `must_reach` asks, of one call.
+fn must_meet(run: &Run, call: &str, least: u64, wanted: &[&str], more: &[String]) {
+    let all: Vec<String> = wanted.iter().copied().chain(more.iter().map(String::as_str)).map(|what| format!("{call}, {what}")).collect();
     must_reach(run, least, &all.iter().map(String::as_str).collect::<Vec<_>>());
 }
 
@@ -278,7 +333,7 @@ fn small_days_with_forecasts() {
         let day = forecast_inputs::random_day(&run.seed, 5, 6);
         forecasts_of_a_day(&mut run, &day, 16);
     }
-    must_meet(&run, 20, &FORECASTS, &orders());
+    must_meet(&run, "forecast plan", 20, &FORECASTS, &orders(&forecasts::REASONS));
 }
 
 #[test]
@@ -297,7 +352,36 @@ fn large_days_with_forecasts() {
         };
         forecasts_of_a_day(&mut run, &day, 5);
     }
-    must_meet(&run, 5, &FORECAST_SIZES, &[]);
+    must_meet(&run, "forecast plan", 5, &FORECAST_SIZES, &[]);
+}
+
+#[test]
+fn small_days_with_growth() {
+    let mut run = Run::of(8);
+    for _ in 0..days() * 16 {
+        let growth = growth_inputs::growth(&run.seed);
+        let day = match run.seed.below(2) {
+            0 => growth_inputs::random_day(&run.seed, growth, 6),
+            _ => growth_inputs::day_of_size(&run.seed, growth, 6, run.seed.between(2, 5)),
+        };
+        growth_of_a_day(&mut run, &day, growth, 2);
+    }
+    must_meet(&run, "growing plan", 2, &GROWTH, &[with_each_growth(), orders(&growth::REASONS)].concat());
+}
+
+#[test]
+fn large_days_with_growth() {
+    let mut run = Run::of(9);
+    for round in 0..days() / 2 {
+        let growth = growth_inputs::growth(&run.seed);
+        let (growth, day) = match round % 8 {
+            0 => (growth::MOST, growth_inputs::heavy_day(&run.seed)),
+            1..=3 => (growth, growth_inputs::day_of_size(&run.seed, growth, 6, 128)),
+            _ => (growth, growth_inputs::random_day(&run.seed, growth, 128)),
+        };
+        growth_of_a_day(&mut run, &day, growth, 2);
+    }
+    must_meet(&run, "growing plan", 2, &GROWTH_SIZES, &[]);
 }
 
 #[test]

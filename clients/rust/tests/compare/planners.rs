@@ -1,31 +1,36 @@
 //! Planners and checkers of another kind than the core's.
-use crate::day::Day;
+use crate::day::{Day, Flight};
 
 /// The least total by trying every plan.
 pub fn least_by_trial(day: &Day) -> Option<u64> {
-    fn rest(day: &Day, i: usize, room: &mut Vec<u32>) -> Option<u64> {
+    least_by_trial_with(day, Flight::cost)
+}
+
+/// The same where a hold costs what is said.
+pub fn least_by_trial_with(day: &Day, cost: impl Fn(&Flight, u32) -> u64) -> Option<u64> {
+    fn rest(day: &Day, cost: &impl Fn(&Flight, u32) -> u64, i: usize, room: &mut Vec<u32>) -> Option<u64> {
         let Some(f) = day.flights.get(i) else { return Some(0) };
         let mut least = None;
         for lands in f.due..=f.last(day.periods()) {
             let at = lands as usize - 1;
             if room[at] > 0 {
                 room[at] -= 1;
-                let here = rest(day, i + 1, room).map(|r| r + f.cost(lands - f.due));
+                let here = rest(day, cost, i + 1, room).map(|r| r + cost(f, lands - f.due));
                 least = [least, here].into_iter().flatten().min();
                 room[at] += 1;
             }
         }
         least
     }
-    rest(day, 0, &mut [&day.capacities[..], &[u32::MAX]].concat())
+    rest(day, &cost, 0, &mut [&day.capacities[..], &[u32::MAX]].concat())
 }
 
 /// A cheapest plan, the landing periods, by putting in one flight after the other, each along the cheapest chain of moves. The
 /// chains are found by going over all moves until nothing gets cheaper; no prices, and no order of flights or periods.
-fn plan_by_moves(day: &Day) -> Option<Vec<u32>> {
+fn plan_by_moves(day: &Day, cost: &impl Fn(&Flight, u32) -> u64) -> Option<Vec<u32>> {
     let p = day.periods();
     let room = |k: u32| if k <= p { day.capacities[k as usize - 1] } else { u32::MAX };
-    let cost = |i: usize, k: u32| day.flights[i].cost(k - day.flights[i].due) as i64;
+    let cost = |i: usize, k: u32| cost(&day.flights[i], k - day.flights[i].due) as i64;
     let mut lands: Vec<u32> = Vec::new();
     for (new, f) in day.flights.iter().enumerate() {
         // what it costs to have one landing more in a period, and which flight comes there
@@ -66,8 +71,13 @@ fn plan_by_moves(day: &Day) -> Option<Vec<u32>> {
 
 /// The least total of such a plan.
 pub fn least_by_moves(day: &Day) -> Option<u64> {
-    let lands = plan_by_moves(day)?;
-    Some(day.flights.iter().zip(lands).map(|(f, k)| f.cost(k - f.due)).sum())
+    least_by_moves_with(day, Flight::cost)
+}
+
+/// The same where a hold costs what is said.
+pub fn least_by_moves_with(day: &Day, cost: impl Fn(&Flight, u32) -> u64) -> Option<u64> {
+    let lands = plan_by_moves(day, &cost)?;
+    Some(day.flights.iter().zip(lands).map(|(f, k)| cost(f, k - f.due)).sum())
 }
 
 /// What one more landing in each period would save, by planning each of the changed days from nothing. A day that has a plan has
@@ -87,7 +97,7 @@ pub fn savings_by_planning(day: &Day, least: fn(&Day) -> Option<u64>) -> Option<
 /// The same from a cheapest plan of the day as it is: a flight moves to the period, another into the place that it left, and so on,
 /// as far as that saves something; all moves are gone over until nothing more is saved.
 pub fn savings_by_moves(day: &Day) -> Option<Vec<u64>> {
-    let lands = plan_by_moves(day)?;
+    let lands = plan_by_moves(day, &Flight::cost)?;
     let mut saved = vec![0i64; day.capacities.len() + 2];
     let (mut more, mut rounds) = (true, 0);
     while more {
@@ -146,6 +156,6 @@ pub fn accepts(day: &Day, holds: &[u32], prices: &[u32]) -> bool {
     }
     let price = |k: u32| if k <= p { prices[k as usize - 1] as u64 } else { 0 };
     let only_on_full = (1..=p).all(|k| price(k) == 0 || day.landings(holds, k) == day.capacities[k as usize - 1]);
-    let least = |(f, &h): (&crate::day::Flight, &u32)| (f.due..=f.last(p)).all(|k| f.cost(h) + price(f.due + h) <= f.cost(k - f.due) + price(k));
+    let least = |(f, &h): (&Flight, &u32)| (f.due..=f.last(p)).all(|k| f.cost(h) + price(f.due + h) <= f.cost(k - f.due) + price(k));
     only_on_full && day.flights.iter().zip(holds).all(least)
 }
