@@ -32,7 +32,8 @@ ahead d = aheadOf (d .flights)
 unfoldable pub goingBefore : Day → (ℕ → ℕ) → (ℕ → Bool) → ℕ → ℕ
 goingBefore d costs set i = sum (N d) (λ k. gate (set k && ahead d costs k i) 1)
 
--- flight i is one of the m flights of a set that go first: "The capacity's number of highest rates land, or all if fewer."
+-- flight i is one of the m flights of a set that go first: "The capacity's number of highest rates land, or all if fewer.", and with #105
+-- "the highest next costs"
 unfoldable pub highest : Day → (ℕ → ℕ) → ℕ → (ℕ → Bool) → ℕ → Bool
 highest d costs m set i = set i && ltb (goingBefore d costs set i) m
 
