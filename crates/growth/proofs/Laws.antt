@@ -4,7 +4,7 @@ use mathlib.Core.Path.{_≡_, refl, sym, ap, _∙_}
 use Prim.Native.Nat.{ℕ, zero, suc, _+_, _-_, _*_, _^_, _≤_, _<_}
 use native.Mathlib.Omega.{arith}
 use native.Mathlib.Numerals.{add-one}
-use native.Mathlib.Nat.{zero-add, suc-add, pow-suc, pow-zero, mul-assoc, mul-right-comm, mul-pos, mul-le-mul, mul-le-mul-left, mul-le-mul-right, pow-le-pow-left, pow-le-pow-right}
+use native.Mathlib.Nat.{zero-add, suc-add, pow-suc, pow-zero, mul-assoc, mul-right-comm, mul-le-mul, mul-le-mul-left, mul-le-mul-right, pow-le-pow-left, pow-le-pow-right}
 use lib.Dec.{lit<, leb→le}
 use lib.Pow.{pow-add}
 use Rattle.assignment.specs.Sum.{sum}
@@ -42,14 +42,6 @@ factor-next a t l =
 pub factor-plain : (t : ℕ) → t ≤ 6 → factor 0 t ≡ 1000000
 unfolding factor
 factor-plain t l = let all : t + (6 - t) ≡ 6 = omega arith in sym (pow-add 10 t (6 - t)) ∙ ap (λ n. 10 ^ n) all
-
-pub factor-pos : (a t : ℕ) → 0 < factor a t
-unfolding factor
-factor-pos a t = mul-pos (pow-pos (10 + a) t (omega arith)) (pow-pos 10 (6 - t) (lit< tt))
-  where
-    pow-pos : (n t : ℕ) → 0 < n → 0 < n ^ t
-    pow-pos n zero h = rw pow-zero (lit< tt)
-    pow-pos n (suc t) h = rw pow-suc (mul-pos (pow-pos n t h) h)
 
 factor-grows : (a t : ℕ) → a ≤ 40 → factor a t ≤ factor 40 t
 unfolding factor
