@@ -6,6 +6,7 @@
 enum fault the_fault = NO_FAULT;
 enum call the_call;
 enum rule the_rule = NO_RULE;
+struct entry the_entry;
 _Thread_local bool plain;
 
 static const char *const fault_names[] = { "", FAULT_NAMES };
@@ -27,6 +28,7 @@ __attribute__((constructor)) static void choose_fault(void)
         for (size_t k = 1; k < sizeof rule_names / sizeof *rule_names; k++)
             if (strcmp(name + length + 8, rule_names[k]) == 0) the_rule = (enum rule)k;
     }
+    the_entry.is_wrong = sscanf(name, "growth_entry_%u_%u", &the_entry.growth, &the_entry.t) == 2;
     if (the_fault == NO_FAULT) {
         fprintf(stderr, "HOLD_DESK_FAULT: no fault has the name '%s'\n", name);
         abort();

@@ -20,9 +20,12 @@ enum call { READ, WRITE, QUICK, GROWTH, CARD, FULL, CHECK, CHOICE, BOARD, TEXT, 
 enum { P_MOST = 96, N_MOST = 128, WIDTH = 7, ROW_MOST = N_MOST * WIDTH };
 enum { NUMBER, DUE, RATE, AFTER, JUMP, LIMIT, LATE };
 
+struct entry { bool is_wrong; unsigned growth, t; };
+
 extern enum fault the_fault;         /* the one that is on */
 extern enum call the_call;           /* its call */
 extern enum rule the_rule;           /* its rule, if it is one of the day check */
+extern struct entry the_entry;       /* its entry, if it is one of the table of factors */
 extern _Thread_local bool plain;     /* no fault for now: for the comparison with the real call */
 
 #define ALSO(name) (!plain && the_fault == F_##name)

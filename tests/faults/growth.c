@@ -63,17 +63,11 @@ static uint64_t grown(uint64_t from, uint64_t up, uint64_t down, uint32_t t)
     return from;
 }
 
-/* (10 + a)^t * 10^(6-t), as a wrong table has it. */
+/* (10 + a)^t * 10^(6-t), as a table has it with one wrong entry. */
 static uint64_t factor(uint64_t a, uint32_t t)
 {
-    uint64_t right = grown(1000000, 10 + a, 10, t);
-    if (IS(growth_factor_0_5, "with no growth the factor of the sixth period is one less") && a == 0 && t == 5) return right - 1;
-    if (IS(growth_factor_8_2, "with a growth of 8 the factor of the third period is one more") && a == 8 && t == 2) return right + 1;
-    if (IS(growth_factor_19_0, "with a growth of 19 the factor of the first period is one more") && a == 19 && t == 0) return right + 1;
-    if (IS(growth_factor_27_3, "with a growth of 27 the factor of the fourth period is one less") && a == 27 && t == 3) return right - 1;
-    if (IS(growth_factor_36_5, "with a growth of 36 the factor of the sixth period is one more") && a == 36 && t == 5) return right + 1;
-    if (IS(growth_factor_40_5, "with a growth of 40 the factor of the sixth period is one less") && a == 40 && t == 5) return right - 1;
-    return right;
+    bool wrong = !plain && the_entry.is_wrong && the_entry.growth == a && the_entry.t == t;
+    return grown(1000000, 10 + a, 10, t) + wrong;
 }
 
 static uint64_t period_cost(const uint32_t *v, uint64_t rate, uint64_t a, uint32_t t, enum use use)

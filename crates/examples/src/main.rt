@@ -1,12 +1,14 @@
 // Runs the examples of documents 01 and 02 and of the report and prints what every call answers, with the rows and texts that it filled; the
 // file stdout has what they must be. An example is a line `kind name length`, then that many bytes of sheet, then an end byte. Its kind says
 // what is run: `read` the reader; `day` every call for the sheet's day, but for the forecast and the growing plan; `odds` the forecast plan;
-// `growth` the growing plan; `lengths` every call with rows of other lengths; `values` every call for days in memory that differ from the
-// sheet's in a value or a length; `unfit` the reader with rows of other lengths; `program` the text that the program writes.
+// `growth` the growing plan; `factors` some rows of the table that it reads, with no sheet; `lengths` every call with rows of other lengths; `values`
+// every call for days in memory that differ from the sheet's in a value or a length; `unfit` the reader with rows of other lengths;
+// `program` the text that the program writes.
 // What a call changed though it had to leave it is reported as `CHANGED`, and a text that is not the expected one as `OTHER`.
 mod calls;
+mod factors;
 mod forecasts;
-mod growth;
+mod growing;
 mod input;
 mod plans;
 mod refused;
@@ -48,6 +50,7 @@ fn run_program(input: &[u8], read: usize) {
 fn run_kind(kind: u8, input: &[u8], length: usize) {
     match kind {
         b'p' => run_program(input, length),
+        b'f' => factors::show_factors(),
         b'u' => sheets::run_reader(part(input, 0, length)),
         _ => sheets::run_sheet(kind, part(input, 0, length)),
     }

@@ -9,7 +9,7 @@ use crate::calls::price_check;
 use crate::calls::quick_plan;
 use crate::calls::sheet_text;
 use crate::forecasts::forecast_plan_of;
-use crate::growth::growth_plan;
+use crate::growing::growth_plan;
 use crate::rows::capacity_row;
 use crate::rows::copy;
 use crate::rows::due_row;

@@ -1,6 +1,6 @@
 // The reader: sheets, and rows of other lengths.
 use crate::forecasts::run_forecasts;
-use crate::growth::run_growths;
+use crate::growing::run_growths;
 use crate::plans::run_day;
 use crate::refused::run_lengths;
 use crate::refused::run_values;

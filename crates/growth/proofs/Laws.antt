@@ -5,28 +5,30 @@ use Prim.Native.Nat.{ℕ, zero, suc, _+_, _-_, _*_, _^_, _≤_, _<_}
 use native.Mathlib.Omega.{arith}
 use native.Mathlib.Numerals.{add-one}
 use native.Mathlib.Nat.{zero-add, suc-add, pow-suc, pow-zero, mul-assoc, mul-right-comm, mul-le-mul, mul-le-mul-left, mul-le-mul-right, pow-le-pow-left, pow-le-pow-right}
-use lib.Dec.{lit<, leb→le}
+use mathlib.Core.Bool.{Bool, true}
+use mathlib.Core.List.{List, []}
+use lib.Dec.{leb→le, eqb}
+use lib.ListN.{getD}
+use borrow.Author.Tests.{eqb-true}
 use lib.Pow.{pow-add}
 use Rattle.assignment.specs.Sum.{sum}
 use Rattle.assignment.proofs.Sums.{sum-grow, sum-le}
-use Rattle.growth.specs.Growth.{factor, furtherCost, growthCost}
+use Rattle.day.specs.Day.{all}
+use Rattle.day.proofs.Tests.{all-at}
+use Rattle.growth.specs.Growth.{factor, FactorTable, furtherCost, growthCost}
 
--- ---- powers
+-- ---- the table
 
-pub power-start : (base : ℕ) → 1 ≡ base ^ 0
-power-start base = sym (pow-zero base)
+-- the test: every entry of 41 rows of six is its factor
+unfoldable pub isTable : List (List ℕ) → Bool
+isTable rows = all 41 (λ a. all 6 (λ t. eqb (getD (getD rows a []) t 0) (factor a t)))
 
-pub power-next : (base i : ℕ) {p : ℕ} → p ≡ base ^ i → p * base ≡ base ^ (i + 1)
-power-next base i e = rw (e, add-one) (sym (pow-suc base i))
-
-pub power-low : {base : ℕ} (i : ℕ) → base ≤ 50 → i ≤ 6 → base ^ i ≤ 15625000000
-power-low i b l = omega (arith, pow-le-pow-left b i, pow-le-pow-right {n = 50} (lit< tt) {i = i} {j = 6} l)
+-- what the test says of each entry
+pub table-rule : (rows : List (List ℕ)) → isTable rows ≡ true → FactorTable rows
+unfolding isTable FactorTable
+table-rule rows e a t g l = eqb-true _ _ (all-at 6 _ (all-at 41 _ e a (omega arith)) t l)
 
 -- ---- factors
-
-pub factor-is : (a t : ℕ) {p q : ℕ} → p ≡ (10 + a) ^ t → q ≡ 10 ^ (6 - t) → p * q ≡ factor a t
-unfolding factor
-factor-is a t e o = rw (e, o)
 
 -- a further period costs (10 + a)/10 of the one before it
 pub factor-next : (a t : ℕ) → t < 6 → factor a (suc t) * 10 ≡ factor a t * (10 + a)

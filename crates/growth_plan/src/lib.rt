@@ -4,6 +4,7 @@ use day::rate_of;
 use day::wide;
 use growth::GROWTH;
 use growth::GROWTH_PERIODS;
+use growth::factor_table;
 use growth::growth_cost;
 use quick_plan::NextCost;
 use quick_plan::QuickCheck;
@@ -20,10 +21,11 @@ fn total_in_millionths(growth: usize, flights: &[u32], holds: &[u32]) -> usize
     requires { ⌜ CanSum growth (now flights) (now holds) ⌝ }
     ensures { λ r. ⌜ r ≡ growingTotal growth (now (flights .entry)) (now (holds .entry)) ⌝ }
 {
+    let factors = factor_table();
     let mut sum = 0;
     let mut i = 0;
     while i < holds.len() {
-        sum += growth_cost(growth, rate_of(flights, i), wide(holds[i]));
+        sum += growth_cost(&factors, growth, rate_of(flights, i), wide(holds[i]));
         i += 1;
     }
     sum

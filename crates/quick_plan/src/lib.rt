@@ -10,6 +10,7 @@ use day::is_valid;
 use day::of_period;
 use day::rate_of;
 use day::wide;
+use growth::factor_table;
 use growth::further_cost;
 use legality::total_of;
 ghost use mathlib.Core.Path.{_≡_};
@@ -19,6 +20,7 @@ ghost use lib.ListN.{length};
 ghost use Rattle.assignment.specs.Rows.{row};
 ghost use Rattle.day.specs.Day.{lent, N, mostPeriods, width, capacity, valid};
 ghost use Rattle.day.specs.Plan.{jumpOrLimit, firstJumpOrLimit};
+ghost use Rattle.growth.specs.Growth.{FactorTable};
 ghost use Rattle.quick_plan.specs.NextCost.{nextCost, fits};
 ghost use Rattle.quick_plan.specs.Quick.{before};
 ghost use Rattle.quick_plan.specs.Loop.{DueBy, closing, waiting, top, landAll, rowTo};
@@ -37,14 +39,16 @@ pub enum QuickCheck {
 }
 
 // What one more period of hold costs flight i in period j.
-fn next_cost(next: NextCost, flights: &[u32], j: usize, i: usize) -> usize
-    requires { ⌜ (fits next j ≡ true) × DueBy (now flights) j i ⌝ }
+fn next_cost(next: NextCost, factors: &[[u32; 6]; 41], flights: &[u32], j: usize, i: usize) -> usize
+    requires { ⌜ FactorTable (now factors) × (fits next j ≡ true) × DueBy (now flights) j i ⌝ }
     ensures { λ r. ⌜ r ≡ nextCost next (now (flights .entry)) j i ⌝ }
 {
     let rate = rate_of(flights, i);
     match next {
         NextCost::Rate => rate,
-        NextCost::Growing { growth } => { further_cost(growth, rate, j - due_of(flights, i)) }
+        NextCost::Growing { growth } => {
+            further_cost(factors, growth, rate, j - due_of(flights, i))
+        }
     }
 }
 
@@ -80,12 +84,13 @@ pub fn is_waiting(capacities: &[u32], flights: &[u32], holds: &[u32], j: usize, 
 // far is kept, so that each is worked out once.
 fn first_waiting(
     next: NextCost,
+    factors: &[[u32; 6]; 41],
     capacities: &[u32],
     flights: &[u32],
     holds: &[u32],
     j: usize,
 ) -> usize
-    requires { ⌜ (valid (lent capacities flights) ≡ true) × (length (now holds) ≡ N (lent capacities flights)) × (fits next j ≡ true) ⌝ }
+    requires { ⌜ (valid (lent capacities flights) ≡ true) × (length (now holds) ≡ N (lent capacities flights)) × FactorTable (now factors) × (fits next j ≡ true) ⌝ }
     ensures { λ r. ⌜ r ≡ top (lent (capacities .entry) (flights .entry)) (nextCost next (now (flights .entry)) j) j (now (holds .entry)) ⌝ }
 {
     let n = holds.len();
@@ -96,7 +101,7 @@ fn first_waiting(
         let k = i;
         i += 1;
         if is_waiting(capacities, flights, holds, j, k) {
-            let cost = next_cost(next, flights, j, k);
+            let cost = next_cost(next, factors, flights, j, k);
             if best == n || goes_before(flights, cost, highest, k, best) {
                 best = k;
                 highest = cost;
@@ -107,14 +112,21 @@ fn first_waiting(
 }
 
 // Lands as many flights as period j takes, or all that wait.
-fn land_period(next: NextCost, capacities: &[u32], flights: &[u32], holds: &mut [u32], j: usize)
-    requires { ⌜ (valid (lent capacities flights) ≡ true) × (length (now holds) ≡ N (lent capacities flights)) × (fits next j ≡ true) × (j ≤ length (now capacities)) ⌝ }
+fn land_period(
+    next: NextCost,
+    factors: &[[u32; 6]; 41],
+    capacities: &[u32],
+    flights: &[u32],
+    holds: &mut [u32],
+    j: usize,
+)
+    requires { ⌜ (valid (lent capacities flights) ≡ true) × (length (now holds) ≡ N (lent capacities flights)) × FactorTable (now factors) × (fits next j ≡ true) × (j ≤ length (now capacities)) ⌝ }
     ensures { λ _. ⌜ now (holds .exit) ≡ landAll (lent (capacities .entry) (flights .entry)) (nextCost next (now (flights .entry)) j) j (capacity (lent (capacities .entry) (flights .entry)) j) (now (holds .entry)) ⌝ }
 {
     let n = holds.len();
     let mut left = of_period(capacities, j);
     while 0 < left {
-        let i = first_waiting(next, capacities, flights, holds, j);
+        let i = first_waiting(next, factors, capacities, flights, holds, j);
         if i == n {
             return;
         }
@@ -143,11 +155,12 @@ pub fn plan_to(next: NextCost, capacities: &[u32], flights: &[u32], holds: &mut 
     requires { ⌜ (fits next (length (now capacities)) ≡ true) × (stop ≤ length (now capacities)) ⌝ }
     ensures { λ _. ⌜ now (holds .exit) ≡ rowTo (lent (capacities .entry) (flights .entry)) (nextCost next (now (flights .entry))) stop ⌝ }
 {
+    let factors = factor_table();
     start_row(capacities, flights, holds);
     let mut j = 0;
     while j < stop {
         j += 1;
-        land_period(next, capacities, flights, holds, j);
+        land_period(next, &factors, capacities, flights, holds, j);
     }
 }
 

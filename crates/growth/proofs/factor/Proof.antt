@@ -1,28 +1,29 @@
--- Two powers, as the definition has them. Assumes nothing.
+-- The table's rule at the entry that is read. Assumes nothing.
 use borrow.Author.Needs.{needs}
-use native.Mathlib.Omega.{arith}
-use Rattle.growth.proofs.Laws.{factor-is, factor-low}
+use mathlib.Core.Path.{_∙_}
+use Rattle.growth.specs.Growth.{FactorTable}
 use Rattle.growth.proofs.factor.Statement.{statement}
 use Rattle.growth.proofs.factor.Tie as tie
 
-add-power : tie.Need-add-power
-add-power c = search needs
+mul-wide : tie.Need-mul-wide
+mul-wide c = search needs
 
-power-requires : tie.Need-power-requires
-power-requires c κs = (omega arith, omega arith)
+mul-wide-2 : tie.Need-mul-wide-2
+mul-wide-2 c = search needs
 
-sub-power : tie.Need-sub-power
-sub-power c = search needs
+index-1-wide : tie.Need-index-1-wide
+index-1-wide c = search needs
 
-power-requires-2 : tie.Need-power-requires-2
-power-requires-2 c κs = (omega arith, omega arith)
+index-2-wide : tie.Need-index-2-wide
+index-2-wide c = search needs
 
-mul-result : tie.Need-mul-result
-mul-result c = omega (arith, factor-is _ _ (c .before .power .ensures) (c .power2 .ensures), factor-low _ _ (c .before .before .pre .0) (c .before .before .pre .1))
+wide-requires : tie.Need-wide-requires
+wide-requires c κs = search needs
 
 returns : tie.Need-returns
-returns c = factor-is _ _ (c .before .power .ensures) (c .power2 .ensures)
+unfolding FactorTable
+returns c = let p = c .before .before .pre in c .wide .ensures ∙ p .0 _ _ (p .1) (p .2)
 
 pub factor-spec : {M : Type 1} → statement M
 factor-spec =
-    tie.close (tie.spec add-power power-requires sub-power power-requires-2 mul-result returns)
+    tie.close (tie.spec mul-wide mul-wide-2 index-1-wide index-2-wide wide-requires returns)

@@ -10,7 +10,7 @@ factor-requires : tie.Need-factor-requires
 factor-requires c κs = search needs
 
 mul-result : tie.Need-mul-result
-mul-result c = rw (c .factor .ensures) (omega (arith, further-low _ _ _ (c .before .pre .0) (c .before .pre .1) (c .before .pre .2)))
+mul-result c = rw (c .factor .ensures) (omega (arith, further-low _ _ _ (c .before .pre .1) (c .before .pre .2) (c .before .pre .3)))
 
 returns : tie.Need-returns
 unfolding furtherCost

@@ -9,16 +9,16 @@ use Rattle.growth.proofs.growth_cost.Statement.{statement}
 use Rattle.growth.proofs.growth_cost.Tie as tie
 
 abbrev Inv-loop : tie.InvT-loop
-Inv-loop growth rate hold sum₀ t₀ sum t = (sum ≡ growthCost growth rate t) × (t ≤ hold)
+Inv-loop factors growth rate hold sum₀ t₀ sum t = (sum ≡ growthCost growth rate t) × (t ≤ hold)
 
 abbrev μ-loop : tie.MeasureT-loop
-μ-loop growth rate hold sum₀ t₀ sum t = hold - t
+μ-loop factors growth rate hold sum₀ t₀ sum t = hold - t
 
 loop-holds : tie.Need-loop-holds Inv-loop μ-loop
 loop-holds c = (growth-start _ _, omega arith)
 
 further-cost-requires : tie.Need-further-cost-requires Inv-loop μ-loop
-further-cost-requires c κs = (omega arith, omega arith, omega arith)
+further-cost-requires c κs = (c .before .before .pre .0, omega arith, omega arith, omega arith)
 
 add-sum : tie.Need-add-sum Inv-loop μ-loop
 add-sum c =
@@ -27,7 +27,7 @@ add-sum c =
     omega (
       arith,
       growth-next _ _ _ (at-loop .loop .inv .0) (c .further-cost .ensures),
-      growth-low (at-start .args .growth) (at-start .args .rate) (at-loop .loop .t + 1) (at-start .pre .0) (at-start .pre .1) (omega arith),
+      growth-low (at-start .args .growth) (at-start .args .rate) (at-loop .loop .t + 1) (at-start .pre .1) (at-start .pre .2) (omega arith),
     )
 
 add-t : tie.Need-add-t Inv-loop μ-loop

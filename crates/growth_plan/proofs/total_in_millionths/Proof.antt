@@ -9,16 +9,19 @@ use Rattle.growth_plan.proofs.total_in_millionths.Statement.{statement}
 use Rattle.growth_plan.proofs.total_in_millionths.Tie as tie
 
 abbrev Inv-loop : tie.InvT-loop
-Inv-loop growth flights holds sum₀ i₀ sum i = Summed growth flights holds sum i
+Inv-loop growth flights holds factors sum₀ i₀ sum i = Summed growth flights holds sum i
 
 abbrev μ-loop : tie.MeasureT-loop
-μ-loop growth flights holds sum₀ i₀ sum i = length holds - i
+μ-loop growth flights holds factors sum₀ i₀ sum i = length holds - i
+
+factor-table-requires : tie.Need-factor-table-requires Inv-loop μ-loop
+factor-table-requires c κs = search needs
 
 loop-holds : tie.Need-loop-holds Inv-loop μ-loop
-loop-holds c = summed-start _ (c .before .before .pre)
+loop-holds c = summed-start _ (c .before .before .before .pre)
 
 rate-of-requires : tie.Need-rate-of-requires Inv-loop μ-loop
-rate-of-requires c κs = summed-there (c .before .loop .inv) (c .loop-test .taken)
+rate-of-requires c κs = summed-there (c .before .before .loop .inv) (c .before .loop-test .taken)
 
 mul-wide : tie.Need-mul-wide Inv-loop μ-loop
 mul-wide c = search needs
@@ -32,15 +35,16 @@ wide-requires c κs = search needs
 growth-cost-requires : tie.Need-growth-cost-requires Inv-loop μ-loop
 growth-cost-requires c κs =
     let at-rate = c .before .before in
-    let at-test = at-rate .before in
+    let at-test = at-rate .before .before in
+    let at-factors = at-test .before .before in
     let w = summed-can (at-test .before .loop .inv) (at-test .loop-test .taken) in
-    (w .0, omega (arith, w .1, at-rate .rate-of .ensures .0), omega (arith, w .2, c .wide .ensures))
+    (at-factors .factor-table .ensures, w .0, omega (arith, w .1, at-rate .rate-of .ensures .0), omega (arith, w .2, c .wide .ensures))
 
 add-sum : tie.Need-add-sum Inv-loop μ-loop
 add-sum c =
     let at-wide = c .before in
     let at-rate = at-wide .before .before in
-    let at-test = at-rate .before in
+    let at-test = at-rate .before .before in
     omega (arith, summed-fits (at-test .before .loop .inv) (at-test .loop-test .taken) (at-rate .rate-of .ensures .0) (at-wide .wide .ensures) (c .growth-cost .ensures))
 
 add-i : tie.Need-add-i Inv-loop μ-loop
@@ -53,7 +57,7 @@ loop-again : tie.Need-loop-again Inv-loop μ-loop
 loop-again c =
     let at-wide = c .before in
     let at-rate = at-wide .before .before in
-    let at-test = at-rate .before in
+    let at-test = at-rate .before .before in
     summed-next (at-test .before .loop .inv) (at-test .loop-test .taken) (at-rate .rate-of .ensures .0) (at-wide .wide .ensures) (c .growth-cost .ensures)
 
 returns : tie.Need-returns Inv-loop μ-loop
@@ -65,6 +69,7 @@ total-in-millionths-spec =
     (tie.spec
     Inv-loop
     μ-loop
+    factor-table-requires
     loop-holds
     rate-of-requires
     mul-wide

@@ -10,10 +10,10 @@ use Rattle.quick_plan.proofs.first_waiting.Statement.{statement}
 use Rattle.quick_plan.proofs.first_waiting.Tie as tie
 
 abbrev Inv-loop : tie.InvT-loop
-Inv-loop next capacities flights holds j n best₀ highest₀ i₀ best highest i = Scan (day capacities flights) (nextCost next flights j) holds j n i best highest
+Inv-loop next factors capacities flights holds j n best₀ highest₀ i₀ best highest i = Scan (day capacities flights) (nextCost next flights j) holds j n i best highest
 
 abbrev μ-loop : tie.MeasureT-loop
-μ-loop next capacities flights holds j n best₀ highest₀ i₀ best highest i = n - i
+μ-loop next factors capacities flights holds j n best₀ highest₀ i₀ best highest i = n - i
 
 loop-holds : tie.Need-loop-holds Inv-loop μ-loop
 loop-holds c = scan-start _ (c .before .before .before .pre .0) (c .before .before .before .pre .1)
@@ -30,7 +30,7 @@ next-cost-requires c κs =
     let at-loop-test = at-is-waiting .before in
     let at-loop = at-loop-test .before in
     let at-start = at-loop .before .before .before .before in
-    (at-start .pre .2, scan-due (at-loop .loop .inv) (at-loop-test .loop-test .taken) (at-is-waiting .is-waiting .ensures) (c .if1 .taken))
+    (at-start .pre .2, at-start .pre .3, scan-due (at-loop .loop .inv) (at-loop-test .loop-test .taken) (at-is-waiting .is-waiting .ensures) (c .if1 .taken))
 
 goes-before-requires : tie.Need-goes-before-requires Inv-loop μ-loop
 goes-before-requires c κs =

@@ -9,10 +9,10 @@ use Rattle.quick_plan.proofs.land_period.Statement.{statement}
 use Rattle.quick_plan.proofs.land_period.Tie as tie
 
 abbrev Inv-loop : tie.InvT-loop
-Inv-loop next capacities flights holds₀ j n left₀ holds left = Landing (day capacities flights) (nextCost next flights j) j (capacity (day capacities flights) j) holds₀ left holds
+Inv-loop next factors capacities flights holds₀ j n left₀ holds left = Landing (day capacities flights) (nextCost next flights j) j (capacity (day capacities flights) j) holds₀ left holds
 
 abbrev μ-loop : tie.MeasureT-loop
-μ-loop next capacities flights holds₀ j n left₀ holds left = left
+μ-loop next factors capacities flights holds₀ j n left₀ holds left = left
 
 of-period-requires : tie.Need-of-period-requires Inv-loop μ-loop
 of-period-requires c κs = search needs
@@ -20,12 +20,12 @@ of-period-requires c κs = search needs
 loop-holds : tie.Need-loop-holds Inv-loop μ-loop
 loop-holds c =
     let at-start = c .before .before .before .before in
-    landing-start _ (at-start .pre .0) (at-start .pre .3) (at-start .pre .1) (c .of-period .ensures .0)
+    landing-start _ (at-start .pre .0) (at-start .pre .4) (at-start .pre .1) (c .of-period .ensures .0)
 
 first-waiting-requires : tie.Need-first-waiting-requires Inv-loop μ-loop
 first-waiting-requires c κs =
     let at-start = c .before .before .before .before .before .before .before in
-    (at-start .pre .0, search needs, at-start .pre .2)
+    (at-start .pre .0, search needs, at-start .pre .2, at-start .pre .3)
 
 same-length : tie.Need-same-length Inv-loop μ-loop
 same-length c = search needs

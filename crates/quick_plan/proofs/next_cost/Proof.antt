@@ -25,8 +25,8 @@ further-cost-requires c κs =
     let at-next = c .before .before in
     let at-rate = at-next .before .before in
     let at-start = at-rate .before .before in
-    let w = growing-within (at-start .args .flights .now) (at-start .args .j) (at-start .args .i) (at-next .next .given .1) (at-start .pre .0) in
-    (w .0, at-rate .rate-of .ensures .1, omega (arith, w .1, at-start .pre .1 .from, c .due-of .ensures .0))
+    let w = growing-within (at-start .args .flights .now) (at-start .args .j) (at-start .args .i) (at-next .next .given .1) (at-start .pre .1) in
+    (at-start .pre .0, w .0, at-rate .rate-of .ensures .1, omega (arith, w .1, at-start .pre .2 .from, c .due-of .ensures .0))
 
 returns : tie.Need-returns
 returns c =
