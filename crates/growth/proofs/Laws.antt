@@ -4,29 +4,12 @@ use mathlib.Core.Path.{_≡_, refl, sym, ap, _∙_}
 use Prim.Native.Nat.{ℕ, zero, suc, _+_, _-_, _*_, _^_, _≤_, _<_}
 use native.Mathlib.Omega.{arith}
 use native.Mathlib.Numerals.{add-one}
-use native.Mathlib.Nat.{zero-add, suc-add, pow-suc, pow-zero, mul-assoc, mul-right-comm, mul-le-mul, mul-le-mul-left, mul-le-mul-right, pow-le-pow-left, pow-le-pow-right}
-use mathlib.Core.Bool.{Bool, true}
-use mathlib.Core.List.{List, []}
-use lib.Dec.{leb→le, eqb}
-use lib.ListN.{getD}
-use borrow.Author.Tests.{eqb-true}
+use native.Mathlib.Nat.{zero-add, suc-add, pow-suc, mul-assoc, mul-right-comm, mul-le-mul, mul-le-mul-left, mul-le-mul-right, pow-le-pow-left}
+use lib.Dec.{leb→le}
 use lib.Pow.{pow-add}
 use Rattle.assignment.specs.Sum.{sum}
 use Rattle.assignment.proofs.Sums.{sum-grow, sum-le}
-use Rattle.day.specs.Day.{all}
-use Rattle.day.proofs.Tests.{all-at}
-use Rattle.growth.specs.Growth.{factor, FactorTable, furtherCost, growthCost}
-
--- ---- the table
-
--- the test: every entry of 41 rows of six is its factor
-unfoldable pub isTable : List (List ℕ) → Bool
-isTable rows = all 41 (λ a. all 6 (λ t. eqb (getD (getD rows a []) t 0) (factor a t)))
-
--- what the test says of each entry
-pub table-rule : (rows : List (List ℕ)) → isTable rows ≡ true → FactorTable rows
-unfolding isTable FactorTable
-table-rule rows e a t g l = eqb-true _ _ (all-at 6 _ (all-at 41 _ e a (omega arith)) t l)
+use Rattle.growth.specs.Growth.{factor, furtherCost, growthCost}
 
 -- ---- factors
 

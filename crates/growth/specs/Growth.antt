@@ -22,7 +22,7 @@ growthFits a periods = leb a mostGrowth && leb periods mostGrowthPeriods
 unfoldable pub factor : (a t : ℕ) → ℕ
 factor a t = (10 + a) ^ t * 10 ^ (6 - t)
 
--- the rows of a table of factors, one for each growth (#106): "Each entry is proved to be its factor."
+-- these rows are the factors' table, a row for each growth (#106): "Each entry is proved to be its factor."
 unfoldable pub FactorTable : List (List ℕ) → Type 0
 FactorTable rows = (a t : ℕ) → a ≤ mostGrowth → t < mostGrowthPeriods → getD (getD rows a []) t 0 ≡ factor a t
 

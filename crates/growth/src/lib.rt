@@ -54,7 +54,7 @@ const FACTORS: [[u32; 6]; 41] = [
     [1000000, 5000000, 25000000, 125000000, 625000000, 3125000000], // a = 40
 ];
 
-// The table, to be lent on: a constant is put together anew wherever it is read.
+// The table, made once for a plan and lent on: the compiler puts a constant together anew wherever it is read.
 pub fn factor_table() -> [[u32; 6]; 41]
     ensures { λ r. ⌜ FactorTable r ⌝ }
 {
@@ -62,7 +62,7 @@ pub fn factor_table() -> [[u32; 6]; 41]
 }
 
 // What the t-th further period of hold costs, t from 0, in millionths of the rate.
-pub fn factor(factors: &[[u32; 6]; 41], growth: usize, t: usize) -> usize
+fn factor(factors: &[[u32; 6]; 41], growth: usize, t: usize) -> usize
     requires { ⌜ FactorTable (now factors) × (growth ≤ mostGrowth) × (t < mostGrowthPeriods) ⌝ }
     ensures { λ r. ⌜ r ≡ factor growth t ⌝ }
 {

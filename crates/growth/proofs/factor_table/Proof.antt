@@ -2,7 +2,7 @@
 use mathlib.Core.Path.{refl}
 use Rattle.day.specs.Day.{all}
 use Rattle.growth.specs.Growth.{factor}
-use Rattle.growth.proofs.Laws.{isTable, table-rule}
+use Rattle.growth.proofs.Table.{isTable, table-rule}
 use Rattle.growth.proofs.factor_table.Statement.{statement}
 use Rattle.growth.proofs.factor_table.Tie as tie
 
