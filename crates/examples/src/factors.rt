@@ -2,7 +2,7 @@
 use crate::show::put;
 use crate::show::put_row;
 
-// ` factors of growth tenths: six numbers`
+// ` growth tenths:`, then the six factors, t from 0 to 5; the file stdout has them worked out by hand.
 pub fn show_factors() {
     let factors = growth::factor_table();
     put(b"\n");
