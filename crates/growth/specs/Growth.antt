@@ -22,9 +22,9 @@ growthFits a periods = leb a mostGrowth && leb periods mostGrowthPeriods
 unfoldable pub factor : (a t : ℕ) → ℕ
 factor a t = (10 + a) ^ t * 10 ^ (6 - t)
 
--- these rows are the factors' table, a row for each growth (#106): "Each entry is proved to be its factor."
-unfoldable pub FactorTable : List (List ℕ) → Type 0
-FactorTable rows = (a t : ℕ) → a ≤ mostGrowth → t < mostGrowthPeriods → getD (getD rows a []) t 0 ≡ factor a t
+-- these rows hold the factors, a row for each growth (#106): "Each entry is proved to be its factor."
+unfoldable pub HoldsFactors : List (List ℕ) → Type 0
+HoldsFactors rows = (a t : ℕ) → a ≤ mostGrowth → t < mostGrowthPeriods → getD (getD rows a []) t 0 ≡ factor a t
 
 -- "The t-th further period of hold, t from 0, costs rate × (10 + a)^t × 10^(6−t) millionths."
 unfoldable pub furtherCost : (a rate t : ℕ) → ℕ

@@ -2,15 +2,19 @@
 use day::wide;
 ghost use mathlib.Core.Path.{_≡_};
 ghost use Prim.Native.Nat.{_^_, _≤_, _<_};
-ghost use Rattle.growth.specs.Growth.{factor, FactorTable, furtherCost, growthCost, mostGrowth, mostGrowthPeriods};
+ghost use Rattle.growth.specs.Growth.{factor, HoldsFactors, furtherCost, growthCost, mostGrowth, mostGrowthPeriods};
 
 // The greatest growth, in tenths, and the most periods of a day that has one.
 pub const GROWTH: usize = 40;
 
 pub const GROWTH_PERIODS: usize = 6;
 
-// (10 + a)^t × 10^(6−t): a row for each growth of a tenths, and in it the factors of the further periods t = 0 to 5.
-const FACTORS: [[u32; 6]; 41] = [
+// A row of six factors for each growth.
+pub type FactorTable = [[u32; 6]; 41];
+
+// The factors (10 + a)^t × 10^(6−t): a row for each growth of a tenths, and in it t from 0 to 5. To check it by eye: each row begins with
+// 1000000, and each number is the one before it times (10 + a)/10.
+const FACTORS: FactorTable = [
     [1000000, 1000000, 1000000, 1000000, 1000000, 1000000], // a = 0
     [1000000, 1100000, 1210000, 1331000, 1464100, 1610510], // a = 1
     [1000000, 1200000, 1440000, 1728000, 2073600, 2488320], // a = 2
@@ -55,31 +59,31 @@ const FACTORS: [[u32; 6]; 41] = [
 ];
 
 // The table, made once for a plan and lent on: the compiler puts a constant together anew wherever it is read.
-pub fn factor_table() -> [[u32; 6]; 41]
-    ensures { λ r. ⌜ FactorTable r ⌝ }
+pub fn factor_table() -> FactorTable
+    ensures { λ r. ⌜ HoldsFactors r ⌝ }
 {
     FACTORS
 }
 
 // What the t-th further period of hold costs, t from 0, in millionths of the rate.
-fn factor(factors: &[[u32; 6]; 41], growth: usize, t: usize) -> usize
-    requires { ⌜ FactorTable (now factors) × (growth ≤ mostGrowth) × (t < mostGrowthPeriods) ⌝ }
+fn factor(factors: &FactorTable, growth: usize, t: usize) -> usize
+    requires { ⌜ HoldsFactors (now factors) × (growth ≤ mostGrowth) × (t < mostGrowthPeriods) ⌝ }
     ensures { λ r. ⌜ r ≡ factor growth t ⌝ }
 {
     wide(factors[growth][t])
 }
 
 // What the t-th further period of hold costs a flight.
-pub fn further_cost(factors: &[[u32; 6]; 41], growth: usize, rate: usize, t: usize) -> usize
-    requires { ⌜ FactorTable (now factors) × (growth ≤ mostGrowth) × (rate < 2 ^ 32) × (t < mostGrowthPeriods) ⌝ }
+pub fn further_cost(factors: &FactorTable, growth: usize, rate: usize, t: usize) -> usize
+    requires { ⌜ HoldsFactors (now factors) × (growth ≤ mostGrowth) × (rate < 2 ^ 32) × (t < mostGrowthPeriods) ⌝ }
     ensures { λ r. ⌜ r ≡ furtherCost growth rate t ⌝ }
 {
     rate * factor(factors, growth, t)
 }
 
 // What a hold costs a flight.
-pub fn growth_cost(factors: &[[u32; 6]; 41], growth: usize, rate: usize, hold: usize) -> usize
-    requires { ⌜ FactorTable (now factors) × (growth ≤ mostGrowth) × (rate ≤ 10000) × (hold ≤ mostGrowthPeriods) ⌝ }
+pub fn growth_cost(factors: &FactorTable, growth: usize, rate: usize, hold: usize) -> usize
+    requires { ⌜ HoldsFactors (now factors) × (growth ≤ mostGrowth) × (rate ≤ 10000) × (hold ≤ mostGrowthPeriods) ⌝ }
     ensures { λ r. ⌜ r ≡ growthCost growth rate hold ⌝ }
 {
     let mut sum = 0;

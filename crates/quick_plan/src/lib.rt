@@ -10,6 +10,7 @@ use day::is_valid;
 use day::of_period;
 use day::rate_of;
 use day::wide;
+use growth::FactorTable;
 use growth::factor_table;
 use growth::further_cost;
 use legality::total_of;
@@ -20,7 +21,7 @@ ghost use lib.ListN.{length};
 ghost use Rattle.assignment.specs.Rows.{row};
 ghost use Rattle.day.specs.Day.{lent, N, mostPeriods, width, capacity, valid};
 ghost use Rattle.day.specs.Plan.{jumpOrLimit, firstJumpOrLimit};
-ghost use Rattle.growth.specs.Growth.{FactorTable};
+ghost use Rattle.growth.specs.Growth.{HoldsFactors};
 ghost use Rattle.quick_plan.specs.NextCost.{nextCost, fits};
 ghost use Rattle.quick_plan.specs.Quick.{before};
 ghost use Rattle.quick_plan.specs.Loop.{DueBy, closing, waiting, top, landAll, rowTo};
@@ -39,8 +40,8 @@ pub enum QuickCheck {
 }
 
 // What one more period of hold costs flight i in period j.
-fn next_cost(next: NextCost, factors: &[[u32; 6]; 41], flights: &[u32], j: usize, i: usize) -> usize
-    requires { ⌜ FactorTable (now factors) × (fits next j ≡ true) × DueBy (now flights) j i ⌝ }
+fn next_cost(next: NextCost, factors: &FactorTable, flights: &[u32], j: usize, i: usize) -> usize
+    requires { ⌜ HoldsFactors (now factors) × (fits next j ≡ true) × DueBy (now flights) j i ⌝ }
     ensures { λ r. ⌜ r ≡ nextCost next (now (flights .entry)) j i ⌝ }
 {
     let rate = rate_of(flights, i);
@@ -84,13 +85,13 @@ pub fn is_waiting(capacities: &[u32], flights: &[u32], holds: &[u32], j: usize, 
 // far is kept, so that each is worked out once.
 fn first_waiting(
     next: NextCost,
-    factors: &[[u32; 6]; 41],
+    factors: &FactorTable,
     capacities: &[u32],
     flights: &[u32],
     holds: &[u32],
     j: usize,
 ) -> usize
-    requires { ⌜ (valid (lent capacities flights) ≡ true) × (length (now holds) ≡ N (lent capacities flights)) × FactorTable (now factors) × (fits next j ≡ true) ⌝ }
+    requires { ⌜ (valid (lent capacities flights) ≡ true) × (length (now holds) ≡ N (lent capacities flights)) × HoldsFactors (now factors) × (fits next j ≡ true) ⌝ }
     ensures { λ r. ⌜ r ≡ top (lent (capacities .entry) (flights .entry)) (nextCost next (now (flights .entry)) j) j (now (holds .entry)) ⌝ }
 {
     let n = holds.len();
@@ -114,13 +115,13 @@ fn first_waiting(
 // Lands as many flights as period j takes, or all that wait.
 fn land_period(
     next: NextCost,
-    factors: &[[u32; 6]; 41],
+    factors: &FactorTable,
     capacities: &[u32],
     flights: &[u32],
     holds: &mut [u32],
     j: usize,
 )
-    requires { ⌜ (valid (lent capacities flights) ≡ true) × (length (now holds) ≡ N (lent capacities flights)) × FactorTable (now factors) × (fits next j ≡ true) × (j ≤ length (now capacities)) ⌝ }
+    requires { ⌜ (valid (lent capacities flights) ≡ true) × (length (now holds) ≡ N (lent capacities flights)) × HoldsFactors (now factors) × (fits next j ≡ true) × (j ≤ length (now capacities)) ⌝ }
     ensures { λ _. ⌜ now (holds .exit) ≡ landAll (lent (capacities .entry) (flights .entry)) (nextCost next (now (flights .entry)) j) j (capacity (lent (capacities .entry) (flights .entry)) j) (now (holds .entry)) ⌝ }
 {
     let n = holds.len();

@@ -1,7 +1,7 @@
 -- The table's rule at the entry that is read. Assumes nothing.
 use borrow.Author.Needs.{needs}
 use mathlib.Core.Path.{_∙_}
-use Rattle.growth.specs.Growth.{FactorTable}
+use Rattle.growth.specs.Growth.{HoldsFactors}
 use Rattle.growth.proofs.factor.Statement.{statement}
 use Rattle.growth.proofs.factor.Tie as tie
 
@@ -21,7 +21,7 @@ wide-requires : tie.Need-wide-requires
 wide-requires c κs = search needs
 
 returns : tie.Need-returns
-unfolding FactorTable
+unfolding HoldsFactors
 returns c = let p = c .before .before .pre in c .wide .ensures ∙ p .0 _ _ (p .1) (p .2)
 
 pub factor-spec : {M : Type 1} → statement M
