@@ -23,6 +23,7 @@ use Rattle.answers.specs.declared.Answer.the-variants.{
   BadForecasts,
   BadTerms,
   BadGrowth,
+  BadPlanText,
 }
 use Rattle.answers.specs.declared.Code.{Code}
 
@@ -49,6 +50,7 @@ codeOf (NoSuchPeriod periods) = code 11 periods 0
 codeOf BadForecasts = code 12 0 0
 codeOf BadTerms = code 13 0 0
 codeOf BadGrowth = code 14 0 0
+codeOf (BadPlanText line) = code 15 line 0
 
 -- an answer, and the hold row after the call
 pub record Outcome : Type 0 where

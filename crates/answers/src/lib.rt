@@ -22,6 +22,7 @@ pub enum Answer {
     BadForecasts,
     BadTerms,
     BadGrowth,
+    BadPlanText { line: usize },
 }
 
 // The answer as documents 01 and 02 number it.
@@ -64,5 +65,6 @@ pub fn code_of(answer: Answer) -> Code
         Answer::BadForecasts => coded(12, 0, 0),
         Answer::BadTerms => coded(13, 0, 0),
         Answer::BadGrowth => coded(14, 0, 0),
+        Answer::BadPlanText { line } => coded(15, line, 0),
     }
 }

@@ -6,3 +6,4 @@ pub mod Valid
 pub mod Instance
 pub mod Existence
 pub mod Prices
+pub mod Copying

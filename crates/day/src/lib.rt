@@ -2,7 +2,8 @@
 ghost use mathlib.Core.Path.{_≡_};
 ghost use mathlib.Core.Bool.{true, false, _&&_, _||_};
 ghost use Prim.Native.Nat.{_+_, _*_, _/_, _%_, _^_, _<_, _≤_};
-ghost use lib.ListN.{length};
+ghost use mathlib.Core.List.{_++_};
+ghost use lib.ListN.{length, take, drop};
 ghost use lib.Dec.{leb};
 ghost use Rattle.day.specs.Day.{lent, mostPeriods, mostFlights, column, numberOf, dueOf, rateOf, limitOf, width, flightAt, flightCount, ofPeriod, takes, holdCost, landOf, latestOf, all, inside, missing, flightFits, capacitiesFit, inRange, isNew, valid};
 ghost use Rattle.day.specs.Flights.{withFlight};
@@ -42,6 +43,18 @@ pub fn wide(x: u32) -> usize
     ensures { λ r. ⌜ r ≡ x ⌝ }
 {
     x as usize
+}
+
+// The front n of one row onto the front of another.
+pub fn copy_front(from: &[u32], to: &mut [u32], n: usize)
+    requires { ⌜ (n ≤ length (now from)) × (n ≤ length (now to)) ⌝ }
+    ensures { λ _. ⌜ now (to .exit) ≡ take n (now (from .entry)) ++ drop n (now (to .entry)) ⌝ }
+{
+    let mut i = 0;
+    while i < n {
+        to[i] = from[i];
+        i += 1;
+    }
 }
 
 // How many flights the row has.

@@ -3,6 +3,7 @@
 ghost use mathlib.Core.Path.{_≡_};
 ghost use mathlib.Core.Bool.{true};
 ghost use Rattle.answers.specs.Answers.{codeOf};
+ghost use Rattle.answers.specs.Decides.{Decides};
 ghost use Rattle.day.specs.Day.{lent, valid};
 ghost use Rattle.day.specs.Plan.{Cheapest, Accepted};
 ghost use Rattle.sheet.specs.Sheet.{reading, answerOf, capacitiesAfter, flightsAfter};
@@ -10,7 +11,6 @@ ghost use Rattle.sheet_writer.specs.Write.{writeAnswer, writeAfter};
 ghost use Rattle.quick_plan.specs.Calls.{quickPlan};
 ghost use Rattle.growth_plan.specs.Growing.{growthPlan};
 ghost use Rattle.period_card.specs.PeriodCard.{periodCard};
-ghost use Rattle.price_check.specs.Decides.{Decides};
 ghost use Rattle.choice.specs.Choice.{choice};
 ghost use Rattle.board.specs.Board.{boardAnswer, boardAfter};
 ghost use Rattle.plan_text.specs.PlanText.{planTextAnswer, planTextAfter};

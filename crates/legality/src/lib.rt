@@ -25,7 +25,7 @@ pub enum PlanCheck {
 }
 
 // A landing of the flight at table place i in period k is after the closing period or over its limit.
-fn is_too_long(capacities: &[u32], flights: &[u32], i: usize, k: usize) -> bool
+pub fn is_too_long(capacities: &[u32], flights: &[u32], i: usize, k: usize) -> bool
     requires { ⌜ ((i + 1) * width ≤ length (now flights)) × (length (now capacities) ≤ mostPeriods) ⌝ }
     ensures { λ r. ⌜ r ≡ tooLong (lent (capacities .entry) (flights .entry)) i k ⌝ }
 {

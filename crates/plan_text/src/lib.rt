@@ -23,12 +23,16 @@ use text::put_number_at;
 
 const LINE_END: u8 = 10;
 
-const PLAN_NAMES: [u8; 27] = *b"flight,due,lands,hold,cost\n";
+pub const PLAN_NAMES_LEN: usize = 27;
 
-const TOTAL_NAME: [u8; 6] = *b"total\n";
+pub const PLAN_NAMES: [u8; 27] = *b"flight,due,lands,hold,cost\n";
+
+pub const TOTAL_NAME_LEN: usize = 6;
+
+pub const TOTAL_NAME: [u8; 6] = *b"total\n";
 
 // Both fixed lines together.
-const NAMES_LEN: usize = 33;
+const NAMES_LEN: usize = PLAN_NAMES_LEN + TOTAL_NAME_LEN;
 
 // The numbers of a flight's line but for its cost.
 fn values_of(flights: &[u32], holds: &[u32], i: usize) -> [usize; 4]
@@ -81,7 +85,8 @@ fn put_plan_lines(out: &mut [u8], start: usize, flights: &[u32], holds: &[u32]) 
     at
 }
 
-fn plan_lines_len(flights: &[u32], holds: &[u32]) -> usize
+// How many bytes the lines of as many flights as there are holds take.
+pub fn plan_lines_len(flights: &[u32], holds: &[u32]) -> usize
     requires { ⌜ (length (now holds) * width ≤ length (now flights)) × (length (now holds) ≤ mostFlights) ⌝ }
     ensures { λ r. ⌜ (r ≡ length (planLines (now (flights .entry)) (now (holds .entry)) (length (now (holds .entry))) 0)) × (r ≤ 13440) ⌝ }
 {

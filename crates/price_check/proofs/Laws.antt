@@ -22,7 +22,8 @@ use Rattle.answers.specs.declared.Answer.{Answer}
 use Rattle.legality.specs.Check.{planCheck}
 use Rattle.legality.specs.declared.PlanCheck.the-variants as found
 use Rattle.legality.proofs.Found.{found-legal, found-refused}
-use Rattle.price_check.specs.Decides.{Decides, Unsold, Least, Best}
+use Rattle.answers.specs.Decides.{Decides}
+use Rattle.price_check.specs.Check.{Unsold, Least, Best}
 
 true-false : true ≡ false → ⊥
 true-false e = omega (arith, ap {B = ℕ} (λ b. cond b 1 0) e)

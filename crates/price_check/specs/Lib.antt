@@ -1,1 +1,1 @@
-pub mod Decides
+pub mod Check

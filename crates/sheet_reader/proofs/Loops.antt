@@ -100,20 +100,6 @@ module _ {s caps : List ℕ} {n at : ℕ} (r : PeriodsRead s caps n at) where
               so-far = r .so-far ∙ rw (one-more, e, p, count-is, eq-eqb j (n + 1) z, le-leb c 255 q, add-one n, t);
             }
 
--- a row copied
-
-pub copy-step : (from to₀ to : List ℕ) (i : ℕ) → i < length from → i < length to₀ → to ≡ take i from ++ drop i to₀
-    → set to i (getD from i 0) ≡ take (i + 1) from ++ drop (i + 1) to₀
-copy-step from to₀ to i h g e =
-    rw (
-      e,
-      add-one,
-      drop-cons to₀ i 0 g,
-      set-at (take i from) (getD to₀ i 0) (drop (suc i) to₀) (getD from i 0) i (length-take-le i from (omega arith)),
-      take-suc from i 0 h,
-      append-assoc,
-    )
-
 pub flights-start : (s : List ℕ) (start p : ℕ) (row : List ℕ) → start ≤ length s → p ≤ mostPeriods → length row ≡ mostFlights * width
     → FlightsRead s start p row 0 start
 unfolding firstFlights

@@ -17,6 +17,7 @@ use day::Flight;
 use day::MISSING;
 use day::PERIODS;
 use day::WIDTH;
+use day::copy_front;
 use day::flight_fits;
 use day::number_of;
 use day::put_flight;
@@ -233,18 +234,6 @@ fn read_flights(s: &[u8], start: usize, p: usize, row: &mut [u32; FLIGHT_ROW]) -
         at = next;
     }
     Listing::Listed(n)
-}
-
-// The front n of one row onto the front of another.
-fn copy_front(from: &[u32], to: &mut [u32], n: usize)
-    requires { ⌜ (n ≤ length (now from)) × (n ≤ length (now to)) ⌝ }
-    ensures { λ _. ⌜ now (to .exit) ≡ take n (now (from .entry)) ++ drop n (now (to .entry)) ⌝ }
-{
-    let mut i: usize = 0;
-    while i < n {
-        to[i] = from[i];
-        i += 1;
-    }
 }
 
 // The flight lines and, where they are read too, the day into the lent rows.

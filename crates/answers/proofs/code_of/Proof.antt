@@ -114,6 +114,12 @@ enum-told-6 c = search needs
 coded-requires-18 : tie.Need-coded-requires-18
 coded-requires-18 c κs = search needs
 
+enum-known-answer-13 : tie.Need-enum-known-answer-13
+enum-known-answer-13 c = search needs
+
+coded-requires-19 : tie.Need-coded-requires-19
+coded-requires-19 c κs = search needs
+
 returns : tie.Need-returns
 returns c = c .coded .ensures ∙ ap codeOf (sym (c .before .before .answer .given .1))
 
@@ -168,6 +174,9 @@ returns-17 c = c .coded17 .ensures ∙ ap codeOf (sym (c .before .enum-told5 .gi
 returns-18 : tie.Need-returns-18
 returns-18 c = c .coded18 .ensures ∙ ap codeOf (sym (c .before .enum-told6 .given .1))
 
+returns-19 : tie.Need-returns-19
+returns-19 c = c .coded19 .ensures ∙ ap codeOf (sym (c .before .before .answer13 .given .1))
+
 pub code-of-spec : {M : Type 1} → statement M
 code-of-spec =
     tie.close
@@ -208,6 +217,8 @@ code-of-spec =
     coded-requires-17
     enum-told-6
     coded-requires-18
+    enum-known-answer-13
+    coded-requires-19
     returns
     returns-2
     returns-3
@@ -225,4 +236,5 @@ code-of-spec =
     returns-15
     returns-16
     returns-17
-    returns-18)
+    returns-18
+    returns-19)

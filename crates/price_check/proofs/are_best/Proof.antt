@@ -7,7 +7,7 @@ use Prim.Native.Nat.{ℕ, _≤_, _<_, _-_}
 use native.Mathlib.Omega.{arith}
 use lib.ListN.{length}
 use Rattle.day.specs.Day.{day}
-use Rattle.price_check.specs.Decides.{Best}
+use Rattle.price_check.specs.Check.{Best}
 use Rattle.price_check.proofs.Laws.{say-yes, say-no}
 use Rattle.price_check.proofs.are_best.Statement.{statement}
 use Rattle.price_check.proofs.are_best.Tie as tie

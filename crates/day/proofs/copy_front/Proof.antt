@@ -1,5 +1,5 @@
 -- After i turns the first i entries are copied.
-use Rattle.sheet_reader.proofs.Loops.{copy-step}
+use Rattle.day.proofs.Copying.{copy-step}
 use lib.ListN.{length-set}
 use borrow.Author.Needs.{needs}
 use lib.ListN.{length, take, drop}
@@ -7,8 +7,8 @@ use mathlib.Core.List.{_++_}
 use Prim.Native.Nat.{_≤_, _-_}
 use native.Mathlib.Omega.{arith}
 use mathlib.Core.Path.{_≡_, _∙_}
-use Rattle.sheet_reader.proofs.copy_front.Statement.{statement}
-use Rattle.sheet_reader.proofs.copy_front.Tie as tie
+use Rattle.day.proofs.copy_front.Statement.{statement}
+use Rattle.day.proofs.copy_front.Tie as tie
 
 abbrev Inv-loop : tie.InvT-loop
 Inv-loop from to₀ n i₀ to i = (i ≤ n) × (length to ≡ length to₀) × (to ≡ take i from ++ drop i to₀)

@@ -1,17 +1,9 @@
--- Yes or no to a statement.
+-- The two parts of the price check that follow legality, from period k and for flight i.
 -- Assumes nothing.
 use mathlib.Core.Path.{_≡_}
-use mathlib.Core.Bool.{Bool, true, false}
 use mathlib.Core.List.{List}
 use Prim.Native.Nat.{ℕ, _+_, _-_, _≤_, _<_}
 use Rattle.day.specs.Day.{Day, due, ofPeriod, capacity, cost, Window, hold, land, landings}
-
--- the answer r is yes exactly if A holds
-pub record Decides (r : Bool) (A : Type 0) : Type 0 where
-  pub yes : r ≡ true → A
-  pub no : r ≡ false → A → ⊥
-
--- the two parts of the price check that follow legality, from period k and for flight i
 
 -- "a period 1 to P that isn't full has price 0"
 pub record Unsold (d : Day) (holds prices : List ℕ) (k : ℕ) : Type 0 where
