@@ -47,13 +47,7 @@ pub fn take_landing(
 }
 
 // Gives the landing of the flight at table place i back, which was taken last.
-fn give_back(
-    capacities: &[u32],
-    flights: &[u32],
-    holds: &[u32],
-    i: usize,
-    left: &mut [u32],
-)
+fn give_back(capacities: &[u32], flights: &[u32], holds: &[u32], i: usize, left: &mut [u32])
     requires { ⌜ Partial (lent capacities flights) (now holds) (now left) (i + 1) ⌝ }
     ensures { λ _. ⌜ Partial (lent (capacities .entry) (flights .entry)) (now (holds .entry)) (now (left .exit)) i ⌝ }
 {

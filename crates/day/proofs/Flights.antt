@@ -26,7 +26,7 @@ due-read f row i e = ap (λ (g : Flight). g .due) e
 -- ---- columns
 
 -- places of the same numbers, column by column, have the same flight
-same-columns : (a b : List ℕ) (i k : ℕ) → ((j : ℕ) → j < width → column j a i ≡ column j b k) → flightAt a i ≡ flightAt b k
+pub same-columns : (a b : List ℕ) (i k : ℕ) → ((j : ℕ) → j < width → column j a i ≡ column j b k) → flightAt a i ≡ flightAt b k
 unfolding flightAt
 same-columns a b i k same =
     rw (

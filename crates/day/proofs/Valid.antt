@@ -46,7 +46,7 @@ or-true : (a b : Bool) → (a || b) ≡ true → (a ≡ true) ⊎ (b ≡ true)
 or-true true b e = inl refl
 or-true false b e = inr e
 
-range-means : (d : Day) (i : ℕ) → inRange (P d) (d .flights) i ≡ true → InRange (P d) (d .flights) i
+pub range-means : (d : Day) (i : ℕ) → inRange (P d) (d .flights) i ≡ true → InRange (P d) (d .flights) i
 unfolding flightFits flightAt
 range-means d i e =
     let lates = and-true e in
@@ -105,7 +105,7 @@ or-right : (a b : Bool) → b ≡ true → (a || b) ≡ true
 or-right true b e = refl
 or-right false b e = e
 
-range-from : (d : Day) (i : ℕ) → InRange (P d) (d .flights) i → inRange (P d) (d .flights) i ≡ true
+pub range-from : (d : Day) (i : ℕ) → InRange (P d) (d .flights) i → inRange (P d) (d .flights) i ≡ true
 unfolding flightFits flightAt
 range-from d i r =
     let number-in = inside-from 1 9999 (number d i) (r .number-from) (r .number-to) in

@@ -33,7 +33,7 @@ module _ (d : Day) (h : List ℕ) where
       ltb-false (capacity d (land d h i)) (count (suc i) (land d h) (land d h i)) (rw (le-leb (land d h i) (P d) l) at t)
 
   -- so no period is over it, flight by flight
-  upto : (n : ℕ) → ((i : ℕ) → i < n → breaks d h i ≡ false) → (k : ℕ) → k ≤ P d → count n (land d h) k ≤ capacity d k
+  pub upto : (n : ℕ) → ((i : ℕ) → i < n → breaks d h i ≡ false) → (k : ℕ) → k ≤ P d → count n (land d h) k ≤ capacity d k
   upto zero none k l = omega (arith, count-zero (land d h) k)
   upto (suc n) none k l = elim (eq? (land d h n) k) [
     | inl e ↦ rw e at (within n (none n (omega arith)) (rw e l))

@@ -1,0 +1,6 @@
+pub mod Ends
+pub mod Fronts
+pub mod Holds
+pub mod Ending
+pub mod Reading
+pub mod Meaning

@@ -10,7 +10,7 @@ use Rattle.text.specs.declared.Number.the-variants.{Value, Bad}
 use Rattle.text.specs.Digits.{digits, line}
 use Rattle.text.specs.Fixed.{startsWith}
 use Rattle.text.specs.Standing.{AllShort, Stands}
-use Rattle.day.specs.Day.{Day, N, numberOf, dueOf, flightAt, flightCount, holdCost, totalOf, total}
+use Rattle.day.specs.Day.{Day, N, mostPeriods, mostFlights, numberOf, dueOf, flightAt, flightCount, holdCost, totalOf, total, valid}
 use Rattle.day.specs.Plan.{Legal}
 use Rattle.legality.specs.Loop.{CanSum}
 use Rattle.plan_text.specs.PlanText.{planNames, planLines, planText}
@@ -101,13 +101,20 @@ pub record Diverges (t text : List ℕ) (at : ℕ) : Type 0 where
   pub beyond : (next : ℕ) → at < next → LineEnds text next → startsWith t (take next text) ≡ true → ⊥
   pub other : text ≡ t → ⊥
 
--- the text is the plan's, and this its total; or the line from which on it is not
+-- the text is the plan's, and this its total; or the line from which on it is not, behind those of the flights
 abbrev pub EndRead : (flights text holds : List ℕ) → End → Type 0
 EndRead flights text holds (Whole t) = (text ≡ planText flights holds) × (t ≡ totalOf flights holds)
-EndRead flights text holds (Wrong at) = Diverges (planText flights holds) text at
+EndRead flights text holds (Wrong at) = Diverges (planText flights holds) text at × (length (frontLines flights holds (flightCount flights)) ≤ at)
 
 -- ---- the whole text
 
 abbrev pub RowsRead : Day → (text holds : List ℕ) → End → Type 0
 RowsRead d text holds (Whole t) = Legal d holds × ((text ≡ planText (d .flights) holds) × (t ≡ total d holds))
 RowsRead d text holds (Wrong at) = FirstWrongLine d text at × ((plan : List ℕ) → Legal d plan → text ≡ planText (d .flights) plan → ⊥)
+
+-- a hold row of a valid day, and rows that are large enough for any day
+pub record LargeRows (d : Day) (holds row left : List ℕ) : Type 0 where
+  pub good : valid d ≡ true
+  pub each : length holds ≡ N d
+  pub row-long : length row ≡ mostFlights
+  pub left-long : length left ≡ mostPeriods

@@ -1,15 +1,14 @@
 // A plan text read back: the hold row of the legal plan whose text it is, or the first line with which no legal plan's text goes on.
 ghost use mathlib.Core.Path.{_≡_};
-ghost use mathlib.Core.Bool.{true};
 ghost use Prim.Native.Nat.{_+_, _*_, _≤_};
 ghost use lib.ListN.{length, drop};
 ghost use Rattle.answers.specs.Decides.{Decides};
 ghost use Rattle.text.specs.Fixed.{startsWith};
-ghost use Rattle.day.specs.Day.{lent, mostPeriods, mostFlights, width, N, valid};
+ghost use Rattle.day.specs.Day.{lent, width};
 ghost use Rattle.plan_text.specs.PlanText.{planNames, totalName};
 ghost use Rattle.completion.specs.Loop.{Partial};
 ghost use Rattle.plan_reader.specs.PlanReading.{TextRead, ReadPlan};
-ghost use Rattle.plan_reader.specs.Loop.{Shows, HoldRead, Read, LinesRead, BehindMost, CanEnd, EndRead, RowsRead};
+ghost use Rattle.plan_reader.specs.Loop.{Shows, HoldRead, Read, LinesRead, BehindMost, CanEnd, EndRead, RowsRead, LargeRows};
 use answers::Answer;
 use completion::Most;
 use completion::most_completed;
@@ -53,7 +52,7 @@ pub enum End {
 }
 
 // The numbers of a line are those of the flight at table place i with the hold that the line shows.
-fn shows_flight(flights: &[u32], i: usize, numbers: &[u32; 4], cost: u32) -> bool
+fn shows_flight(flights: &[u32], i: usize, numbers: &[u32], cost: u32) -> bool
     requires { ⌜ ((i + 1) * width ≤ length (now flights)) × (length (now numbers) ≡ 4) ⌝ }
     ensures { λ r. ⌜ Decides r (Shows (now (flights .entry)) i (now (numbers .entry)) cost) ⌝ }
 {
@@ -206,10 +205,10 @@ fn read_in(
     flights: &[u32],
     text: &[u8],
     holds: &mut [u32],
-    row: &mut [u32; FLIGHTS],
-    left: &mut [u32; PERIODS],
+    row: &mut [u32],
+    left: &mut [u32],
 ) -> Answer
-    requires { ⌜ (valid (lent capacities flights) ≡ true) × (length (now holds) ≡ N (lent capacities flights)) × (length (now row) ≡ mostFlights) × (length (now left) ≡ mostPeriods) ⌝ }
+    requires { ⌜ LargeRows (lent capacities flights) (now holds) (now row) (now left) ⌝ }
     ensures { λ r. ⌜ TextRead (lent (capacities .entry) (flights .entry)) (now (text .entry)) r (now (holds .entry)) (now (holds .exit)) ⌝ }
 {
     let n = holds.len();

@@ -20,7 +20,7 @@ module _ (f : List ℕ) where
   fields holds i rest = simp (append-assoc, append-nil)
 
   -- a line shows its hold, and what stands behind it
-  same-line : (h g : List ℕ) (i : ℕ) (xs ys : List ℕ) → planLine f h i ++ xs ≡ planLine f g i ++ ys → (hold h i ≡ hold g i) × (xs ≡ ys)
+  pub same-line : (h g : List ℕ) (i : ℕ) (xs ys : List ℕ) → planLine f h i ++ xs ≡ planLine f g i ++ ys → (hold h i ≡ hold g i) × (xs ≡ ys)
   same-line h g i xs ys e =
       let a = same-number 44 (column 0 f i) (column 0 f i) _ _ comma-no-digit (sym (fields h i xs) ∙ (e ∙ fields g i ys)) in
       let b = same-number 44 (column 1 f i) (column 1 f i) _ _ comma-no-digit (a .1) in
@@ -29,7 +29,7 @@ module _ (f : List ℕ) where
       let q = same-number 10 (holdCost (flightAt f i) (hold h i)) (holdCost (flightAt f i) (hold g i)) xs ys end-no-digit (p .1) in
       (p .0, q .1)
 
-  same-holds : (h g : List ℕ) (n i : ℕ) (xs ys : List ℕ) → planLines f h n i ++ xs ≡ planLines f g n i ++ ys
+  pub same-holds : (h g : List ℕ) (n i : ℕ) (xs ys : List ℕ) → planLines f h n i ++ xs ≡ planLines f g n i ++ ys
       → (k : ℕ) → k < n → hold h (i + k) ≡ hold g (i + k)
   unfolding planLines
   same-holds h g zero i xs ys e k l = absurd (omega arith)

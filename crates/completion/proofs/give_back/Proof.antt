@@ -1,45 +1,39 @@
+-- The landing was taken last: in the closing period nothing was taken, else one landing of what is left.
+-- Assumes nothing.
+use native.Mathlib.Omega.{arith}
 use borrow.Author.Needs.{needs}
+use Rattle.completion.proofs.Steps.{place-in, last-in, lands-from, lands-in, left-fits, back-closing, back-in}
 use Rattle.completion.proofs.give_back.Statement.{statement}
 use Rattle.completion.proofs.give_back.Tie as tie
-use Rattle.completion.proofs.give_back.Reads as reads
-use Rattle.completion.proofs.give_back.Lts as lts
-use Rattle.day.proofs.land_of.Reads as land-of-reads
 
--- src/lib.rt:60:9
 land-of-requires : tie.Need-land-of-requires
-land-of-requires c κs = ?
+land-of-requires c κs = let s = c .before .before .before .before .pre in place-in s (last-in s)
 
--- src/lib.rt:62:18
 sub-at : tie.Need-sub-at
-sub-at c = ?
+sub-at c = let s = c .before .before .before .before .before .before .pre in lands-from s (last-in s) (c .before .land-of .ensures .0)
 
--- src/lib.rt:63:9
 mul-left : tie.Need-mul-left
 mul-left c = search needs
 
--- src/lib.rt:63:9
 slice-read-left : tie.Need-slice-read-left
-slice-read-left c = ?
+slice-read-left c = let s = c .before .before .before .before .before .before .before .pre in lands-in s (last-in s) (c .before .before .land-of .ensures .0) (c .before .if1 .taken)
 
--- src/lib.rt:63:9
 add-left : tie.Need-add-left
-add-left c = ?
+add-left c =
+    let s = c .before .before .before .before .before .before .before .pre in
+    omega (arith, left-fits s (last-in s) (c .before .before .land-of .ensures .0) (c .before .if1 .taken))
 
--- src/lib.rt:63:9
 slice-write-left : tie.Need-slice-write-left
-slice-write-left c = ?
+slice-write-left c = slice-read-left c
 
--- src/lib.rt:50:1
 same-length : tie.Need-same-length
 same-length c = search needs
 
--- src/lib.rt:50:1
 returns : tie.Need-returns
-returns c = ?
+returns c = let s = c .before .before .before .before .before .before .before .pre in back-in s (c .before .before .land-of .ensures .0) (last-in s) (c .before .if1 .taken)
 
--- src/lib.rt:50:1
 returns-2 : tie.Need-returns-2
-returns-2 c = ?
+returns-2 c = back-closing (c .before .before .before .before .before .before .pre) (c .before .land-of .ensures .0) (c .if1 .left)
 
 pub give-back-spec : {M : Type 1} → statement M
 give-back-spec =

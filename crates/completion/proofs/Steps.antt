@@ -1,0 +1,198 @@
+-- The steps that code takes with holds so far: a landing is taken or given back, and holds are taken back until the rest has a plan.
+-- Assumes nothing.
+use mathlib.Core.Path.{_≡_, sym, ap, _∙_}
+use mathlib.Core.Logic.{inl, inr, _≢_}
+use mathlib.Core.Bool.{Bool, true, false}
+use mathlib.Core.List.{List}
+use Prim.Native.Nat.{ℕ, suc, _+_, _-_, _*_, _≤_, _<_}
+use native.Mathlib.Numerals.{add-one}
+use native.Mathlib.Omega.{arith}
+use lib.ListN.{length, getD, set, take, drop, length-set, length-drop}
+use lib.Seq.{take-all}
+use borrow.Author.Tests.{lt-ltb, le-ltb, le-leb, lt-leb}
+use Rattle.answers.specs.Decides.{Decides}
+use Rattle.assignment.specs.Sum.{count}
+use Rattle.assignment.specs.Moves.{Moved}
+use Rattle.assignment.proofs.Tests.{eq?, gate-eq, gate-ne}
+use Rattle.assignment.proofs.Sums.{count-suc}
+use Rattle.day.specs.Day.{Day, day, P, N, width, ofPeriod, capacity, land, valid}
+use Rattle.day.specs.Plan.{Picked, Short, tooLong, overCapacity, breaks}
+use Rattle.day.specs.Valid.{Valid}
+use Rattle.day.proofs.Costs.{period-in, period-moved}
+use Rattle.day.proofs.Existence.{HasPlan, plan-exactly}
+use Rattle.day.proofs.Valid.{valid-means, means-valid}
+use Rattle.legality.proofs.Meaning.{upto}
+use Rattle.completion.specs.Rest.{Completed, capacitiesLeft}
+use Rattle.completion.specs.Loop.{Partial}
+use Rattle.completion.proofs.Completion.{left-length, left-at, left-same, left-from, rest-valid, completed-by-rest}
+
+-- ---- one landing more
+
+count-here : (x : ℕ → ℕ) (i k : ℕ) → k ≡ x i → count (i + 1) x k ≡ count i x k + 1
+count-here x i k e = rw (add-one i) (omega (arith, count-suc i x k, gate-eq (x i) k 1 (sym e)))
+
+count-other : (x : ℕ → ℕ) (i k : ℕ) → k ≢ x i → count (i + 1) x k ≡ count i x k
+count-other x i k f = rw (add-one i) (omega (arith, count-suc i x k, gate-ne (x i) k 1 (λ e. f (sym e))))
+
+-- the row with one period's entry stored is what the first n leave, if only that period's landings differ
+left-set : (d : Day) (h left : List ℕ) (i n : ℕ) → left ≡ capacitiesLeft d h i → (k v : ℕ) → 1 ≤ k → k ≤ P d
+    → ((o : ℕ) → o ≢ k → count n (land d h) o ≡ count i (land d h) o) → v ≡ capacity d k - count n (land d h) k
+    → set left (k - 1) v ≡ capacitiesLeft d h n
+left-set d h left i n is k v from to others here = left-from d h (set left (k - 1) v) n (length-set left (k - 1) v ∙ each) at
+  where
+    each : length left ≡ P d
+    each = ap length is ∙ left-length d h i
+
+    moved : Moved (ofPeriod left) (ofPeriod (set left (k - 1) v)) k v
+    moved = period-moved left k v from (omega (arith, each))
+
+    at : (o : ℕ) → 1 ≤ o → o ≤ P d → ofPeriod (set left (k - 1) v) o ≡ capacity d o - count n (land d h) o
+    at o a b = elim (eq? o k) [
+      | inl e ↦ rw e (moved .here ∙ here)
+      | inr f ↦ omega (arith, moved .others o f, ap (λ row. ofPeriod row o) is, left-at d h i o a b, others o f)
+    ]
+
+-- ---- the flight at table place i of a day whose first n holds break nothing
+
+module _ {d : Day} {h left : List ℕ} {n i : ℕ} (s : Partial d h left n) (l : i < N d) where
+  pub place-in : (i < length h) × ((i + 1) * width ≤ length (d .flights))
+  place-in = (omega (arith, s .each), omega (arith, valid-means (s .good) .whole))
+
+  module _ {k : ℕ} (at-k : k ≡ land d h i) where
+    pub lands-from : 1 ≤ k
+    lands-from = omega (arith, valid-means (s .good) .flight i l .due-from)
+
+    pub lands-in : k ≤ P d → k - 1 < length left
+    lands-in to = omega (arith, ap length (s .left-is), left-length d h n, lands-from)
+
+    left-here : k ≤ P d → getD left (k - 1) 0 ≡ capacity d k - count n (land d h) k
+    left-here to = sym (period-in left k (omega (arith, lands-from))) ∙ rw (s .left-is) (left-at d h n k lands-from to)
+
+    pub left-fits : k ≤ P d → getD left (k - 1) 0 ≤ 255
+    left-fits to = omega (
+      arith,
+      left-here to,
+      period-in (d .capacities) k (omega (arith, lands-from)),
+      valid-means (s .good) .capacity-to (k - 1) (omega (arith, lands-from)),
+    )
+
+-- ---- a landing taken
+
+module _ {d : Day} {h left : List ℕ} {i k : ℕ} (s : Partial d h left i) (l : i < N d) (at-k : k ≡ land d h i) where
+  pub landing-long : tooLong d i k ≡ true → (breaks d h i ≡ true) × Partial d h left i
+  unfolding breaks
+  landing-long e = (rw (← at-k, e), s)
+
+  landed : {row : List ℕ} → breaks d h i ≡ false → row ≡ capacitiesLeft d h (i + 1) → Partial d h row (i + 1)
+  landed fine is = record { good = s .good; each = s .each; upto = omega arith; unbroken = record { none = none }; left-is = is }
+    where
+      none : (j : ℕ) → j < i + 1 → breaks d h j ≡ false
+      none j b = elim (eq? j i) [ inl e ↦ rw e fine | inr f ↦ s .unbroken .none j (omega arith) ]
+
+  module _ (short : tooLong d i k ≡ false) where
+    -- the closing period takes any number
+    pub landing-closing : P d < k → Partial d h left (i + 1)
+    unfolding breaks overCapacity
+    landing-closing past =
+        landed (rw (← at-k, short, lt-leb k (P d) past))
+        (s .left-is ∙ left-same d h h i (i + 1) (λ o a b. count-other (land d h) i o (λ e. omega arith)))
+
+    module _ (to : k ≤ P d) where
+      pub landing-full : getD left (k - 1) 0 ≡ 0 → (breaks d h i ≡ true) × Partial d h left i
+      unfolding breaks overCapacity
+      landing-full none = (rw (← at-k, short, le-leb k (P d) to) (lt-ltb _ _ over), s)
+        where
+          over : capacity d k < count (suc i) (land d h) k
+          over = rw (← add-one i) (omega (arith, left-here s l at-k to, count-here (land d h) i k at-k))
+
+      pub landing-taken : (getD left (k - 1) 0 ≡ 0 → ⊥) → Partial d h (set left (k - 1) (getD left (k - 1) 0 - 1)) (i + 1)
+      unfolding breaks overCapacity
+      landing-taken some =
+          landed (rw (← at-k, short, le-leb k (P d) to) (le-ltb _ _ within))
+          (left-set d h left i (i + 1) (s .left-is) k _ (lands-from s l at-k) to (λ o f. count-other (land d h) i o (λ e. f (e ∙ sym at-k)))
+          (omega (arith, left-here s l at-k to, count-here (land d h) i k at-k)))
+        where
+          within : count (suc i) (land d h) k ≤ capacity d k
+          within = rw (← add-one i) (omega (arith, left-here s l at-k to, count-here (land d h) i k at-k))
+
+-- ---- a landing given back
+
+pub last-in : {d : Day} {h left : List ℕ} {i : ℕ} → Partial d h left (i + 1) → i < N d
+last-in s = omega (arith, s .upto)
+
+module _ {d : Day} {h left : List ℕ} {i : ℕ} (s : Partial d h left (i + 1)) where
+  given : {row : List ℕ} → row ≡ capacitiesLeft d h i → Partial d h row i
+  given is = record {
+    good = s .good;
+    each = s .each;
+    upto = omega (arith, s .upto);
+    unbroken = record { none = λ j b. s .unbroken .none j (omega arith) };
+    left-is = is;
+  }
+
+  module _ {k : ℕ} (at-k : k ≡ land d h i) where
+    pub back-closing : P d < k → Partial d h left i
+    back-closing past = given (s .left-is ∙ left-same d h h (i + 1) i (λ o a b. sym (count-other (land d h) i o (λ e. omega arith))))
+
+    -- what was taken came from a capacity
+    pub back-in : i < N d → k ≤ P d → Partial d h (set left (k - 1) (getD left (k - 1) 0 + 1)) i
+    back-in l to =
+        given (left-set d h left (i + 1) i (s .left-is) k _ (lands-from s l at-k) to (λ o f. sym (count-other (land d h) i o (λ e. f (e ∙ sym at-k))))
+        (omega (arith, left-here s l at-k to, count-here (land d h) i k at-k, upto d h (i + 1) (s .unbroken .none) k to)))
+
+-- ---- whether the rest has a plan
+
+-- the flights from an entry on, as they are lent
+pub part-is : (flights : List ℕ) (start : ℕ) → take (length flights - start) (drop start flights) ≡ drop start flights
+part-is flights start = take-all (length flights - start) (drop start flights) (rw length-drop (omega arith))
+
+pub short-found : {d : Day} {a b : ℕ} → valid d ≡ true → Picked d a b → Decides false (HasPlan d)
+short-found {d} {a} {b} good found = record {
+  yes = λ e. let z : _≡_ {A = ℕ} 0 1 = cc in absurd (omega arith);
+  no = λ _ p. plan-exactly (valid-means good) .0 p a b (found .short);
+}
+
+pub none-found : {d : Day} → valid d ≡ true → ((a b : ℕ) → Short d a b → ⊥) → Decides true (HasPlan d)
+none-found good none = record {
+  yes = λ _. plan-exactly (valid-means good) .1 none;
+  no = λ e. let z : _≡_ {A = ℕ} 0 1 = cc in absurd (omega arith);
+}
+
+-- ---- holds taken back from the last on
+
+-- the first m holds and the capacities that they leave, and that no more of the first i holds can be completed
+pub record Tried (d : Day) (h left : List ℕ) (m i : ℕ) : Type 0 where
+  pub kept : Partial d h left m
+  pub upto : m ≤ i
+  pub over : m < i → Completed d h (m + 1) → ⊥
+
+pub tried-start : {d : Day} {h left : List ℕ} {i : ℕ} → Partial d h left i → Tried d h left i i
+tried-start s = record { kept = s; upto = omega arith; over = λ l. absurd (omega arith) }
+
+module _ {d : Day} {h left : List ℕ} {m i : ℕ} (t : Tried d h left m i) where
+  v : Valid d
+  v = valid-means (t .kept .good)
+
+  pub tried-rest : (m * width ≤ length (d .flights)) × (valid (day left (drop (m * width) (d .flights))) ≡ true)
+  tried-rest = (omega (arith, v .whole, t .kept .upto), rw (t .kept .left-is) (means-valid (rest-valid v h m (t .kept .upto))))
+
+  module _ {r : Bool} (plans : Decides r (HasPlan (day left (drop (m * width) (d .flights))))) where
+    pub tried-end : r ≡ true → (m ≤ i) × (Completed d h m × (m < i → Completed d h (m + 1) → ⊥))
+    tried-end e =
+        let p = rw (t .kept .left-is) at (plans .yes e) in
+        (t .upto, (completed-by-rest v h m (t .kept .upto) .1 (t .kept .unbroken, p), t .over))
+
+    module _ (e : r ≡ false) where
+      none : Completed d h m → ⊥
+      none c = plans .no e (rw (t .kept .left-is) (completed-by-rest v h m (t .kept .upto) .0 c .1))
+
+      pub tried-none : m ≡ 0 → Completed d h 0 → ⊥
+      tried-none z c = none (rw z c)
+
+      pub tried-back : {row : List ℕ} → (m ≡ 0 → ⊥) → Partial d h row (m - 1) → Tried d h row (m - 1) i
+      tried-back some s =
+          let back : m - 1 + 1 ≡ m = omega arith in
+          record { kept = s; upto = omega (arith, t .upto); over = λ l. rw back none }
+
+  pub tried-last : (m ≡ 0 → ⊥) → Partial d h left (m - 1 + 1)
+  tried-last some = let back : m - 1 + 1 ≡ m = omega arith in rw back (t .kept)
