@@ -11,6 +11,7 @@ use Rattle.choice.specs.declared.Which.the-variants.{First, Second, Neither}
 use Rattle.day.specs.Day.{Day}
 use Rattle.full_plan.specs.FullPlan.{FullPlan}
 use Rattle.period_card.specs.declared.Card.{Card}
+use Rattle.plan_reader.specs.PlanReading.{ReadPlan}
 use Rattle.desk.specs.declared.CardCode.{CardCode}
 
 -- 1 for the first row, 2 for the second, 0 for neither
@@ -35,3 +36,9 @@ pub record Exported (d : Day) (code : Code) (holds₀ prices₀ holds prices : L
   pub answer : Answer
   pub code-is : code ≡ codeOf answer
   pub outcome : FullPlan d answer holds₀ prices₀ holds prices
+
+-- the same of a plan text that is read back
+pub record ReadExported (d : Day) (text : List ℕ) (code : Code) (holds₀ holds : List ℕ) : Type 0 where
+  pub answer : Answer
+  pub code-is : code ≡ codeOf answer
+  pub outcome : ReadPlan d text answer holds₀ holds

@@ -16,7 +16,7 @@ ghost use Rattle.board.specs.Board.{boardAnswer, boardAfter};
 ghost use Rattle.plan_text.specs.PlanText.{planTextAnswer, planTextAfter};
 ghost use Rattle.forecast_plan.specs.Forecast.{forecasts};
 ghost use Rattle.forecast_plan.specs.Calls.{forecastPlan};
-ghost use Rattle.desk.specs.Desk.{rowNumber, cardCode, Exported};
+ghost use Rattle.desk.specs.Desk.{rowNumber, cardCode, Exported, ReadExported};
 use answers::Code;
 use answers::code_of;
 use choice::Which;
@@ -171,6 +171,18 @@ pub extern "C" fn hold_desk_plan_text(
     ensures { λ _. ⌜ now (text .exit) ≡ planTextAfter (lent (capacities .entry) (flights .entry)) (now (holds .entry)) (now (text .entry)) place ⌝ }
 {
     code_of(plan_text::write_plan(capacities, flights, holds, text, place))
+}
+
+#[no_mangle]
+pub extern "C" fn hold_desk_read_plan(
+    capacities: &[u32],
+    flights: &[u32],
+    text: &[u8],
+    holds: &mut [u32],
+) -> Code
+    ensures { λ r. ⌜ ReadExported (lent (capacities .entry) (flights .entry)) (now (text .entry)) r (now (holds .entry)) (now (holds .exit)) ⌝ }
+{
+    code_of(plan_reader::read_plan(capacities, flights, text, holds))
 }
 
 #[no_mangle]
