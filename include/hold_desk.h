@@ -63,10 +63,11 @@
  *   13  forecasts: a jump above 0, or an air factor or a count of
  *       forecasts out of range                                           0, 0
  *   14  growing plan: a growth above 40, or more than 6 periods          0, 0
+ *   15  text that is no legal plan's                                     offset of the first wrong line, 0
  *
  * Where several apply, the first of 6, 7 (hold row before price or board row), 8, 14, 10, 11, 9 is given; a text's length comes
  * last. hold_desk_read_sheet tests 7 (capacity row first), 1, then the lines from the top, in each line 5, 2, 3, 4.
- * hold_desk_forecast_plan tests 6, 13, 7 (hold, weight, forecast row), 12.
+ * hold_desk_forecast_plan tests 6, 13, 7 (hold, weight, forecast row), 12; hold_desk_read_plan 6, 7, 15.
  */
 #ifndef HOLD_DESK_H
 #define HOLD_DESK_H
@@ -122,7 +123,8 @@ enum hold_desk_refusal {
     HOLD_DESK_BAD_PERIOD = 11,
     HOLD_DESK_BAD_FORECASTS = 12,
     HOLD_DESK_BAD_TERMS = 13,
-    HOLD_DESK_BAD_GROWTH = 14
+    HOLD_DESK_BAD_GROWTH = 14,
+    HOLD_DESK_BAD_PLAN_TEXT = 15
 };
 
 typedef struct { uint64_t number, first, second; } hold_desk_answer;
@@ -202,6 +204,19 @@ hold_desk_answer hold_desk_plan_text(const uint32_t *capacities, size_t capaciti
                                      const uint32_t *flights, size_t flights_len,
                                      const uint32_t *holds, size_t holds_len,
                                      uint8_t *text, size_t text_len, size_t place);
+
+/* Reads a plan's text back: fills a hold row of N with the plan. Accepted is just what hold_desk_plan_text writes for some legal
+ * plan of this day, byte for byte, a cheapest one or not; text may have any bytes and any length. So the text that is written for a
+ * plan is read as that plan, and the row that is read is written as that text. Accepted: 0 with the plan's total. Refusals 6, 7, 15.
+ * Refusal 15 names the first line such that no legal plan's text begins with the lines up to and including it, by the offset of its
+ * first byte. A line is its bytes up to the end byte and with it: a last line without its end byte is wrong, whatever it begins with,
+ * and so is anything behind the total. A line may be right in itself, but leave the flights below it no legal plan; then it is the
+ * wrong one. A text of whole lines that are right, but too few, has its own length named. On a day without a legal plan that is the
+ * first line, 0, whatever the text. An accepted text takes one pass; a refused one at most one search for a short stretch a line. */
+hold_desk_answer hold_desk_read_plan(const uint32_t *capacities, size_t capacities_len,
+                                     const uint32_t *flights, size_t flights_len,
+                                     const uint8_t *text, size_t text_len,
+                                     uint32_t *holds, size_t holds_len);
 
 /* Holds for a day whose capacities are known by count forecasts only, 1 to 8 of them: the day's own capacities give P and nothing
  * else. weights has an entry for each forecast, and forecasts the P capacities of the first, then of the second, and so on.
