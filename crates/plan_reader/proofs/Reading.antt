@@ -236,24 +236,24 @@ module _ {d : Day} {h left : List ℕ} {i : ℕ} (p : Partial d h left i) where
   pub most-none : MostCompleted d h i NoPlan → BehindMost d h i 0
   most-none is = record { most = NoPlan; is-most = is; place = refl }
 
-  module _ {m : ℕ} (is : MostCompleted d h i (Flights m)) where
-    pub most-inside : m ≤ length h
-    most-inside = omega (arith, is .0, p .each, p .upto)
+  pub most-some : {m x : ℕ} → MostCompleted d h i (Flights m) → x ≡ length (frontLines (d .flights) h m) → BehindMost d h i x
+  most-some {m} is e = record { most = Flights m; is-most = is; place = e }
 
-    pub most-rows : (length (take (m - 0) h) * width ≤ length (d .flights)) × (length (take (m - 0) h) ≤ mostFlights)
-    most-rows =
-        let v = valid-means (p .good) in
-        let long = length-take-le (m - 0) h (omega (arith, most-inside)) in
-        (omega (arith, long, v .whole, is .0, p .upto), omega (arith, long, v .flights-to, is .0, p .upto))
+-- the place behind the lines of m flights, by the holds of these alone
+pub place-is : (f h : List ℕ) (m : ℕ) {x : ℕ} → m ≤ length h → x ≡ length (planLines f (take (m - 0) h) (length (take (m - 0) h)) 0)
+    → 27 + x ≡ length (frontLines f h m)
+place-is f h m inside e =
+    let z : m - 0 ≡ m = omega arith in
+    let long : length (take m h) ≡ m = length-take-le m h inside in
+    let same = front-same f (take m h) h m (λ j l. getD-take m h j 0 l) in
+    let y = rw (z, long) at e in
+    omega (arith, y, ap length same, length-append planNames (planLines f (take m h) m 0), length-plan-names)
 
-    pub most-some : {x : ℕ} → x ≡ length (planLines (d .flights) (take (m - 0) h) (length (take (m - 0) h)) 0) → BehindMost d h i (27 + x)
-    most-some {x} e =
-        let z : m - 0 ≡ m = omega arith in
-        let long : length (take m h) ≡ m = length-take-le m h most-inside in
-        let f = d .flights in
-        let same = front-same f (take m h) h m (λ j l. getD-take m h j 0 l) in
-        let y = rw (z, long) at e in
-        record { most = Flights m; is-most = is; place = omega (arith, y, ap length same, length-append planNames (planLines f (take m h) m 0), length-plan-names) }
+-- what the rows of a plan begun are
+pub partial-rows : {d : Day} {h left : List ℕ} {i : ℕ} → Partial d h left i → (i ≤ length h) × (length h * width ≤ length (d .flights)) × (length h ≤ mostFlights)
+partial-rows p =
+    let v = valid-means (p .good) in
+    (omega (arith, p .each, p .upto), omega (arith, p .each, v .whole), omega (arith, p .each, v .flights-to))
 
 -- ---- behind the lines of all flights
 

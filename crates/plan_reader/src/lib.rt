@@ -4,11 +4,11 @@ ghost use Prim.Native.Nat.{_+_, _*_, _≤_};
 ghost use lib.ListN.{length, drop};
 ghost use Rattle.answers.specs.Decides.{Decides};
 ghost use Rattle.text.specs.Fixed.{startsWith};
-ghost use Rattle.day.specs.Day.{lent, width};
+ghost use Rattle.day.specs.Day.{lent, mostFlights, width};
 ghost use Rattle.plan_text.specs.PlanText.{planNames, totalName};
 ghost use Rattle.completion.specs.Loop.{Partial};
 ghost use Rattle.plan_reader.specs.PlanReading.{TextRead, ReadPlan};
-ghost use Rattle.plan_reader.specs.Loop.{Shows, HoldRead, Read, LinesRead, BehindMost, CanEnd, EndRead, RowsRead, LargeRows};
+ghost use Rattle.plan_reader.specs.Loop.{Shows, HoldRead, frontLines, Read, LinesRead, BehindMost, CanEnd, EndRead, RowsRead, LargeRows};
 use answers::Answer;
 use completion::Most;
 use completion::most_completed;
@@ -119,6 +119,14 @@ fn read_lines(
     Front { flights: i, at }
 }
 
+// The place behind the names line and the lines of the first m flights.
+fn place_behind(flights: &[u32], holds: &[u32], m: usize) -> usize
+    requires { ⌜ (m ≤ length (now holds)) × (length (now holds) * width ≤ length (now flights)) × (length (now holds) ≤ mostFlights) ⌝ }
+    ensures { λ r. ⌜ r ≡ length (frontLines (now (flights .entry)) (now (holds .entry)) m) ⌝ }
+{
+    PLAN_NAMES_LEN + plan_lines_len(flights, &holds[0..m])
+}
+
 // The place of the line that is the first wrong one where the lines of i flights are right in themselves and the next is not: the one behind
 // the lines that can be completed to a legal plan, or the names line if the day has none.
 fn first_wrong(
@@ -134,7 +142,7 @@ fn first_wrong(
     let most = most_completed(capacities, flights, holds, i, left);
     match most {
         Most::NoPlan => 0,
-        Most::Flights(m) => PLAN_NAMES_LEN + plan_lines_len(flights, &holds[0..m]),
+        Most::Flights(m) => place_behind(flights, holds, m),
     }
 }
 

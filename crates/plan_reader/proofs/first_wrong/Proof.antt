@@ -1,8 +1,7 @@
 -- The lines that can be completed are measured.
 -- Assumes nothing.
-use mathlib.Core.Path.{_≡_, sym, _∙_}
 use native.Mathlib.Omega.{arith}
-use Rattle.plan_reader.proofs.Reading.{most-none, most-inside, most-rows, most-some}
+use Rattle.plan_reader.proofs.Reading.{most-none, most-some, partial-rows}
 use borrow.Author.Needs.{needs}
 use Rattle.plan_reader.proofs.first_wrong.Statement.{statement}
 use Rattle.plan_reader.proofs.first_wrong.Tie as tie
@@ -16,20 +15,11 @@ enum-told c = search needs
 enum-known-most : tie.Need-enum-known-most
 enum-known-most c = search needs
 
-sub-plan-lines-len : tie.Need-sub-plan-lines-len
-sub-plan-lines-len c = search needs
-
-part-plan-lines-len-start : tie.Need-part-plan-lines-len-start
-part-plan-lines-len-start c = search needs
-
-part-plan-lines-len-end : tie.Need-part-plan-lines-len-end
-part-plan-lines-len-end c = most-inside (c .before .before .before .before .before .before .before .before .before .before .before .pre) (rw (c .before .most .given .1) at (c .before .before .before .before .before .most-completed .ensures))
-
-plan-lines-len-requires : tie.Need-plan-lines-len-requires
-plan-lines-len-requires c κs = most-rows (c .before .before .before .before .before .before .before .before .before .before .before .before .pre) (rw (c .before .before .most .given .1) at (c .before .before .before .before .before .before .most-completed .ensures))
-
-add-result : tie.Need-add-result
-add-result c = search needs
+place-behind-requires : tie.Need-place-behind-requires
+place-behind-requires c κs =
+    let rows = partial-rows (c .before .before .before .before .before .before .before .before .before .before .before .pre) in
+    let most = rw (c .before .most .given .1) at (c .before .before .before .before .before .most-completed .ensures) in
+    (omega (arith, rows .0, most .0), rows .1, rows .2)
 
 same-length : tie.Need-same-length
 same-length c = search needs
@@ -41,7 +31,7 @@ same-length-2 : tie.Need-same-length-2
 same-length-2 c = search needs
 
 returns-2 : tie.Need-returns-2
-returns-2 c = most-some (c .before .before .before .before .before .before .before .before .before .before .before .before .before .pre) (rw (c .before .before .before .most .given .1) at (c .before .before .before .before .before .before .before .most-completed .ensures)) (c .plan-lines-len .ensures .0)
+returns-2 c = most-some (c .before .before .before .before .before .before .before .before .before .before .before .before .pre) (rw (c .before .before .most .given .1) at (c .before .before .before .before .before .before .most-completed .ensures)) (c .place-behind .ensures)
 
 pub first-wrong-spec : {M : Type 1} → statement M
 first-wrong-spec =
@@ -50,11 +40,7 @@ first-wrong-spec =
     most-completed-requires
     enum-told
     enum-known-most
-    sub-plan-lines-len
-    part-plan-lines-len-start
-    part-plan-lines-len-end
-    plan-lines-len-requires
-    add-result
+    place-behind-requires
     same-length
     returns
     same-length-2
