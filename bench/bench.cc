@@ -22,6 +22,14 @@ static Day by_the_hour(Day day)
     return day;
 }
 
+// A text whose last digit before a place is another one.
+static std::string with_another_digit(std::string text, size_t before)
+{
+    char &digit = text[before - 1];
+    digit = digit == '9' ? '8' : char(digit + 1);
+    return text;
+}
+
 // One day with all rows that the core's calls read and write. The forecast plan gets it without jumps, the quick plan and the
 // card without jumps and limits, and the growing plan so and by the hour.
 struct Desk {
@@ -29,18 +37,32 @@ struct Desk {
     Forecasts forecasts;
     uint64_t total = 0, expected = 0, beside_total = 0, grown = 0;
     std::string sheet, buffer = std::string(MOST_BYTES, ' ');
-    std::vector<uint32_t> capacities = std::vector<uint32_t>(MOST_PERIODS), flights = std::vector<uint32_t>(FLIGHT_ROW), places, beside_holds;
+    std::string right_text, wrong_total, wrong_line;  // the full plan's; with another total; with another cost of the 64th flight, or the last
+    size_t text_bytes = 0, total_at = 0, line_at = 0; // of the text; and where the other two are refused
+    std::vector<uint32_t> capacities = std::vector<uint32_t>(MOST_PERIODS), flights = std::vector<uint32_t>(FLIGHT_ROW), places, beside_holds, holds_read, untouched;
 
-    explicit Desk(const Day &given) : day(given), jumpless(given), forecasts(given), sheet(given.sheet()), places(given.count()), beside_holds(given.count())
+    explicit Desk(const Day &given) : day(given), jumpless(given), forecasts(given), sheet(given.sheet()), places(given.count()), beside_holds(given.count()), holds_read(given.count()), untouched(given.count(), UINT32_MAX)
     {
         jumpless.set(JUMP, 0);
         plain = jumpless;
         plain.set(LIMIT, MISSING);
         hourly = by_the_hour(plain);
         expect(full(), day.name + " has no plan");
+        write_texts();
     }
 
-    // each call says whether it was accepted
+    // the text of the full plan, and the two wrong ones
+    void write_texts()
+    {
+        expect(text(), day.name + ": the plan has no text");
+        right_text = buffer.substr(0, text_bytes);
+        total_at = right_text.find("total\n") + 6;
+        for (size_t i = 0; i < std::min<size_t>(64, day.count()); i++) line_at = right_text.find('\n', line_at) + 1;
+        wrong_total = with_another_digit(right_text, right_text.size() - 1);
+        wrong_line = with_another_digit(right_text, right_text.find('\n', line_at));
+    }
+
+    // each call says whether it was accepted, or refused as it must be
     bool read() { return hold_desk_read_sheet((const uint8_t *)sheet.data(), sheet.size(), capacities.data(), MOST_PERIODS, flights.data(), FLIGHT_ROW).number == 0; }
     bool write() { return hold_desk_write_sheet(day.capacities.data(), day.periods(), day.flights.data(), day.flights.size(), (uint8_t *)buffer.data(), buffer.size(), 0).number == 0; }
     bool quick() { return hold_desk_quick_plan(plain.capacities.data(), plain.periods(), plain.flights.data(), plain.flights.size(), plain.holds.data(), plain.holds.size()).number == 0; }
@@ -62,7 +84,23 @@ struct Desk {
     bool check() { return hold_desk_price_check(day.capacities.data(), day.periods(), day.flights.data(), day.flights.size(), day.holds.data(), day.holds.size(), day.prices.data(), day.prices.size()); }
     bool choice() { return hold_desk_choice(day.capacities.data(), day.periods(), day.flights.data(), day.flights.size(), day.holds.data(), day.holds.size(), day.holds.data(), day.holds.size()) == 1; }
     bool board() { return hold_desk_board(day.capacities.data(), day.periods(), day.flights.data(), day.flights.size(), day.holds.data(), day.holds.size(), places.data(), places.size()).number == 0; }
-    bool text() { return hold_desk_plan_text(day.capacities.data(), day.periods(), day.flights.data(), day.flights.size(), day.holds.data(), day.holds.size(), (uint8_t *)buffer.data(), buffer.size(), 0).number == 0; }
+    bool text()
+    {
+        hold_desk_answer written = hold_desk_plan_text(day.capacities.data(), day.periods(), day.flights.data(), day.flights.size(), day.holds.data(), day.holds.size(), (uint8_t *)buffer.data(), buffer.size(), 0);
+        text_bytes = written.first;
+        return written.number == 0;
+    }
+    bool reads(const std::string &given, hold_desk_answer want)
+    {
+        holds_read = untouched;
+        hold_desk_answer got = hold_desk_read_plan(day.capacities.data(), day.periods(), day.flights.data(), day.flights.size(), (const uint8_t *)given.data(), given.size(), holds_read.data(), holds_read.size());
+        return got.number == want.number && got.first == want.first && got.second == want.second;
+    }
+    // the hold row is compared each time, which takes little beside the call
+    bool read_back() { return reads(right_text, {HOLD_DESK_ACCEPTED, total, 0}) && holds_read == day.holds; }
+    // two that must be refused
+    bool refused_total() { return reads(wrong_total, {HOLD_DESK_BAD_PLAN_TEXT, total_at, 0}) && holds_read == untouched; }
+    bool refused_line() { return reads(wrong_line, {HOLD_DESK_BAD_PLAN_TEXT, line_at, 0}) && holds_read == untouched; }
     bool forecast()
     {
         hold_desk_answer plan = hold_desk_forecast_plan(jumpless.capacities.data(), jumpless.periods(), jumpless.flights.data(), jumpless.flights.size(), uint32_t(forecasts.weights.size()), AIR_FACTOR, forecasts.weights.data(), forecasts.weights.size(), forecasts.capacities.data(), forecasts.capacities.size(), jumpless.holds.data(), jumpless.holds.size());
@@ -92,7 +130,7 @@ static std::vector<double> times_of(Desk &desk, Call call, int repeats)
         Clock::time_point start = Clock::now();
         bool accepted = (desk.*call)();
         time = seconds_since(start) * 1e6;
-        expect(accepted, desk.day.name + ": a call is refused");
+        expect(accepted, desk.day.name + ": a call's answer is another");
     }
     std::sort(times.begin(), times.end());
     return times;
@@ -132,6 +170,17 @@ static void measure_all(Desk &desk, int repeats, Figures &row)
     row["read/full"] = times_of(desk, &Desk::read, repeats).front() / row["full us"];
     row["write/full"] = times_of(desk, &Desk::write, repeats).front() / row["full us"];
     row["board/full"] = times_of(desk, &Desk::board, repeats).front() / row["full us"];
+    row["text/full"] = times_of(desk, &Desk::text, repeats).front() / row["full us"];
+    row["readback/full"] = times_of(desk, &Desk::read_back, repeats).front() / row["full us"];
+}
+
+static void measure_read_back(Desk &desk, int repeats, Figures &row)
+{
+    row["full us"] = times_of(desk, &Desk::full, repeats).front();
+    row["readback us"] = times_of(desk, &Desk::read_back, repeats).front();
+    row["readback/full"] = row["readback us"] / row["full us"];
+    row["wrong total/full"] = times_of(desk, &Desk::refused_total, repeats).front() / row["full us"];
+    row["wrong line/full"] = times_of(desk, &Desk::refused_line, repeats).front() / row["full us"];
 }
 
 // The forecast plan, measured before, as a share of another program's time; both come to the same.
@@ -302,7 +351,7 @@ static std::vector<Desk> growing_days()
 // machine did.
 static void print_longest(std::vector<Desk> &desks, int repeats)
 {
-    const std::pair<const char *, Call> calls[] = {{"read_sheet", &Desk::read}, {"write_sheet", &Desk::write}, {"quick_plan", &Desk::quick}, {"period_card", &Desk::card}, {"full_plan", &Desk::full}, {"price_check", &Desk::check}, {"choice", &Desk::choice}, {"board", &Desk::board}, {"plan_text", &Desk::text}, {"forecast_plan", &Desk::forecast}, {"growth_plan", &Desk::growth}};
+    const std::pair<const char *, Call> calls[] = {{"read_sheet", &Desk::read}, {"write_sheet", &Desk::write}, {"quick_plan", &Desk::quick}, {"period_card", &Desk::card}, {"full_plan", &Desk::full}, {"price_check", &Desk::check}, {"choice", &Desk::choice}, {"board", &Desk::board}, {"plan_text", &Desk::text}, {"read_plan", &Desk::read_back}, {"read_plan, another total", &Desk::refused_total}, {"read_plan, another cost", &Desk::refused_line}, {"forecast_plan", &Desk::forecast}, {"growth_plan", &Desk::growth}};
     print_heads({"call", "longest us", "on day", "longest seen us"});
     for (auto &[name, call] : calls) {
         double longest = 0, seen = 0;
@@ -323,7 +372,7 @@ int main(int argc, char **argv)
     std::vector<Desk> desks, growing = growing_days();
     for (Day &day : load(argv[1])) desks.emplace_back(day);
     std::printf("The full plan as a share of the solvers' time, %d rounds of %d repeats; each figure is the median over the rounds of the class median:\n\n", rounds, repeats);
-    print_classes(desks, measure(desks, repeats, rounds, measure_all), {"full us", "simplex", "simplex+build", "capacity", "capacity+build", "cost", "cost+build", "quick/full", "read/full", "write/full", "board/full"});
+    print_classes(desks, measure(desks, repeats, rounds, measure_all), {"full us", "simplex", "simplex+build", "capacity", "capacity+build", "cost", "cost+build", "quick/full", "read/full", "write/full", "board/full", "text/full", "readback/full"});
     std::printf("\nGrowth, ten tight days of each size:\n\n");
     print_classes(growing, measure(growing, repeats, rounds, measure_plan), {"full us", "simplex", "simplex+build"});
     std::printf("\nForecasts: each day without jumps and with %zu forecasts, as a share of the day's own full plan and of the times of a plain and of a fast program:\n\n", MOST_FORECASTS);
@@ -332,6 +381,8 @@ int main(int argc, char **argv)
     print_bar(desks, forecasts);
     std::printf("\nGrowing cost: each day without jumps and limits, its periods put together to %d at most, with a growth of %u tenths:\n\n", HOLD_DESK_MOST_GROWTH_PERIODS, GROWTH);
     print_classes(desks, measure(desks, repeats, rounds, measure_growth), {"growth us", "simplex", "simplex+build", "growth/quick"});
+    std::printf("\nThe full plan's text read back; and refused, with another total, and with another cost in the line of the 64th flight, or of the last:\n\n");
+    print_classes(desks, measure(desks, repeats, rounds, measure_read_back), {"readback us", "readback/full", "wrong total/full", "wrong line/full"});
     std::printf("\nThe longest time of a single call, over all days of the folder:\n\n");
     print_longest(desks, repeats);
 }

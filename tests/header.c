@@ -301,6 +301,45 @@ static void rows(void)
     board_order();
 }
 
+/* Any legal plan's text is read back, not a cheapest one's alone; and each kind of refusal, with its offset. */
+static void reading_back(void)
+{
+    const char *dearer = "flight,due,lands,hold,cost\n11,1,2,1,10\n12,1,1,0,0\n13,2,3,1,6\ntotal\n16\n", *names = "flight,due,lands,hold,cost\n";
+    const char *twice_in_1 = "flight,due,lands,hold,cost\n11,1,1,0,0\n12,1,1,0,0\n13,2,2,0,0\ntotal\n0\n", *over = "flight,due,lands,hold,cost\n11,1,1,0,0\n12,1,2,1,4\n13,2,4,2,12\ntotal\n16\n";
+    const char *early = "flight,due,lands,hold,cost\n1,1,1,0,0\n2,1,2,1,1\ntotal\n1\n", *none = "flight,due,lands,hold,cost\ntotal\n0\n";
+    const uint32_t one[] = { 1 }, other[] = { 1, 0, 1 };
+    uint32_t free_and_stuck[] = { 1, 1, 1, 0, 0, HOLD_DESK_NO_LIMIT, 0, 2, 1, 1, 0, 0, 0, 0 }, holds[N + 1];
+    const size_t plan = strlen(PLAN);
+    uint8_t text[sizeof PLAN];
+    static uint8_t many[HOLD_DESK_MOST_SHEET_BYTES + 1];
+    memcpy(text, PLAN, sizeof PLAN);
+    memcpy(many, PLAN, plan);
+    mark(holds, N + 1);
+    expect_answer("read_plan of a bad day", hold_desk_read_plan(CAPACITIES, P, FLIGHTS, ENTRIES - 1, NULL, 0, holds, N - 1), HOLD_DESK_BAD_DAY, 0, 0);
+    expect_answer("read_plan of a shorter hold row", hold_desk_read_plan(CAPACITIES, P, FLIGHTS, ENTRIES, NULL, 0, holds, N - 1), HOLD_DESK_BAD_LENGTH, N, 0);
+    expect_answer("read_plan of a longer hold row", hold_desk_read_plan(CAPACITIES, P, FLIGHTS, ENTRIES, text, plan, holds, N + 1), HOLD_DESK_BAD_LENGTH, N, 0);
+    expect_answer("read_plan of nothing", hold_desk_read_plan(CAPACITIES, P, FLIGHTS, ENTRIES, NULL, 0, holds, N), HOLD_DESK_BAD_PLAN_TEXT, 0, 0);
+    expect_answer("read_plan of the sheet", hold_desk_read_plan(CAPACITIES, P, FLIGHTS, ENTRIES, bytes(SHEET), strlen(SHEET), holds, N), HOLD_DESK_BAD_PLAN_TEXT, 0, 0);
+    expect_answer("read_plan of the names line", hold_desk_read_plan(CAPACITIES, P, FLIGHTS, ENTRIES, bytes(names), strlen(names), holds, N), HOLD_DESK_BAD_PLAN_TEXT, 27, 0);
+    expect_answer("read_plan without the last end byte", hold_desk_read_plan(CAPACITIES, P, FLIGHTS, ENTRIES, text, plan - 1, holds, N), HOLD_DESK_BAD_PLAN_TEXT, plan - 2, 0);
+    expect_answer("read_plan with byte 0 behind it", hold_desk_read_plan(CAPACITIES, P, FLIGHTS, ENTRIES, text, plan + 1, holds, N), HOLD_DESK_BAD_PLAN_TEXT, plan, 0);
+    expect_answer("read_plan of 8,193 bytes", hold_desk_read_plan(CAPACITIES, P, FLIGHTS, ENTRIES, many, sizeof many, holds, N), HOLD_DESK_BAD_PLAN_TEXT, plan, 0);
+    text[plan - 2] = '9';
+    expect_answer("read_plan of another total", hold_desk_read_plan(CAPACITIES, P, FLIGHTS, ENTRIES, text, plan, holds, N), HOLD_DESK_BAD_PLAN_TEXT, plan - 2, 0);
+    expect_answer("read_plan of a full period", hold_desk_read_plan(CAPACITIES, P, FLIGHTS, ENTRIES, bytes(twice_in_1), strlen(twice_in_1), holds, N), HOLD_DESK_BAD_PLAN_TEXT, 38, 0);
+    expect_answer("read_plan of a hold over its limit", hold_desk_read_plan(CAPACITIES, P, FLIGHTS, ENTRIES, bytes(over), strlen(over), holds, N), HOLD_DESK_BAD_PLAN_TEXT, 49, 0);
+    expect_answer("read_plan of a line that leaves the next flight no period", hold_desk_read_plan(one, 1, free_and_stuck, 2 * HOLD_DESK_FLIGHT_WIDTH, bytes(early), strlen(early), holds, 2), HOLD_DESK_BAD_PLAN_TEXT, 27, 0);
+    free_and_stuck[HOLD_DESK_LIMIT] = 0;
+    expect_answer("read_plan of case D", hold_desk_read_plan(one, 1, free_and_stuck, 2 * HOLD_DESK_FLIGHT_WIDTH, bytes(early), strlen(early), holds, 2), HOLD_DESK_BAD_PLAN_TEXT, 0, 0);
+    expect_marked("read_plan's refusals change the hold row", holds, 0, N + 1);
+    expect_answer("read_plan", hold_desk_read_plan(CAPACITIES, P, FLIGHTS, ENTRIES, bytes(PLAN), plan, holds, N), HOLD_DESK_ACCEPTED, 8, 0);
+    expect_row("read_plan's holds", holds, HOLDS, N);
+    expect_answer("read_plan of a dearer plan", hold_desk_read_plan(CAPACITIES, P, FLIGHTS, ENTRIES, bytes(dearer), strlen(dearer), holds, N), HOLD_DESK_ACCEPTED, 16, 0);
+    expect_row("read_plan's holds of a dearer plan", holds, other, N);
+    expect_marked("read_plan changes the entry after the row", holds, N, N + 1);
+    expect_answer("read_plan of no flights", hold_desk_read_plan(CAPACITIES, P, NULL, 0, bytes(none), strlen(none), NULL, 0), HOLD_DESK_ACCEPTED, 0, 0);
+}
+
 /* The report's example (section 3.2), its flights from its 4 down to its 1; the day's own capacities, all 0, play no part. */
 static const uint32_t CLOSED[] = { 0, 0, 0, 0 };
 static const uint32_t REPORTED[] = {
@@ -371,6 +410,9 @@ static void largest(void)
     expect_answer("full_plan of the largest total", hold_desk_full_plan(c, HOLD_DESK_MOST_PERIODS, f, HOLD_DESK_FLIGHT_ROW, holds, HOLD_DESK_MOST_FLIGHTS, prices, HOLD_DESK_MOST_PERIODS), HOLD_DESK_ACCEPTED, HOLD_DESK_MOST_TOTAL, 0);
     for (uint32_t i = 0; i < HOLD_DESK_MOST_FLIGHTS; i++) f[i * HOLD_DESK_FLIGHT_WIDTH + HOLD_DESK_DUE] = 10, holds[i] = 87;
     expect_answer("plan_text of the longest text", hold_desk_plan_text(c, HOLD_DESK_MOST_PERIODS, f, HOLD_DESK_FLIGHT_ROW, holds, HOLD_DESK_MOST_FLIGHTS, text, sizeof text, 0), HOLD_DESK_ACCEPTED, HOLD_DESK_MOST_PLAN_BYTES, 0);
+    mark(holds, HOLD_DESK_MOST_FLIGHTS);
+    expect_answer("read_plan of the longest text", hold_desk_read_plan(c, HOLD_DESK_MOST_PERIODS, f, HOLD_DESK_FLIGHT_ROW, text, sizeof text, holds, HOLD_DESK_MOST_FLIGHTS), HOLD_DESK_ACCEPTED, 128 * (87 * 10000 + 1000000), 0);
+    for (size_t i = 0; i < HOLD_DESK_MOST_FLIGHTS; i++) expect("read_plan's holds of the longest text", holds[i] == 87);
     for (uint32_t i = 0; i < HOLD_DESK_MOST_FLIGHTS; i++) f[i * HOLD_DESK_FLIGHT_WIDTH + HOLD_DESK_AFTER] = 96, f[i * HOLD_DESK_FLIGHT_WIDTH + HOLD_DESK_LIMIT] = 96;
     for (uint32_t k = 0; k < HOLD_DESK_MOST_PERIODS; k++) c[k] = 255;
     expect_answer("write_sheet of the longest sheet", hold_desk_write_sheet(c, HOLD_DESK_MOST_PERIODS, f, HOLD_DESK_FLIGHT_ROW, sheet, sizeof sheet, 0), HOLD_DESK_ACCEPTED, sizeof sheet, 0);
@@ -395,6 +437,7 @@ int main(void)
     savings();
     delays();
     rows();
+    reading_back();
     forecasts();
     forecasts_refused();
     dearest_forecasts();

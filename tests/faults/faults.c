@@ -11,16 +11,17 @@ _Thread_local bool plain;
 
 static const char *const fault_names[] = { "", FAULT_NAMES };
 static const char *const rule_names[] = { "", RULE_NAMES };
-static const char *const call_names[] = { "read_", "write_", "quick_", "growth_", "card_", "full_", "check_", "choice_", "board_", "text_", "forecast_" };
+static const char *const call_names[] = { "read_", "write_", "quick_", "growth_", "card_", "full_", "check_", "choice_", "board_", "text_", "forecast_", "read_plan_" };
 
-/* Before main: a name that is not listed stops the program. */
+/* Before main: a name that is not listed stops the program. A name of the plan reader begins as one of the reader does; the last call
+ * that fits is its own. */
 __attribute__((constructor)) static void choose_fault(void)
 {
     const char *name = getenv("HOLD_DESK_FAULT");
     if (name == NULL) return;
     for (size_t k = 1; k < sizeof fault_names / sizeof *fault_names; k++)
         if (strcmp(name, fault_names[k]) == 0) the_fault = (enum fault)k;
-    for (int call = READ; call <= FORECAST; call++) {
+    for (int call = READ; call <= READ_PLAN; call++) {
         size_t length = strlen(call_names[call]);
         if (strncmp(name, call_names[call], length) != 0) continue;
         the_call = (enum call)call;

@@ -16,7 +16,7 @@
 #include <stdlib.h>
 #include <string.h>
 
-enum call { READ, WRITE, QUICK, GROWTH, CARD, FULL, CHECK, CHOICE, BOARD, TEXT, FORECAST };
+enum call { READ, WRITE, QUICK, GROWTH, CARD, FULL, CHECK, CHOICE, BOARD, TEXT, FORECAST, READ_PLAN };
 enum { P_MOST = 96, N_MOST = 128, WIDTH = 7, ROW_MOST = N_MOST * WIDTH };
 enum { NUMBER, DUE, RATE, AFTER, JUMP, LIMIT, LATE };
 
@@ -117,6 +117,7 @@ bool real_hold_desk_price_check(DAY_ROWS, const uint32_t *, size_t, const uint32
 uint32_t real_hold_desk_choice(DAY_ROWS, const uint32_t *, size_t, const uint32_t *, size_t);
 hold_desk_answer real_hold_desk_board(DAY_ROWS, const uint32_t *, size_t, uint32_t *, size_t);
 hold_desk_answer real_hold_desk_plan_text(DAY_ROWS, const uint32_t *, size_t, uint8_t *, size_t, size_t);
+hold_desk_answer real_hold_desk_read_plan(DAY_ROWS, const uint8_t *, size_t, uint32_t *, size_t);
 hold_desk_answer real_hold_desk_forecast_plan(DAY_ROWS, uint32_t, uint32_t, const uint32_t *, size_t, const uint32_t *, size_t, uint32_t *, size_t);
 
 #endif

@@ -43,6 +43,7 @@ mod raw {
         pub fn hold_desk_choice(c: *const u32, cn: usize, f: *const u32, fnn: usize, a: *const u32, an: usize, b: *const u32, bn: usize) -> u32;
         pub fn hold_desk_board(c: *const u32, cn: usize, f: *const u32, fnn: usize, h: *const u32, hn: usize, b: *mut u32, bn: usize) -> Answer;
         pub fn hold_desk_plan_text(c: *const u32, cn: usize, f: *const u32, fnn: usize, h: *const u32, hn: usize, t: *mut u8, tn: usize, place: usize) -> Answer;
+        pub fn hold_desk_read_plan(c: *const u32, cn: usize, f: *const u32, fnn: usize, t: *const u8, tn: usize, h: *mut u32, hn: usize) -> Answer;
         pub fn hold_desk_forecast_plan(c: *const u32, cn: usize, f: *const u32, fnn: usize, count: u32, air: u32, w: *const u32, wn: usize, r: *const u32, rn: usize, h: *mut u32, hn: usize) -> Answer;
     }
 }
@@ -88,6 +89,11 @@ pub fn board(capacities: &[u32], flights: &[u32], holds: &[u32], board: &mut [u3
 
 pub fn plan_text(capacities: &[u32], flights: &[u32], holds: &[u32], text: &mut [u8], place: usize) -> Answer {
     unsafe { raw::hold_desk_plan_text(capacities.as_ptr(), capacities.len(), flights.as_ptr(), flights.len(), holds.as_ptr(), holds.len(), text.as_mut_ptr(), text.len(), place) }
+}
+
+/// Fills the hold row with the plan that the text tells.
+pub fn read_plan(capacities: &[u32], flights: &[u32], text: &[u8], holds: &mut [u32]) -> Answer {
+    unsafe { raw::hold_desk_read_plan(capacities.as_ptr(), capacities.len(), flights.as_ptr(), flights.len(), text.as_ptr(), text.len(), holds.as_mut_ptr(), holds.len()) }
 }
 
 /// The forecasts stand one after another, each with a capacity for every period; each has a weight in thousandths.

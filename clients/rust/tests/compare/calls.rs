@@ -1,10 +1,11 @@
-//! Each exported call compared with what document 01, or 02 for the growing plan and the forecast plan, says of it: the answer, and
-//! every lent row afterwards. A call is given rows of any content and length; the refusals that apply are listed in the document's
+//! Each exported call compared with what document 01, or 02 for the growing plan, the plan reader and the forecast plan, says of it:
+//! the answer, and every lent row afterwards. A call is given rows of any content and length; the refusals that apply are listed in the document's
 //! order, and the first is the answer.
 use crate::day::{plain_read, Day, Flight, Rows, FLIGHTS, FLIGHT_ROW, PERIODS, WIDTH};
 use crate::forecasts::{choices_by_places, choices_by_queues, met, met_in_refusal, Terms};
 use crate::growth;
 use crate::planners::{accepts, least_by_moves, least_by_moves_with, least_by_trial_with, quick_by_sorting, savings_by_moves, savings_by_planning, short_stretch};
+use crate::read_back::{self, AllTexts};
 use crate::seed::Seed;
 use hold_desk_client::*;
 use std::collections::BTreeMap;
@@ -337,6 +338,39 @@ impl Run {
         holds.expect(0, &choices.iter().map(|choice| choice.hold).collect::<Vec<_>>());
         for what in met(&day, terms, &choices, total) {
             self.reach(format!("forecast plan, {what}"));
+        }
+    }
+
+    /// The plan text read back, of a small day also by the texts of all legal plans.
+    pub fn read_plan(&mut self, rows: &Rows, text: &[u8], length: usize, all: Option<&AllTexts>) {
+        let mut holds = Lent::new(&self.seed, length);
+        let before = text.to_vec();
+        let got = reading(rows, &[], || read_plan(&rows.capacities, &rows.flights, text, holds.row()));
+        assert!(before == std::hint::black_box(text), "the text was changed");
+        let day = rows.day();
+        let plan = day.as_ref().map(|day| read_back::read_by_walking(day, text));
+        if let (Some(plan), Some(all)) = (&plan, all) {
+            assert_eq!(*plan, all.read(text), "the two readers here: {rows:?} {:?}", String::from_utf8_lossy(text));
+            self.reach("plan reader, every plan's text made".into());
+        }
+        let refusals = read_back::refusals(rows, plan.as_ref(), text, length);
+        if let Some(&(why, refusal)) = refusals.first() {
+            assert_eq!(got, refusal, "{refusals:?} {rows:?} {:?}", String::from_utf8_lossy(text));
+            holds.expect_kept();
+            for (other, _) in &refusals[1..] {
+                self.reach(format!("plan reader, {why} before {other}"));
+            }
+            for what in read_back::met_in_refusal(rows, text, length, why, refusal.first as usize) {
+                self.reach(format!("plan reader, {what}"));
+            }
+            return;
+        }
+        let (day, plan) = (day.unwrap(), plan.unwrap().unwrap());
+        assert_eq!(day.plan_text(&plan).as_bytes(), text, "a text that is read is the text that is written");
+        assert_eq!(got, answer(0, day.legal_total(&plan).expect("legal"), 0), "{rows:?} {:?}", String::from_utf8_lossy(text));
+        holds.expect(0, &plan);
+        for what in read_back::met(&day, text, &plan, || (day.periods() <= 4).then(|| least_by_moves(&day)).flatten()) {
+            self.reach(format!("plan reader, {what}"));
         }
     }
 

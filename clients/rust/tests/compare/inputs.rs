@@ -394,7 +394,7 @@ fn odd_lines(seed: &Seed, bytes: &[u8]) -> Vec<u8> {
 }
 
 /// One byte removed, put in or replaced; any of the 256, the sheet's own likely.
-fn odd_byte(seed: &Seed, mut bytes: Vec<u8>) -> Vec<u8> {
+pub fn odd_byte(seed: &Seed, mut bytes: Vec<u8>) -> Vec<u8> {
     let at = seed.below(bytes.len() as u64 + 1) as usize;
     let byte = if seed.one_in(2) { seed.pick(b"0123456789/:,-\n\r \0;\"") } else { seed.next() as u8 };
     match seed.below(5) {

@@ -9,6 +9,8 @@ mod growth;
 mod growth_inputs;
 mod inputs;
 mod planners;
+mod read_back;
+mod read_back_inputs;
 mod reasons;
 mod seed;
 
@@ -16,7 +18,8 @@ use calls::{answer, Run};
 use day::{plain_read, Day, Rows, FLIGHT_ROW, PERIODS, WIDTH};
 use forecasts::Terms;
 use hold_desk_client::{forecast_plan, period_card, quick_plan};
-use planners::{least_by_moves, least_by_trial, quick_by_sorting, savings_by_moves, savings_by_planning};
+use planners::{least_by_moves, least_by_trial, quick_by_sorting, savings_by_moves, savings_by_planning, short_stretch};
+use read_back::AllTexts;
 use reasons::orders;
 use seed::days;
 
@@ -123,6 +126,67 @@ fn growth_of_a_day(run: &mut Run, day: &Day, growth: u32, times: u64) {
             inputs::spoil(&run.seed, &mut rows);
         }
         run.growth(&rows, terms);
+    }
+}
+
+/// Whether the flights below a line can land: by landing them, by the stretches of what is left, and now and then by planning it.
+fn rest_of_a_day(run: &mut Run, day: &Day, plan: &[u32]) {
+    for _ in 0..if plan.is_empty() { 0 } else { 4 } {
+        let known = run.seed.place(plan.len());
+        let f = &day.flights[known];
+        let mut holds = plan[..=known].to_vec();
+        holds[known] = run.seed.between(0, (f.last(day.periods()) - f.due) as u64) as u32;
+        if day.break_at(&holds).is_some() {
+            continue;
+        }
+        let (rest, lands) = (read_back::rest_of(day, &holds), read_back::rest_can_land(day, &holds));
+        assert_eq!(lands, short_stretch(&rest).is_none(), "by landing and by stretches: {day:?} {holds:?}");
+        if run.seed.one_in(if lands { 32 } else { 2 }) {
+            assert_eq!(lands, least_by_moves(&rest).is_some(), "by landing and by planning: {day:?} {holds:?}");
+            run.reach(format!("plan reader, the rest of a day planned, with {}", if lands { "a plan" } else { "none" }));
+        }
+    }
+}
+
+/// The plan text of a day read back: texts of legal plans, so many damaged ones, and some of both with a hold row of another length or
+/// for rows that are no day. A day without a legal plan gets texts too.
+fn read_back_of_a_day(run: &mut Run, day: &Day, all: Option<&AllTexts>, others: u64, times: u64) {
+    let (rows, n) = (day.rows(), day.flights.len());
+    let plans = read_back_inputs::plans(&run.seed, day, others);
+    for plan in &plans {
+        run.read_plan(&rows, day.plan_text(plan).as_bytes(), n, all);
+    }
+    if let Some(plan) = plans.last() {
+        rest_of_a_day(run, day, plan);
+    }
+    for call in 0..if plans.is_empty() { times.min(6) } else { times } {
+        let text = match plans.len() as u64 {
+            0 => read_back_inputs::other_text(&run.seed, day),
+            count => {
+                let [plan, other] = [0, 1].map(|_| &plans[run.seed.below(count) as usize]);
+                read_back_inputs::damaged(&run.seed, day, plan, other)
+            }
+        };
+        run.read_plan(&rows, &text, n, all);
+        if call < 2 {
+            let length = read_back_inputs::hold_row(&run.seed, n);
+            let text = plans.first().filter(|_| run.seed.one_in(3)).map_or(text, |plan| day.plan_text(plan).into_bytes());
+            run.read_plan(&rows, &text, length, all);
+            let mut spoiled = rows.clone();
+            inputs::spoil(&run.seed, &mut spoiled);
+            let length = read_back_inputs::hold_row(&run.seed, spoiled.flights.len() / WIDTH);
+            run.read_plan(&spoiled, &text, length, None);
+        }
+    }
+}
+
+/// A text cut at every place.
+fn every_cut(run: &mut Run, day: &Day, all: &AllTexts) {
+    if let Some(plan) = read_back_inputs::plans(&run.seed, day, 1).last() {
+        let text = day.plan_text(plan);
+        for at in 0..=text.len() {
+            run.read_plan(&day.rows(), &text.as_bytes()[..at], plan.len(), Some(all));
+        }
     }
 }
 
@@ -282,6 +346,44 @@ fn with_each_growth() -> Vec<String> {
     every.filter(|what| what != "the lower rate first, growth 0").collect()
 }
 
+/// What the plan reader must have met: plans of all kinds, and each line with everything that can be wrong with it.
+#[rustfmt::skip]
+const READ_BACK: [&str; 62] = [
+    "every plan's text made", "a plan", "a cheapest plan", "a plan that is not cheapest", "no flight",
+    "several in the closing period", "none in the closing period", "a full period", "a hold at its limit", "a cost of 7 digits",
+    "a jump at hold 0", "late + hold equal to after", "late + hold one more than after", "a jump that the low seven bits of late do not cost",
+    "no day", "a hold row of none", "a hold row one shorter", "a hold row one longer", "a hold row longer", "a hold row of 128",
+    "no legal plan, an empty text", "no legal plan, the names line alone", "no legal plan, the names line and a flight's line",
+    "no legal plan, the names line and another line", "no legal plan, another line",
+    "ends before the names line", "ends before a flight's line", "ends before the line before the total", "ends before the total",
+    "the names line without its end byte", "a flight's line without its end byte", "the line before the total without its end byte", "the total without its end byte",
+    "a part of the names line, or other bytes", "a part of a flight's line, or other bytes", "a part of the line before the total, or other bytes", "a part of the total, or other bytes",
+    "not the names line", "not the line before the total", "another flight's line",
+    "a flight's line with fewer fields", "a flight's line with more fields", "a line with several wrong numbers",
+    "for the cost that without late", "for the cost that without the jump", "for the cost that without the jump at hold 0", "for the cost that with the jump at after",
+    "right in itself, one over its limit", "right in itself, over its limit",
+    "right in itself, just after the closing period", "right in itself, far after the closing period",
+    "right in itself, in a full period", "right in itself, in a closed period",
+    "right in itself, but the next flight cannot land", "right in itself, but a later flight cannot land", "right in itself, but later flights cannot all land",
+    "behind the total an end byte", "behind the total a byte 0", "behind the total a byte", "behind the total a byte 0 and more",
+    "behind the total whole lines", "behind the total bytes without an end byte",
+];
+
+#[rustfmt::skip]
+const READ_BACK_SIZES: [&str; 29] = [
+    "96 periods and 128 flights", "128 flights in the closing period", "more than 64 landings in a numbered period", "a hold of more than 64 at its limit",
+    "a total of 9 digits", "a total of 250,880,000", "a text of 2,859 bytes",
+    "no day", "a hold row of none", "a hold row one shorter", "a hold row one longer", "a hold row of 128",
+    "no legal plan, the names line and a flight's line, 96 periods and 128 flights", "no legal plan, another line, a text of more than 8,192 bytes",
+    "not the names line, 96 periods and 128 flights", "not the names line, a text of more than 8,192 bytes",
+    "ends before a flight's line, 96 periods and 128 flights", "ends before the total, 96 periods and 128 flights", "the total without its end byte, 96 periods and 128 flights",
+    "behind the total an end byte, 96 periods and 128 flights", "behind the total whole lines, 96 periods and 128 flights",
+    "behind the total bytes without an end byte, a text of more than 8,192 bytes", "behind the total bytes without an end byte, a text of more than 65,536 bytes",
+    "right in itself, but the next flight cannot land, 96 periods and 128 flights", "right in itself, but a later flight cannot land, 96 periods and 128 flights",
+    "right in itself, but later flights cannot all land, 96 periods and 128 flights", "right in itself, in a full period, 96 periods and 128 flights",
+    "the rest of a day planned, with a plan", "the rest of a day planned, with none",
+];
+
 /// What `must_reach` asks, of one call.
 fn must_meet(run: &Run, call: &str, least: u64, wanted: &[&str], more: &[String]) {
     let all: Vec<String> = wanted.iter().copied().chain(more.iter().map(String::as_str)).map(|what| format!("{call}, {what}")).collect();
@@ -382,6 +484,44 @@ fn large_days_with_growth() {
         growth_of_a_day(&mut run, &day, growth, 2);
     }
     must_meet(&run, "growing plan", 2, &GROWTH_SIZES, &[]);
+}
+
+#[test]
+fn small_days_read_back() {
+    let mut run = Run::of(10);
+    for round in 0..days() * 4 {
+        let some = |low, high| run.seed.between(low, high);
+        let day = match round % 4 {
+            0 => inputs::random_day(&run.seed, 4, 5),
+            1 => read_back_inputs::tight_day(&run.seed, some(1, 2), some(2, 6)),
+            _ => read_back_inputs::tight_day(&run.seed, some(1, 4), some(0, 5)),
+        };
+        let all = AllTexts::of(&day);
+        read_back_of_a_day(&mut run, &day, Some(&all), 2, 16);
+        if round % 16 == 3 {
+            every_cut(&mut run, &day, &all);
+        }
+    }
+    must_meet(&run, "plan reader", 20, &READ_BACK, &orders(&read_back::REASONS));
+    must_meet(&run, "plan reader", 5, &[], &read_back::every_wrong_number());
+}
+
+#[test]
+fn large_days_read_back() {
+    let mut run = Run::of(11);
+    for round in 0..days() / 2 {
+        let day = match round % 16 {
+            0 => inputs::heavy_day(&run.seed),
+            1 => read_back_inputs::longest_day(&run.seed),
+            2 => inputs::day_open_at_its_end(&run.seed),
+            3..=4 => inputs::day_of_size(&run.seed, 96, 128),
+            5..=6 => inputs::random_day(&run.seed, 96, 128),
+            7..=10 => read_back_inputs::tight_day(&run.seed, 96, 128),
+            _ => read_back_inputs::tight_day(&run.seed, run.seed.between(1, 96), run.seed.between(0, 128)),
+        };
+        read_back_of_a_day(&mut run, &day, None, 2, 16);
+    }
+    must_meet(&run, "plan reader", 2, &READ_BACK_SIZES, &[]);
 }
 
 #[test]
