@@ -1,10 +1,12 @@
 // Runs the examples of documents 01 and 02 and of the report and prints what every call answers, with the rows and texts that it filled; the
 // file stdout has what they must be. An example is a line `kind name length`, then that many bytes of sheet, then an end byte. Its kind says
 // what is run: `read` the reader; `day` every call for the sheet's day, but for the forecast and the growing plan; `odds` the forecast plan;
-// `growth` the growing plan; `factors` some rows of the table that it reads, with no sheet; `lengths` every call with rows of other lengths; `values`
+// `growth` the growing plan; `text` a plan text read back; `factors` some rows of the table of factors, with no sheet; `lengths` every call
+// with rows of other lengths; `values`
 // every call for days in memory that differ from the sheet's in a value or a length; `unfit` the reader with rows of other lengths;
 // `program` the text that the program writes.
 // What a call changed though it had to leave it is reported as `CHANGED`, and a text that is not the expected one as `OTHER`.
+mod back;
 mod calls;
 mod factors;
 mod forecasts;
@@ -51,8 +53,9 @@ fn run_kind(kind: u8, input: &[u8], length: usize) {
     match kind {
         b'p' => run_program(input, length),
         b'f' => factors::show_factors(),
+        b't' => back::run_text(kind, part(input, 0, length)),
         b'u' => sheets::run_reader(part(input, 0, length)),
-        _ => sheets::run_sheet(kind, part(input, 0, length)),
+        _ => sheets::run_sheet(kind, part(input, 0, length), b""),
     }
 }
 
@@ -75,11 +78,11 @@ fn run_example(input: &[u8], at: usize) -> usize {
     start + length + 1
 }
 
-// At most a hundred examples.
+// At most a hundred and fifty examples.
 fn run_all(input: &[u8]) {
     let mut at: usize = 0;
     let mut examples: usize = 0;
-    while examples < 100 {
+    while examples < 150 {
         examples += 1;
         if at < input.len() {
             at = run_example(input, at);

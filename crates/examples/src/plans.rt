@@ -1,5 +1,6 @@
 // All that the core answers for a day: plans, prices, boards, cards and both texts.
 ghost use Prim.Native.Nat.{_≤_};
+use crate::back::read_back;
 use crate::calls::board;
 use crate::calls::card;
 use crate::calls::choice;
@@ -80,7 +81,7 @@ fn run_plan_places(capacities: &[u32], flights: &[u32], holds: &[u32], text: &[u
     plan_text_at(capacities, flights, holds, FAR, text);
 }
 
-// The text as it stands from place 0 on; then the same at other places.
+// The text as it stands from place 0 on; then the same at other places, and read back.
 fn run_plan_texts(capacities: &[u32], flights: &[u32], holds: &[u32]) {
     let mut space = text_buffer();
     let code = desk::hold_desk_plan_text(capacities, flights, holds, &mut space, 0);
@@ -95,6 +96,7 @@ fn run_plan_texts(capacities: &[u32], flights: &[u32], holds: &[u32]) {
     put(b"\n");
     put(text);
     run_plan_places(capacities, flights, holds, text);
+    read_back(capacities, flights, text, holds.len());
 }
 
 pub fn run_day(capacities: &[u32], flights: &[u32], sheet: &[u8]) {

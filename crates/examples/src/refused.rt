@@ -1,5 +1,6 @@
 // Calls that are turned down for what they are lent: rows of other lengths, hold rows that are not legal, and days in memory with a
 // length or a value that no day has. Every call is run in each of these cases, so that the order of the refusals shows.
+use crate::back::read_back;
 use crate::calls::board;
 use crate::calls::card;
 use crate::calls::choice;
@@ -42,7 +43,8 @@ fn shorter(length: usize) -> usize {
     if 0 < length { length - 1 } else { 1 }
 }
 
-// Every call. The card is asked for period 0, and the growing plan for a growth of 41, which are refused last.
+// Every call. The card is asked for period 0, the growing plan for a growth of 41, and the text to be read back is none, which are
+// refused last.
 fn run_calls(capacities: &[u32], flights: &[u32], holds: &[u32], lent: Lent) {
     let prices = price_row();
     quick_plan(capacities, flights, holds.len());
@@ -53,6 +55,7 @@ fn run_calls(capacities: &[u32], flights: &[u32], holds: &[u32], lent: Lent) {
     choice(capacities, flights, holds, holds);
     board(capacities, flights, holds, lent.board);
     plan_text(capacities, flights, holds, lent.place);
+    read_back(capacities, flights, b"total\n", holds.len());
     sheet_text(capacities, flights, lent.place);
     forecast_plan_of(capacities, flights, holds.len());
 }

@@ -1,4 +1,5 @@
 // The reader: sheets, and rows of other lengths.
+use crate::back::read_back;
 use crate::forecasts::run_forecasts;
 use crate::growing::run_growths;
 use crate::plans::run_day;
@@ -61,19 +62,20 @@ pub fn run_reader(sheet: &[u8]) {
     read_into(sheet, 0, 0);
 }
 
-// What the example's kind asks for a day that was read.
-fn run_read(kind: u8, capacities: &[u32], flights: &[u32], sheet: &[u8]) {
+// What the example's kind asks for a day that was read; the text is for the kind `text`.
+fn run_read(kind: u8, capacities: &[u32], flights: &[u32], sheet: &[u8], text: &[u8]) {
     match kind {
         b'd' => run_day(capacities, flights, sheet),
         b'l' => run_lengths(capacities, flights),
         b'v' => run_values(capacities, flights),
         b'o' => run_forecasts(capacities, flights),
         b'g' => run_growths(capacities, flights),
+        b't' => read_back(capacities, flights, text, day::flight_count(flights)),
         _ => (),
     }
 }
 
-pub fn run_sheet(kind: u8, sheet: &[u8]) {
+pub fn run_sheet(kind: u8, sheet: &[u8], text: &[u8]) {
     let mut capacity_space = price_row();
     let mut flight_space = flight_row();
     let capacities = front_mut(&mut capacity_space, PERIODS);
@@ -91,6 +93,7 @@ pub fn run_sheet(kind: u8, sheet: &[u8]) {
                 front(capacities, periods),
                 front(flights, count * WIDTH),
                 sheet,
+                text,
             );
         }
     }
