@@ -4,7 +4,7 @@ use mathlib.Core.Path.{_≡_, refl, sym, ap, ap₂, _∙_}
 use mathlib.Core.Logic.{inl, inr, _≢_}
 use mathlib.Core.Bool.{Bool, true, false}
 use Prim.Native.Nat.{ℕ, zero, suc, _+_, _*_, _≤_, _<_, zero-le}
-use native.Mathlib.Nat.{zero-add, suc-add, add-mul, mul-suc, suc-mul}
+use native.Mathlib.Nat.{add-zero, add-suc, zero-add, suc-add, add-mul, mul-suc, suc-mul}
 use native.Mathlib.Omega.{arith}
 use lib.Dec.{ltb, eqb}
 use Rattle.assignment.specs.Sum.{gate, sum, count}
@@ -44,6 +44,12 @@ pub sum-zero : (n : ℕ) (f : ℕ → ℕ) → ((i : ℕ) → i < n → f i ≡ 
 unfolding sum
 sum-zero zero f h = refl
 sum-zero (suc n) f h = omega (arith, sum-zero n f (λ i l. h i (omega arith)), h n (omega arith))
+
+-- the first a terms, and n more
+pub sum-split : (a n : ℕ) (g : ℕ → ℕ) → sum (a + n) g ≡ sum a g + sum n (λ i. g (a + i))
+unfolding sum
+sum-split a zero g = rw add-zero (sym (add-zero (sum a g)))
+sum-split a (suc n) g = rw add-suc (omega (arith, sum-split a n g))
 
 -- n equal terms
 pub sum-same : (n x : ℕ) → sum n (λ i. x) ≡ x * n

@@ -9,21 +9,21 @@ use Prim.Native.Nat.{ℕ, zero, suc, _+_, _-_, _*_, _≤_, _<_}
 use native.Mathlib.Numerals.{add-one}
 use native.Mathlib.Omega.{arith}
 use lib.ListN.{length, getD, set, drop, length-append, length-drop, length-set, List·getD-append}
+use lib.Dec.{eqb}
 use lib.Seq.{getD-drop, getD-append-add, getD-set-other, ext-getD}
-use Rattle.assignment.specs.Sum.{sum, count}
+use Rattle.assignment.specs.Sum.{gate, count}
 use Rattle.assignment.specs.Rows.{row}
 use Rattle.assignment.proofs.Tests.{lt?}
 use Rattle.assignment.proofs.Rows.{row-length, row-at, row-ext}
-use Rattle.assignment.proofs.Sums.{count-ext, count-zero}
+use Rattle.assignment.proofs.Sums.{sum-split, count-ext, count-zero}
 use Rattle.day.specs.Day.{Day, P, N, width, column, flightCount, flightAt, due, latest, ofPeriod, capacity, hold, land, landings, Window, valid}
-use Rattle.day.specs.Plan.{Legal, Short, tooLong, breaks, firstBreak}
+use Rattle.day.specs.Plan.{Legal, HasPlan, Short, breaks, firstBreak}
 use Rattle.day.specs.Valid.{Valid}
-use Rattle.day.proofs.Existence.{HasPlan, plan-exactly}
+use Rattle.day.proofs.Existence.{plan-exactly}
 use Rattle.day.proofs.Flights.{same-columns}
 use Rattle.day.proofs.Tests.{first-none, none-passes}
 use Rattle.day.proofs.Valid.{range-means, range-from}
-use Rattle.legality.proofs.Laws.{or-false, not-long}
-use Rattle.legality.proofs.Meaning.{upto, none-legal, walk-means}
+use Rattle.legality.proofs.Meaning.{passes-window, upto, none-legal, walk-means}
 use Rattle.completion.specs.Rest.{Completed, Unbroken, capacitiesLeft, rest}
 use Rattle.completion.specs.Loop.{Partial}
 
@@ -38,12 +38,6 @@ breaks-same d h g i same =
 pub legal-unbroken : {d : Day} {h : List ℕ} → Valid d → Legal d h → (i : ℕ) → i ≤ N d → Unbroken d h i
 unfolding firstBreak
 legal-unbroken {d} {h} v legal i l = record { none = λ j b. none-passes (N d) (breaks d h) (walk-means v (legal .each) .1 legal) j (omega arith) }
-
-unbroken-window : {d : Day} {h : List ℕ} {i : ℕ} → Unbroken d h i → (j : ℕ) → j < i → Window d j (land d h j)
-unfolding breaks
-unbroken-window {d} {h} u j l =
-    let t = not-long d j (land d h j) (or-false (tooLong d j (land d h j)) _ (u .none j l) .0) in
-    record { from = omega arith; closing = t .0; limited = t .1 }
 
 -- ---- the rest of the day
 
@@ -102,11 +96,8 @@ rest-valid {d} v h i l = record {
 -- ---- a plan of the day in two parts
 
 count-two : (n m : ℕ) (x : ℕ → ℕ) (k : ℕ) → count (n + m) x k ≡ count n x k + count m (λ j. x (n + j)) k
-unfolding count sum
-count-two n zero x k = let e : n + 0 ≡ n = omega arith in rw e (omega arith)
-count-two n (suc m) x k =
-    let e : n + suc m ≡ suc (n + m) = omega arith in
-    rw e (omega (arith, count-two n m x k))
+unfolding count
+count-two n m x k = sum-split n m (λ i. gate (eqb (x i) k) 1)
 
 -- g has the first i holds of h, and then those of r
 record Joined (h r g : List ℕ) (i : ℕ) : Type 0 where
@@ -145,7 +136,7 @@ module _ (d : Day) {h r g : List ℕ} {i : ℕ} (parts : Joined h r g i) (l : i 
     where
       window : (j : ℕ) → j < N d → Window d j (land d g j)
       window j b = elim (lt? j i) [
-        | inl before ↦ rw (first-lands j before) (unbroken-window u j before)
+        | inl before ↦ rw (first-lands j before) (passes-window d h j (u .none j before))
         | inr behind ↦
             let e : i + (j - i) ≡ j = omega arith in
             rw (← e, later-lands (j - i)) (rest-window d h i (legal .window (j - i) (omega (arith, rest-count d h i))))

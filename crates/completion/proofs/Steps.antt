@@ -11,15 +11,16 @@ use lib.ListN.{length, getD, set, take, drop, length-set, length-drop}
 use lib.Seq.{take-all}
 use borrow.Author.Tests.{lt-ltb, le-ltb, le-leb, lt-leb}
 use Rattle.answers.specs.Decides.{Decides}
+use Rattle.answers.proofs.Decides.{say-yes, say-no}
 use Rattle.assignment.specs.Sum.{count}
 use Rattle.assignment.specs.Moves.{Moved}
 use Rattle.assignment.proofs.Tests.{eq?, gate-eq, gate-ne}
 use Rattle.assignment.proofs.Sums.{count-suc}
 use Rattle.day.specs.Day.{Day, day, P, N, width, ofPeriod, capacity, land, valid}
-use Rattle.day.specs.Plan.{Picked, Short, tooLong, overCapacity, breaks}
+use Rattle.day.specs.Plan.{HasPlan, Picked, Short, tooLong, overCapacity, breaks}
 use Rattle.day.specs.Valid.{Valid}
 use Rattle.day.proofs.Costs.{period-in, period-moved}
-use Rattle.day.proofs.Existence.{HasPlan, plan-exactly}
+use Rattle.day.proofs.Existence.{plan-exactly}
 use Rattle.day.proofs.Valid.{valid-means, means-valid}
 use Rattle.legality.proofs.Meaning.{upto}
 use Rattle.completion.specs.Rest.{Completed, capacitiesLeft}
@@ -147,16 +148,10 @@ pub part-is : (flights : List ℕ) (start : ℕ) → take (length flights - star
 part-is flights start = take-all (length flights - start) (drop start flights) (rw length-drop (omega arith))
 
 pub short-found : {d : Day} {a b : ℕ} → valid d ≡ true → Picked d a b → Decides false (HasPlan d)
-short-found {d} {a} {b} good found = record {
-  yes = λ e. let z : _≡_ {A = ℕ} 0 1 = cc in absurd (omega arith);
-  no = λ _ p. plan-exactly (valid-means good) .0 p a b (found .short);
-}
+short-found {d} {a} {b} good found = say-no (λ p. plan-exactly (valid-means good) .0 p a b (found .short))
 
 pub none-found : {d : Day} → valid d ≡ true → ((a b : ℕ) → Short d a b → ⊥) → Decides true (HasPlan d)
-none-found good none = record {
-  yes = λ _. plan-exactly (valid-means good) .1 none;
-  no = λ e. let z : _≡_ {A = ℕ} 0 1 = cc in absurd (omega arith);
-}
+none-found good none = say-yes (plan-exactly (valid-means good) .1 none)
 
 -- ---- holds taken back from the last on
 

@@ -6,7 +6,7 @@ ghost use Prim.Native.Nat.{_+_, _*_, _<_, _≤_};
 ghost use lib.ListN.{length, drop};
 ghost use Rattle.answers.specs.Decides.{Decides};
 ghost use Rattle.day.specs.Day.{day, lent, width, valid, N};
-ghost use Rattle.day.proofs.Existence.{HasPlan};
+ghost use Rattle.day.specs.Plan.{HasPlan};
 ghost use Rattle.completion.specs.Loop.{Partial, Landed, MostCompleted};
 use day::WIDTH;
 use day::land_of;

@@ -3,7 +3,6 @@
 use mathlib.Core.Path.{_≡_, ap}
 use mathlib.Core.Logic.{_⊎_, inl, inr, _↔_}
 use mathlib.Core.Bool.{_&&_}
-use mathlib.Core.List.{List}
 use Prim.Native.Nat.{ℕ, _+_, _≤_, _<_}
 use native.Mathlib.Omega.{arith}
 use lib.Dec.{leb, le→leb}
@@ -13,15 +12,11 @@ use Rattle.assignment.proofs.Tests.{lt?, gate-on, gate-le}
 use Rattle.assignment.proofs.Sums.{sum-most, sum-member}
 use Rattle.assignment.proofs.Existence as existence
 use Rattle.day.specs.Day.{Day, P, N, due, takes, last}
-use Rattle.day.specs.Plan.{Legal, Short, Picked}
+use Rattle.day.specs.Plan.{HasPlan, Short, Picked}
 use Rattle.day.specs.Valid.{Valid}
 use Rattle.day.specs.Instance.{instance}
 use Rattle.day.proofs.Costs.{takes-closing, due-latest}
 use Rattle.day.proofs.Instance.{holdsOf, holds-legal, instance-short, short-has-no-plan}
-
-pub record HasPlan (d : Day) : Type 0 where
-  pub holds : List ℕ
-  pub legal : Legal d holds
 
 pub record HasShort (d : Day) : Type 0 where
   pub a : ℕ

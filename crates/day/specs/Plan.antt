@@ -19,6 +19,11 @@ pub record Legal (d : Day) (holds : List ℕ) : Type 0 where
   pub window : (i : ℕ) → i < N d → Window d i (land d holds i)
   pub room : (k : ℕ) → 1 ≤ k → k ≤ P d → landings d holds k ≤ capacity d k
 
+-- there is a legal plan
+pub record HasPlan (d : Day) : Type 0 where
+  pub holds : List ℕ
+  pub legal : Legal d holds
+
 -- legal, and no legal plan costs less
 pub record Cheapest (d : Day) (holds : List ℕ) : Type 0 where
   pub legal : Legal d holds

@@ -12,7 +12,7 @@ use borrow.Author.Tests.{le-ltb, le-leb, lt-leb, ltb-false}
 use Rattle.assignment.specs.Sum.{gate, sum, count}
 use Rattle.assignment.proofs.Tests.{lt?, eq?, gate-ne}
 use Rattle.assignment.proofs.Sums.{count-suc, count-zero, sum-grow}
-use Rattle.day.specs.Day.{Day, P, N, capacity, latest, land}
+use Rattle.day.specs.Day.{Day, P, N, capacity, latest, Window, land}
 use Rattle.day.specs.Plan.{Legal, tooLong, overCapacity, breaks, firstBreak}
 use Rattle.day.proofs.Tests.{first-none, none-passes}
 use Rattle.day.specs.Valid.{Valid}
@@ -40,6 +40,13 @@ module _ (d : Day) (h : List ℕ) where
     | inr e ↦ omega (arith, upto n (λ i b. none i (omega arith)) k l, count-suc n (land d h) k, gate-ne (land d h n) k 1 e)
   ]
 
+  -- and it lands in its window
+  pub passes-window : (i : ℕ) → breaks d h i ≡ false → Window d i (land d h i)
+  unfolding breaks
+  passes-window i e =
+      let t = not-long d i (land d h i) (or-false (tooLong d i (land d h i)) _ e .0) in
+      record { from = omega arith; closing = t .0; limited = t .1 }
+
   -- of any day, valid or not
   pub none-legal : length h ≡ N d → firstBreak d h ≡ N d → Legal d h
   unfolding firstBreak breaks
@@ -47,9 +54,7 @@ module _ (d : Day) (h : List ℕ) where
       let none = none-passes (N d) (breaks d h) e in
       record {
         each = each;
-        window = λ i l.
-            let t = not-long d i (land d h i) (or-false (tooLong d i (land d h i)) _ (none i l) .0) in
-            record { from = omega arith; closing = t .0; limited = t .1 };
+        window = λ i l. passes-window i (none i l);
         room = λ k a b. upto (N d) none k b;
       }
 

@@ -3,7 +3,7 @@
 use Prim.Native.Nat.{ℕ, zero, suc, _≤_, _<_, _+_, _-_, _*_, _/_, _%_, _^_, min}
 use native.Mathlib.Omega.{arith}
 use native.Mathlib.Numerals.{one-add}
-use native.Mathlib.Nat.{one-mul, zero-mul, pow-suc, zero-add, add-suc, add-zero}
+use native.Mathlib.Nat.{one-mul, zero-mul, pow-suc, zero-add, add-zero}
 use mathlib.Core.Path.{_≡_, refl, ap, sym, _∙_}
 use mathlib.Core.Logic.{inl, inr}
 use mathlib.Core.Bool.{Bool, true, false, cond}
@@ -14,7 +14,7 @@ use lib.Count.{ones, ones-cat}
 use borrow.Author.Tests.{lt-ltb, le-ltb}
 use Rattle.assignment.specs.Sum.{gate, sum}
 use Rattle.assignment.proofs.Tests.{eq?, lt?}
-use Rattle.assignment.proofs.Sums.{sum-ext}
+use Rattle.assignment.proofs.Sums.{sum-ext, sum-split}
 use Rattle.period_card.specs.PeriodCard.{word, marks, size}
 
 gate-most : (b : Bool) (p : ℕ) → gate b p ≤ p
@@ -97,11 +97,6 @@ ones-word : (e : ℕ → Bool) (from n : ℕ) → ones (word e from n) ≡ sum n
 unfolding word sum
 ones-word e from zero = ones-zero
 ones-word e from (suc n) = rw (← ones-word e from n) (ones-top (e (from + n)) n (word e from n) (word-lt e from n))
-
-sum-split : (a n : ℕ) (g : ℕ → ℕ) → sum (a + n) g ≡ sum a g + sum n (λ i. g (a + i))
-unfolding sum
-sum-split a zero g = rw add-zero (sym (add-zero (sum a g)))
-sum-split a (suc n) g = rw add-suc (omega (arith, sum-split a n g))
 
 pub size-of : (e : ℕ → Bool) (n : ℕ) → ones (marks e n .low) + ones (marks e n .high) ≡ size e n
 unfolding marks size sum

@@ -3,14 +3,15 @@
 use Prim.Native.Nat.{ℕ, zero, suc, _≤_, _<_, _+_}
 use native.Mathlib.Omega.{arith}
 use native.Mathlib.Numerals.{add-one}
-use mathlib.Core.Path.{_≡_, refl, sym, ap, _∙_}
-use mathlib.Core.Logic.{inl, inr}
-use mathlib.Core.Bool.{Bool, true, false}
+use mathlib.Core.Path.{_≡_, sym, ap, _∙_}
+use mathlib.Core.Logic.{inr}
+use mathlib.Core.Bool.{true, false}
 use mathlib.Core.List.{List, [], _++_, append-assoc, append-nil}
-use lib.ListN.{length, take, drop, take-append-drop, length-append, drop-of-length-le, length-take}
-use lib.Seq.{take-at, drop-at, length-take-le, take-length}
+use lib.ListN.{length, take, drop, take-append-drop, drop-of-length-le, length-take}
+use lib.Seq.{take-at, drop-at, length-take-le}
 use lib.Dec.{lit<}
-use Rattle.text.specs.Digits.{digits, ended}
+use Rattle.answers.proofs.Decides.{true-false}
+use Rattle.text.specs.Digits.{ended}
 use Rattle.text.specs.Fixed.{startsWith}
 use Rattle.text.specs.Reading.{field}
 use Rattle.text.specs.Standing.{Stands}
@@ -24,7 +25,7 @@ use Rattle.plan_reader.specs.PlanReading.{LineEnds, WholeLines}
 use Rattle.plan_reader.specs.Loop.{frontLines, Diverges, CanEnd, EndRead}
 use Rattle.plan_reader.specs.declared.End.the-variants.{Whole, Wrong}
 use Rattle.plan_reader.proofs.Ends.{OneLine, names-line, total-name-line, number-line, values-line, same-front, line-ends, line-more}
-use Rattle.plan_reader.proofs.Fronts.{front-next, totalLines, text-end}
+use Rattle.plan_reader.proofs.Fronts.{front-next, text-end}
 
 -- ---- what stands at the front
 
@@ -100,7 +101,7 @@ module _ {f s h : List ℕ} {at : ℕ} (c : CanEnd f s h at) where
   pub end-no-name : startsWith (drop at s) totalName ≡ false → EndRead f s h (Wrong at)
   end-no-name e = (
     goes-wrong (planText f h) s (frontLines f h n) totalName (ended 10 (totalOf f h)) at by-name total-name-line (c .stands) (inr (front-ends f h n (c .stands)))
-        (λ next w. let q = starts-with totalName (drop next s) in let y : startsWith (drop at s) totalName ≡ true = rw (w .text) q in let z : _≡_ {A = ℕ} 0 1 = cc in omega (arith, z)),
+        (λ next w. let q = starts-with totalName (drop next s) in let y : startsWith (drop at s) totalName ≡ true = rw (w .text) q in true-false (sym y ∙ e)),
     omega (arith, here),
   )
 

@@ -11,6 +11,7 @@ use lib.ListN.{length, getD, take, drop, length-append, length-take, take-append
 use lib.Seq.{length-take-le, getD-take, take-take, take-at, drop-append-seam, getD-append-add, getD-drop, getD-at}
 use lib.Dec.{eqb}
 use borrow.Author.Tests.{ne-eqb, eq-eqb}
+use Rattle.answers.proofs.Decides.{true-false}
 use Rattle.assignment.proofs.Tests.{true-and, lt?}
 use Rattle.text.specs.Digits.{digits, ended, separated, line}
 use Rattle.text.specs.Fixed.{startsWith}
@@ -39,7 +40,7 @@ plain-append (x ∷ xs) ys p q = let t = and-true (not (eqb x 10)) (plain xs) p 
 plain-at : (l : List ℕ) (k : ℕ) → plain l ≡ true → k < length l → getD l k 0 ≡ 10 → ⊥
 unfolding plain
 plain-at [] k p h e = omega arith
-plain-at (x ∷ xs) zero p h e = let t : _≡_ {A = Bool} false true = rw (eq-eqb x 10 e) at (and-true (not (eqb x 10)) (plain xs) p .0) in let z : _≡_ {A = ℕ} 0 1 = cc in omega arith
+plain-at (x ∷ xs) zero p h e = let t : _≡_ {A = Bool} false true = rw (eq-eqb x 10 e) at (and-true (not (eqb x 10)) (plain xs) p .0) in true-false (sym t)
 plain-at (x ∷ xs) (suc k) p h e = plain-at xs k (and-true (not (eqb x 10)) (plain xs) p .1) (omega arith) e
 
 plain-digits : (n : ℕ) → plain (digits n) ≡ true

@@ -1,18 +1,18 @@
 -- A flight's line read: what its numbers show, and that the line of a legal plan is short enough to be read.
 -- Assumes nothing.
-use Prim.Native.Nat.{ℕ, zero, suc, _<_, _+_, _*_, _^_}
+use Prim.Native.Nat.{ℕ, zero, suc, _<_, _+_}
 use native.Mathlib.Omega.{arith}
 use mathlib.Core.Path.{_≡_, refl, sym, ap, ap₂, _∙_}
 use mathlib.Core.Bool.{false}
-use mathlib.Core.List.{List, [], _∷_, _++_}
+use mathlib.Core.List.{List, _++_}
 use lib.ListN.{length, getD, drop}
 use lib.Seq.{ext-getD}
 use lib.Dec.{eqb, lit<}
-use borrow.Author.Tests.{eq-eqb, ne-eqb, eqb-true, eqb-false}
+use borrow.Author.Tests.{eqb-true, eqb-false}
 use Rattle.answers.specs.Decides.{Decides}
+use Rattle.answers.proofs.Decides.{say-no}
 use Rattle.text.specs.Digits.{line}
-use Rattle.text.specs.Reading.{separatedAt, rowAfter, Line, values, lastOf, lineAt}
-use Rattle.text.specs.Standing.{LineHere}
+use Rattle.text.specs.Reading.{separatedAt, rowAfter, values, lastOf, lineAt}
 use Rattle.text.specs.declared.Number.the-variants.{Value, Bad}
 use Rattle.text.proofs.Digits.{count-le}
 use Rattle.text.proofs.Lines.{line-read, line-write, line-row}
@@ -27,7 +27,7 @@ use Rattle.plan_reader.specs.Loop.{lineValues, lineCost, Shows, ShortLin
 module _ (f : List ℕ) (i : ℕ) (ns : List ℕ) (c : ℕ) where
   -- one of them is another
   pub other-number : (k : ℕ) → (getD ns k 0 ≡ getD (lineValues f i (getD ns 3 0)) k 0 → ⊥) → Decides false (Shows f i ns c)
-  other-number k e = record { yes = λ t. let z : _≡_ {A = ℕ} 0 1 = cc in absurd (omega (arith, z)); no = λ t s. e (ap (λ (l : List ℕ). getD l k 0) (s .values)) }
+  other-number k e = say-no (λ s. e (ap (λ (l : List ℕ). getD l k 0) (s .values)))
 
   -- all four are the flight's: the cost decides
   pub cost-decides : length ns ≡ 4 → getD ns 0 0 ≡ numberOf f i → getD ns 1 0 ≡ dueOf f i → getD ns 2 0 ≡ dueOf f i + getD ns 3 0

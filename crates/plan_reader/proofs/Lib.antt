@@ -3,4 +3,5 @@ pub mod Fronts
 pub mod Holds
 pub mod Ending
 pub mod Reading
+pub mod Calls
 pub mod Meaning

@@ -2,9 +2,9 @@
 -- are accepted, and that text to holds and holds to text undo each other.
 -- Assumes nothing.
 use mathlib.Core.Path.{_≡_, refl, sym, ap, _∙_}
-use mathlib.Core.Logic.{_⊎_, inl, inr, _↔_}
+use mathlib.Core.Logic.{inl, inr, _↔_}
 use mathlib.Core.Bool.{Bool, true, false, cond}
-use mathlib.Core.List.{List, _++_}
+use mathlib.Core.List.{List}
 use Prim.Native.Nat.{ℕ, _≤_, _<_}
 use native.Mathlib.Omega.{arith}
 use lib.ListN.{length, take, drop, take-append-drop}
@@ -22,7 +22,7 @@ use Rattle.day.specs.Plan.{Legal}
 use Rattle.plan_text.specs.PlanText.{planText, planTextAnswer, planTextAfter}
 use Rattle.plan_text.proofs.OneText.{one-text}
 use Rattle.plan_text.proofs.Short.{plan-written}
-use Rattle.plan_reader.specs.PlanReading.{LineEnds, WholeLines, PlanBegins, FirstWrongLine, TextAccepted, TextRefused, TextRead, accepted, refused, ReadPlan}
+use Rattle.plan_reader.specs.PlanReading.{LineEnds, WholeLines, PlanBegins, FirstWrongLine, TextRead, accepted, refused, ReadPlan}
 use Rattle.plan_reader.proofs.Ends.{same-front}
 
 -- ---- the line that refusal 15 names

@@ -1,19 +1,17 @@
 -- The reader's laws: how the flights' lines are read one after another, where no legal plan's text goes on, and which line is then the
 -- first wrong one.
 -- Assumes nothing.
-use Prim.Native.Nat.{ℕ, zero, suc, _≤_, _<_, _+_, _-_, _*_}
+use Prim.Native.Nat.{ℕ, _≤_, _<_, _+_, _-_, _*_}
 use native.Mathlib.Omega.{arith}
 use mathlib.Core.Path.{_≡_, refl, sym, ap, _∙_}
-use mathlib.Core.Logic.{_⊎_, inl, inr}
-use mathlib.Core.Bool.{Bool, true, false}
+use mathlib.Core.Logic.{inl, inr}
+use mathlib.Core.Bool.{true, false}
 use mathlib.Core.List.{List, [], _++_, append-assoc, append-nil}
-use lib.ListN.{length, getD, take, drop, set, length-append, length-set}
-use lib.Seq.{ext-getD, take-at, take-append-seam, drop-length, length-take-le, getD-take, getD-set-same, getD-set-other, take-length, drop-append-seam}
+use lib.ListN.{length, take, drop, set, length-append}
+use lib.Seq.{ext-getD, length-take-le, getD-take, getD-set-same, getD-set-other, take-length, drop-append-seam}
 use lib.Dec.{lit<}
 use Rattle.assignment.proofs.Tests.{lt?, eq?}
-use borrow.Author.Tests.{eq-eqb, ne-eqb}
-use Rattle.answers.specs.declared.Answer.{Answer}
-use Rattle.answers.specs.declared.Answer.the-variants.{Planned, BadDay, BadLength, BadPlanText}
+use Rattle.answers.proofs.Decides.{true-false}
 use Rattle.text.specs.Digits.{ended}
 use Rattle.text.specs.Fixed.{startsWith}
 use Rattle.text.specs.Standing.{Stands}
@@ -21,7 +19,7 @@ use Rattle.text.specs.declared.Number.the-variants.{Value, Bad}
 use Rattle.text.proofs.Digits.{count-le}
 use Rattle.text.proofs.Fixed.{starts-with}
 use Rattle.text.proofs.Reading.{stand, join, parted}
-use Rattle.day.specs.Day.{Day, P, N, mostFlights, width, flightCount, hold, totalOf, total, valid}
+use Rattle.day.specs.Day.{Day, N, mostFlights, width, flightCount, hold, totalOf, total}
 use Rattle.day.specs.Plan.{Legal, breaks}
 use Rattle.day.specs.Valid.{Valid}
 use Rattle.day.proofs.Valid.{valid-means}
@@ -34,14 +32,14 @@ use Rattle.completion.specs.declared.Most.{Most}
 use Rattle.completion.specs.declared.Most.the-variants.{Flights, NoPlan}
 use Rattle.completion.specs.Rest.{Completed}
 use Rattle.completion.specs.Loop.{Partial, Landed, MostCompleted}
-use Rattle.completion.proofs.Completion.{left-length, breaks-same, legal-unbroken, partial-start, partial-set, partial-legal}
-use Rattle.plan_reader.specs.PlanReading.{LineEnds, WholeLines, PlanBegins, FirstWrongLine, TextRead, accepted, refused, ReadPlan}
-use Rattle.plan_reader.specs.Loop.{HoldRead, frontLines, Read, NoneBeyond, LinesRead, BehindMost, placeBehind, CanEnd, Diverges, EndRead, RowsRead, LargeRows}
+use Rattle.completion.proofs.Completion.{left-length, breaks-same, legal-unbroken, partial-set, partial-legal}
+use Rattle.plan_reader.specs.PlanReading.{LineEnds, PlanBegins, FirstWrongLine}
+use Rattle.plan_reader.specs.Loop.{HoldRead, frontLines, Read, NoneBeyond, LinesRead, BehindMost, placeBehind, CanEnd, Diverges, EndRead, RowsRead}
 use Rattle.plan_reader.specs.declared.Front.{Front}
 use Rattle.plan_reader.specs.declared.End.{End}
 use Rattle.plan_reader.specs.declared.End.the-variants.{Whole, Wrong}
 use Rattle.plan_reader.proofs.Ends.{names-line, number-line, line-pos, line-ends, same-front, line-more}
-use Rattle.plan_reader.proofs.Fronts.{front-same, front-next, front-part, behind, text-line, text-names, text-end, totalLines, front-begins, shown}
+use Rattle.plan_reader.proofs.Fronts.{front-same, front-next, front-part, behind, text-line, text-names, text-end, front-begins, shown}
 use Rattle.plan_reader.proofs.Holds.{legal-short}
 use Rattle.plan_reader.proofs.Ending.{front-is, front-inside, plan-line, front-ends, fixed-stands, goes-wrong}
 
@@ -90,9 +88,7 @@ module _ {d : Day} {s h left : List ℕ} {i at : ℕ} (r : Read d s h left i at)
           let w = goes-on less x beyond ends b in
           let p = same-line (d .flights) h g i _ _ (sym (here .text) ∙ w .text) .0 in
           let q = breaks-same d h g i (λ j l. elim (eq? j i) [ inl e ↦ rw e p | inr o ↦ agrees x beyond ends b j (omega arith) ]) in
-          let z : true ≡ false = sym (sym q ∙ broken) ∙ legal-unbroken v (b .legal) (i + 1) (omega arith) .none i (omega arith) in
-          let y : _≡_ {A = ℕ} 0 1 = cc in
-          omega (arith, y)
+          true-false (sym (sym q ∙ broken) ∙ legal-unbroken v (b .legal) (i + 1) (omega arith) .none i (omega arith))
 
       pub read-next : {left₂ : List ℕ} → Partial d h left₂ (i + 1) → Read d s h left₂ (i + 1) next
       read-next p = record { partial = p; stands = rw (front-next (d .flights) h i) (join (r .stands) here) }
@@ -143,7 +139,7 @@ module _ (d : Day) {s : List ℕ} (other : startsWith s planNames ≡ false) whe
   wrong-names : (g : List ℕ) → Diverges (planText (d .flights) g) s 0
   wrong-names g =
       goes-wrong _ s [] planNames (behind (d .flights) g 0) 0 (text-names (d .flights) g) names-line (record { text = refl; place = refl }) (inl refl)
-      (λ next w. let y : startsWith s planNames ≡ true = rw (w .text) (starts-with planNames (drop next s)) in let z : _≡_ {A = ℕ} 0 1 = cc in omega (arith, z))
+      (λ next w. let y : startsWith s planNames ≡ true = rw (w .text) (starts-with planNames (drop next s)) in true-false (sym y ∙ other))
 
   pub no-names : (h : List ℕ) → RowsRead d s h (Wrong 0)
   no-names h = (
@@ -167,6 +163,9 @@ whole-begins {d} {g} {s} legal e = record { plan = g; legal = legal; begins = rw
 
 -- ---- where a text goes wrong within the flights' lines
 
+-- The lines of i flights are read, and no plan's text goes on behind them. Let m be the most of their holds that some legal plan has. Then
+-- that plan's text begins with the names line and m of the lines. A text that began with one line more, or went on behind all i of them,
+-- would be that of a plan that has m + 1 of the holds, or goes on where none does. So the line behind m is the first wrong one.
 module _ {d : Day} {s h left : List ℕ} {i at : ℕ} (r : Read d s h left i at) (stopped : NoneBeyond d s at) where
   abbrev f : List ℕ
   f = d .flights
@@ -295,59 +294,3 @@ module _ {d : Day} {s h left : List ℕ} {front : Front} (l : LinesRead d s h le
 
   pub lines-all : n ≤ front .flights → Read d s h left (N d) (front .at)
   lines-all all = let e : front .flights ≡ N d = omega (arith, l .read .partial .upto) in rw e at (l .read)
-
--- ---- the call
-
-module _ (d : Day) (s h : List ℕ) where
-  pub call-bad-day : valid d ≡ false → ReadPlan d s BadDay h h
-  unfolding ReadPlan
-  call-bad-day bad = rw bad (refl, refl)
-
-  module _ (good : valid d ≡ true) {n : ℕ} (is : n ≡ N d) where
-    pub call-bad-length : (length h ≡ n → ⊥) → ReadPlan d s (BadLength n) h h
-    unfolding ReadPlan
-    call-bad-length other = rw (good, ne-eqb (length h) (N d) (λ e. other (e ∙ sym is)), is) (refl, refl)
-
-    pub call-read : length h ≡ n → {a : Answer} {h₂ : List ℕ} → TextRead d s a h h₂ → ReadPlan d s a h h₂
-    unfolding ReadPlan
-    call-read each r = rw (good, eq-eqb (length h) (N d) (each ∙ is)) r
-
-  pub call-refused : (row : List ℕ) {x : ℕ} → RowsRead d s row (Wrong x) → TextRead d s (BadPlanText x) h h
-  call-refused row {x} (wrong, other) = refused (record { line = x; first-wrong = wrong; other = other; line-is = refl; same-holds = refl })
-
-  pub call-accepted : {t : ℕ} {row h₂ : List ℕ} → RowsRead d s row (Whole t) → h₂ ≡ row → TextRead d s (Planned t) h h₂
-  call-accepted (legal, (is, sum)) e = rw e (accepted (record { legal = legal; text-is = is; total-is = ap Planned sum }))
-
--- ---- rows that are large enough for any day
-
-module _ {d : Day} {h row left : List ℕ} (r : LargeRows d h row left) where
-  pub row-holds : length h ≤ length row
-  row-holds = omega (arith, valid-means (r .good) .flights-to, r .each, r .row-long)
-
-  pub left-holds : P d ≤ length left
-  left-holds = omega (arith, valid-means (r .good) .periods-to, r .left-long)
-
-  -- the capacities are copied to the front of a row
-  module _ {copied : List ℕ} (is : copied ≡ take (P d) (d .capacities) ++ drop (P d) left) where
-    all : take (P d) (d .capacities) ≡ d .capacities
-    all = take-length (d .capacities)
-
-    pub copied-holds : P d ≤ length copied
-    copied-holds = omega (arith, ap length is, length-append (take (P d) (d .capacities)) (drop (P d) left), ap length all)
-
-    pub in-starts : Partial d (take (length h - 0) row) (take (P d - 0) copied) 0
-    in-starts =
-        let z : length h - 0 ≡ length h = omega arith in
-        let y : P d - 0 ≡ P d = omega arith in
-        partial-start (r .good) (rw z (length-take-le (length h) row row-holds) ∙ r .each) (rw (y, is, all) (take-append-seam (d .capacities) (drop (P d) left)))
-
-  -- the plan is copied to a row of its length
-  module _ {s part : List ℕ} (post : List ℕ) {t : ℕ} (w : RowsRead d s part (Whole t)) where
-    long : length part ≡ length h
-    long = w .0 .each ∙ sym (r .each)
-
-    pub plan-holds : length h ≤ length (part ++ post)
-    plan-holds = omega (arith, length-append part post, long)
-
-    pub plan-copied : {h₂ : List ℕ} → h₂ ≡ take (length h) (part ++ post) ++ drop (length h) h → TextRead d s (Planned t) h h₂
-    plan-copied e = call-accepted d s h w (e ∙ rw (take-at part post (length h) long, drop-length, append-nil))

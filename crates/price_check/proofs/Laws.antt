@@ -2,7 +2,7 @@
 -- Assumes nothing.
 use mathlib.Core.Path.{_≡_, sym, ap, _∙_}
 use mathlib.Core.Logic.{inl, inr}
-use mathlib.Core.Bool.{Bool, true, false, cond}
+use mathlib.Core.Bool.{Bool, true, false}
 use mathlib.Core.List.{List}
 use Prim.Native.Nat.{ℕ, _+_, _-_, _*_, _≤_, _<_}
 use native.Mathlib.Numerals.{add-one}
@@ -23,16 +23,8 @@ use Rattle.legality.specs.Check.{planCheck}
 use Rattle.legality.specs.declared.PlanCheck.the-variants as found
 use Rattle.legality.proofs.Found.{found-legal, found-refused}
 use Rattle.answers.specs.Decides.{Decides}
+use Rattle.answers.proofs.Decides.{true-false, say-yes, say-no}
 use Rattle.price_check.specs.Check.{Unsold, Least, Best}
-
-true-false : true ≡ false → ⊥
-true-false e = omega (arith, ap {B = ℕ} (λ b. cond b 1 0) e)
-
-pub say-yes : {A : Type 0} → A → Decides true A
-say-yes a = record { yes = λ _. a; no = λ e. absurd (true-false e) }
-
-pub say-no : {A : Type 0} → (A → ⊥) → Decides false A
-say-no n = record { yes = λ e. absurd (true-false (sym e)); no = λ _. n }
 
 -- ---- counts of landings
 

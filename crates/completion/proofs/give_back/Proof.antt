@@ -10,17 +10,22 @@ land-of-requires : tie.Need-land-of-requires
 land-of-requires c κs = let s = c .before .before .before .before .pre in place-in s (last-in s)
 
 sub-at : tie.Need-sub-at
-sub-at c = let s = c .before .before .before .before .before .before .pre in lands-from s (last-in s) (c .before .land-of .ensures .0)
+sub-at c =
+    let at-start = c .before .before .before .before .before .before in
+    let s = at-start .pre in lands-from s (last-in s) (c .before .land-of .ensures .0)
 
 mul-left : tie.Need-mul-left
 mul-left c = search needs
 
 slice-read-left : tie.Need-slice-read-left
-slice-read-left c = let s = c .before .before .before .before .before .before .before .pre in lands-in s (last-in s) (c .before .before .land-of .ensures .0) (c .before .if1 .taken)
+slice-read-left c =
+    let at-start = c .before .before .before .before .before .before .before in
+    let s = at-start .pre in lands-in s (last-in s) (c .before .before .land-of .ensures .0) (c .before .if1 .taken)
 
 add-left : tie.Need-add-left
 add-left c =
-    let s = c .before .before .before .before .before .before .before .pre in
+    let at-start = c .before .before .before .before .before .before .before in
+    let s = at-start .pre in
     omega (arith, left-fits s (last-in s) (c .before .before .land-of .ensures .0) (c .before .if1 .taken))
 
 slice-write-left : tie.Need-slice-write-left
@@ -30,10 +35,14 @@ same-length : tie.Need-same-length
 same-length c = search needs
 
 returns : tie.Need-returns
-returns c = let s = c .before .before .before .before .before .before .before .pre in back-in s (c .before .before .land-of .ensures .0) (last-in s) (c .before .if1 .taken)
+returns c =
+    let at-start = c .before .before .before .before .before .before .before in
+    let s = at-start .pre in back-in s (c .before .before .land-of .ensures .0) (last-in s) (c .before .if1 .taken)
 
 returns-2 : tie.Need-returns-2
-returns-2 c = back-closing (c .before .before .before .before .before .before .pre) (c .before .land-of .ensures .0) (c .if1 .left)
+returns-2 c =
+    let at-start = c .before .before .before .before .before .before in
+    back-closing (at-start .pre) (c .before .land-of .ensures .0) (c .if1 .left)
 
 pub give-back-spec : {M : Type 1} → statement M
 give-back-spec =

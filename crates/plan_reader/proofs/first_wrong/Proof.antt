@@ -17,7 +17,8 @@ enum-known-most c = search needs
 
 place-behind-requires : tie.Need-place-behind-requires
 place-behind-requires c κs =
-    let rows = partial-rows (c .before .before .before .before .before .before .before .before .before .before .before .pre) in
+    let at-start = c .before .before .before .before .before .before .before .before .before .before .before in
+    let rows = partial-rows (at-start .pre) in
     let most = rw (c .before .most .given .1) at (c .before .before .before .before .before .most-completed .ensures) in
     (omega (arith, rows .0, most .0), rows .1, rows .2)
 
@@ -25,13 +26,18 @@ same-length : tie.Need-same-length
 same-length c = search needs
 
 returns : tie.Need-returns
-returns c = most-none (c .before .before .before .before .before .before .before .before .before .before .pre) (rw (c .enum-told .given .1) at (c .before .before .before .before .most-completed .ensures))
+returns c =
+    let at-start = c .before .before .before .before .before .before .before .before .before .before in
+    most-none (at-start .pre) (rw (c .enum-told .given .1) at (c .before .before .before .before .most-completed .ensures))
 
 same-length-2 : tie.Need-same-length-2
 same-length-2 c = search needs
 
 returns-2 : tie.Need-returns-2
-returns-2 c = most-some (c .before .before .before .before .before .before .before .before .before .before .before .before .pre) (rw (c .before .before .most .given .1) at (c .before .before .before .before .before .before .most-completed .ensures)) (c .place-behind .ensures)
+returns-2 c =
+    let at-most = c .before .before .before .before .before .before in
+    let at-start = c .before .before .before .before .before .before .before .before .before .before .before .before in
+    most-some (at-start .pre) (rw (c .before .before .most .given .1) at (at-most .most-completed .ensures)) (c .place-behind .ensures)
 
 pub first-wrong-spec : {M : Type 1} → statement M
 first-wrong-spec =

@@ -49,20 +49,23 @@ wide-requires c κs = search needs
 
 returns-3 : tie.Need-returns-3
 returns-3 c =
+    let at-field = c .before .before .before .before .before .before in
     let at-number = c .before .before .before .before .before .before .before in
-    let read = sym (c .before .before .before .before .before .before .field-at .ensures) ∙ c .before .before .before .before .p .given .1 in
+    let read = sym (at-field .field-at .ensures) ∙ c .before .before .before .before .p .given .1 in
     end-other (start at-number .pre) (named at-number) read (c .before .before .total-of .ensures) (λ e. c .if2 .taken (c .before .wide .ensures ∙ e))
 
 returns-4 : tie.Need-returns-4
 returns-4 c =
+    let at-field = c .before .before .before .before .before .before .before in
     let at-number = c .before .before .before .before .before .before .before .before in
-    let read = sym (c .before .before .before .before .before .before .before .field-at .ensures) ∙ c .before .before .before .before .before .p .given .1 in
+    let read = sym (at-field .field-at .ensures) ∙ c .before .before .before .before .before .p .given .1 in
     end-past (start at-number .pre) (named at-number) read (c .before .before .before .total-of .ensures) (sym (c .before .before .wide .ensures) ∙ c .before .if2 .left) (c .if3 .taken)
 
 returns-5 : tie.Need-returns-5
 returns-5 c =
+    let at-field = c .before .before .before .before .before .before .before in
     let at-number = c .before .before .before .before .before .before .before .before in
-    let read = sym (c .before .before .before .before .before .before .before .field-at .ensures) ∙ c .before .before .before .before .before .p .given .1 in
+    let read = sym (at-field .field-at .ensures) ∙ c .before .before .before .before .before .p .given .1 in
     end-whole (start at-number .pre) (named at-number) read (c .before .before .before .total-of .ensures) (sym (c .before .before .wide .ensures) ∙ c .before .if2 .left) (c .if3 .left)
 
 pub read-end-spec : {M : Type 1} → statement M

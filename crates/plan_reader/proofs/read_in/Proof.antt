@@ -1,13 +1,15 @@
 -- The parts of the rows that are lent on, and the plan copied where it is whole.
 -- Assumes nothing.
 use native.Mathlib.Omega.{arith}
-use Rattle.plan_reader.proofs.Reading.{row-holds, left-holds, copied-holds, in-starts, call-refused, plan-holds, plan-copied}
+use Rattle.plan_reader.proofs.Calls.{row-holds, left-holds, copied-holds, in-starts, call-refused, plan-holds, plan-copied}
 use borrow.Author.Needs.{needs}
 use Rattle.plan_reader.proofs.read_in.Statement.{statement}
 use Rattle.plan_reader.proofs.read_in.Tie as tie
 
 copy-front-requires : tie.Need-copy-front-requires
-copy-front-requires c κs = let p = c .before .before .before .before .before .before .before .pre in (omega arith, left-holds p)
+copy-front-requires c κs =
+    let at-start = c .before .before .before .before .before .before .before in
+    let p = at-start .pre in (omega arith, left-holds p)
 
 sub-read-rows : tie.Need-sub-read-rows
 sub-read-rows c = search needs
@@ -16,7 +18,9 @@ part-read-rows-start : tie.Need-part-read-rows-start
 part-read-rows-start c = search needs
 
 part-read-rows-end : tie.Need-part-read-rows-end
-part-read-rows-end c = let p = c .before .before .before .before .before .before .before .before .before .before .pre in row-holds p
+part-read-rows-end c =
+    let at-start = c .before .before .before .before .before .before .before .before .before .before in
+    let p = at-start .pre in row-holds p
 
 sub-read-rows-2 : tie.Need-sub-read-rows-2
 sub-read-rows-2 c = search needs
@@ -25,10 +29,14 @@ part-read-rows-start-2 : tie.Need-part-read-rows-start-2
 part-read-rows-start-2 c = search needs
 
 part-read-rows-end-2 : tie.Need-part-read-rows-end-2
-part-read-rows-end-2 c = let p = c .before .before .before .before .before .before .before .before .before .before .before .pre in copied-holds p (c .before .before .before .copy-front .ensures)
+part-read-rows-end-2 c =
+    let at-start = c .before .before .before .before .before .before .before .before .before .before .before in
+    let p = at-start .pre in copied-holds p (c .before .before .before .copy-front .ensures)
 
 read-rows-requires : tie.Need-read-rows-requires
-read-rows-requires c κs = let p = c .before .before .before .before .before .before .before .before .before .before .before .before .pre in in-starts p (c .before .before .before .before .copy-front .ensures)
+read-rows-requires c κs =
+    let at-start = c .before .before .before .before .before .before .before .before .before .before .before .before in
+    let p = at-start .pre in in-starts p (c .before .before .before .before .copy-front .ensures)
 
 enum-known-end : tie.Need-enum-known-end
 enum-known-end c = search needs
@@ -37,7 +45,10 @@ enum-known-end-2 : tie.Need-enum-known-end-2
 enum-known-end-2 c = search needs
 
 copy-front-requires-2 : tie.Need-copy-front-requires-2
-copy-front-requires-2 c κs = (plan-holds (c .before .before .before .before .before .before .before .before .before .before .before .before .before .before .before .before .before .before .before .before .before .before .pre) _ (rw (c .before .before .before .end2 .given .1) at (c .before .before .before .before .before .before .before .before .before .read-rows .ensures)), omega arith)
+copy-front-requires-2 c κs =
+    let at-rows = c .before .before .before .before .before .before .before .before .before in
+    let at-start = c .before .before .before .before .before .before .before .before .before .before .before .before .before .before .before .before .before .before .before .before .before .before in
+    (plan-holds (at-start .pre) _ (rw (c .before .before .before .end2 .given .1) at (at-rows .read-rows .ensures)), omega arith)
 
 same-length : tie.Need-same-length
 same-length c = search needs
@@ -46,7 +57,9 @@ same-length-2 : tie.Need-same-length-2
 same-length-2 c = search needs
 
 returns : tie.Need-returns
-returns c = call-refused _ _ _ (c .before .before .before .before .before .before .before .read-rows .last .1 .1 .1 .0) (rw (c .before .end .given .1) at (c .before .before .before .before .before .before .before .read-rows .ensures))
+returns c =
+    let at-rows = c .before .before .before .before .before .before .before in
+    call-refused _ _ _ (at-rows .read-rows .last .1 .1 .1 .0) (rw (c .before .end .given .1) at (at-rows .read-rows .ensures))
 
 same-length-3 : tie.Need-same-length-3
 same-length-3 c = search needs
@@ -58,7 +71,11 @@ same-length-5 : tie.Need-same-length-5
 same-length-5 c = search needs
 
 returns-2 : tie.Need-returns-2
-returns-2 c = plan-copied (c .before .before .before .before .before .before .before .before .before .before .before .before .before .before .before .before .before .before .before .before .before .before .before .before .before .pre) _ (rw (c .before .before .before .before .before .before .end2 .given .1) at (c .before .before .before .before .before .before .before .before .before .before .before .before .read-rows .ensures)) (c .before .before .copy-front2 .ensures)
+returns-2 c =
+    let at-end = c .before .before .before .before .before .before in
+    let at-rows = c .before .before .before .before .before .before .before .before .before .before .before .before in
+    let at-start = c .before .before .before .before .before .before .before .before .before .before .before .before .before .before .before .before .before .before .before .before .before .before .before .before .before in
+    plan-copied (at-start .pre) _ (rw (at-end .end2 .given .1) at (at-rows .read-rows .ensures)) (c .before .before .copy-front2 .ensures)
 
 pub read-in-spec : {M : Type 1} → statement M
 read-in-spec =

@@ -3,7 +3,7 @@
 use lib.ListN.{length-set}
 use borrow.Author.Needs.{needs}
 use Prim.Native.Nat.{_-_}
-use mathlib.Core.Path.{_≡_, sym, _∙_}
+use mathlib.Core.Path.{_≡_}
 use native.Mathlib.Omega.{arith}
 use mathlib.Core.Bool.{true, false}
 use Rattle.plan_text.proofs.Placing.{length-plan-names}
@@ -32,7 +32,9 @@ flight-count-requires : tie.Need-flight-count-requires Inv-loop μ-loop
 flight-count-requires c κs = search needs
 
 loop-holds : tie.Need-loop-holds Inv-loop μ-loop
-loop-holds c = (rw length-plan-names at (c .before .before .before .before .before .before .pre), c .flight-count .ensures)
+loop-holds c =
+    let at-start = c .before .before .before .before .before .before in
+    (rw length-plan-names at (at-start .pre), c .flight-count .ensures)
 
 hold-at-requires : tie.Need-hold-at-requires Inv-loop μ-loop
 hold-at-requires c κs = (read-inside (c .before .loop .inv .0), read-place (c .before .loop .inv .0) (omega (arith, c .loop-test .taken, c .before .loop .inv .1)))
@@ -47,7 +49,9 @@ same-length : tie.Need-same-length Inv-loop μ-loop
 same-length c = search needs
 
 same-length-2 : tie.Need-same-length-2 Inv-loop μ-loop
-same-length-2 c = same-rows (c .before .before .before .before .before .before .before .before .before .before .before .pre) (c .before .before .before .before .loop .inv .0 .partial) .1
+same-length-2 c =
+    let at-start = c .before .before .before .before .before .before .before .before .before .before .before in
+    same-rows (at-start .pre) (c .before .before .before .before .loop .inv .0 .partial) .1
 
 returns : tie.Need-returns Inv-loop μ-loop
 returns c =
@@ -61,19 +65,26 @@ slice-write-holds : tie.Need-slice-write-holds Inv-loop μ-loop
 slice-write-holds c = search needs
 
 take-landing-requires : tie.Need-take-landing-requires Inv-loop μ-loop
-take-landing-requires c κs = let at-loop = c .before .before .before .before .before .before .before in (partial-set (at-loop .loop .inv .0 .partial) _, omega (arith, c .before .before .before .before .before .before .loop-test .taken, at-loop .loop .inv .1))
+take-landing-requires c κs =
+    let at-test = c .before .before .before .before .before .before in
+    let at-loop = c .before .before .before .before .before .before .before in (partial-set (at-loop .loop .inv .0 .partial) _, omega (arith, at-test .loop-test .taken, at-loop .loop .inv .1))
 
 same-length-3 : tie.Need-same-length-3 Inv-loop μ-loop
 same-length-3 c = simp length-set (omega arith)
 
 same-length-4 : tie.Need-same-length-4 Inv-loop μ-loop
-same-length-4 c = same-rows (c .before .before .before .before .before .before .before .before .before .before .before .before .before .before .before .before .before .before .pre) ((rw (broken c) at (c .before .before .before .take-landing .ensures)) .1) .1
+same-length-4 c =
+    let at-start = c .before .before .before .before .before .before .before .before .before .before .before .before .before .before .before .before .before .before in
+    same-rows (at-start .pre) ((rw (broken c) at (c .before .before .before .take-landing .ensures)) .1) .1
 
 returns-2 : tie.Need-returns-2 Inv-loop μ-loop
 returns-2 c =
+    let at-line = c .before .before .before .before .before .before .before in
+    let at-hold = c .before .before .before .before .before .before .before .before .before in
+    let at-test = c .before .before .before .before .before .before .before .before .before .before in
     let at-loop = c .before .before .before .before .before .before .before .before .before .before .before in
-    let read = rw (c .before .before .before .before .before .before .before .line .given .1) at (c .before .before .before .before .before .before .before .before .before .hold-at .ensures) in
-    stops-at-landing (at-loop .loop .inv .0) (omega (arith, c .before .before .before .before .before .before .before .before .before .before .loop-test .taken, at-loop .loop .inv .1)) _ _ read (rw (broken c) at (c .before .before .before .take-landing .ensures))
+    let read = rw (at-line .line .given .1) at (at-hold .hold-at .ensures) in
+    stops-at-landing (at-loop .loop .inv .0) (omega (arith, at-test .loop-test .taken, at-loop .loop .inv .1)) _ _ read (rw (broken c) at (c .before .before .before .take-landing .ensures))
 
 add-i : tie.Need-add-i Inv-loop μ-loop
 add-i c = search needs
@@ -83,15 +94,20 @@ loop-less c = search needs
 
 loop-again : tie.Need-loop-again Inv-loop μ-loop
 loop-again c =
+    let at-line = c .before .before .before .before .before .before .before in
+    let at-hold = c .before .before .before .before .before .before .before .before .before in
+    let at-test = c .before .before .before .before .before .before .before .before .before .before in
     let at-loop = c .before .before .before .before .before .before .before .before .before .before .before in
-    let read = rw (c .before .before .before .before .before .before .before .line .given .1) at (c .before .before .before .before .before .before .before .before .before .hold-at .ensures) in
-    (goes-to-next (at-loop .loop .inv .0) (omega (arith, c .before .before .before .before .before .before .before .before .before .before .loop-test .taken, at-loop .loop .inv .1)) _ _ read (rw (landed c) at (c .before .before .before .take-landing .ensures)), at-loop .loop .inv .1)
+    let read = rw (at-line .line .given .1) at (at-hold .hold-at .ensures) in
+    (goes-to-next (at-loop .loop .inv .0) (omega (arith, at-test .loop-test .taken, at-loop .loop .inv .1)) _ _ read (rw (landed c) at (c .before .before .before .take-landing .ensures)), at-loop .loop .inv .1)
 
 same-length-5 : tie.Need-same-length-5 Inv-loop μ-loop
 same-length-5 c = search needs
 
 same-length-6 : tie.Need-same-length-6 Inv-loop μ-loop
-same-length-6 c = same-rows (c .before .before .before .before .before .before .before .before .pre) (c .before .loop .inv .0 .partial) .1
+same-length-6 c =
+    let at-start = c .before .before .before .before .before .before .before .before in
+    same-rows (at-start .pre) (c .before .loop .inv .0 .partial) .1
 
 returns-3 : tie.Need-returns-3 Inv-loop μ-loop
 returns-3 c = search needs

@@ -1,7 +1,6 @@
 -- The names line, the flights' lines and the rest, each with its law.
 -- Assumes nothing.
-use mathlib.Core.Path.{_≡_, sym, _∙_}
-use native.Mathlib.Omega.{arith}
+use mathlib.Core.Path.{sym, _∙_}
 use borrow.Author.Tests.{not-true, not-false}
 use Rattle.plan_reader.proofs.Reading.{no-names, read-start, lines-stopped, lines-all, can-end, rows-ended}
 use borrow.Author.Needs.{needs}
@@ -12,10 +11,14 @@ names-here-requires : tie.Need-names-here-requires
 names-here-requires c κs = search needs
 
 returns : tie.Need-returns
-returns c = no-names _ (sym (c .before .names-here .ensures) ∙ not-true _ (c .if1 .taken)) (c .before .before .before .before .before .before .before .args .holds .now)
+returns c =
+    let at-start = c .before .before .before .before .before .before .before in
+    no-names _ (sym (c .before .names-here .ensures) ∙ not-true _ (c .if1 .taken)) (at-start .args .holds .now)
 
 read-lines-requires : tie.Need-read-lines-requires
-read-lines-requires c κs = read-start (sym (c .before .before .before .names-here .ensures) ∙ not-false _ (c .before .before .if1 .left)) (c .before .before .before .before .before .before .before .before .before .pre)
+read-lines-requires c κs =
+    let at-start = c .before .before .before .before .before .before .before .before .before in
+    read-start (sym (c .before .before .before .names-here .ensures) ∙ not-false _ (c .before .before .if1 .left)) (at-start .pre)
 
 flight-count-requires : tie.Need-flight-count-requires
 flight-count-requires c κs = search needs
@@ -30,10 +33,14 @@ same-length-2 : tie.Need-same-length-2
 same-length-2 c = search needs
 
 returns-2 : tie.Need-returns-2
-returns-2 c = let at-lines = c .before .before .before .before .before .before .before .before .before .before .before in lines-stopped (at-lines .read-lines .ensures) (c .before .before .before .before .before .before .flight-count .ensures) (c .before .before .before .before .before .if2 .taken) (c .before .before .first-wrong .ensures)
+returns-2 c =
+    let at-count = c .before .before .before .before .before .before in
+    let at-lines = c .before .before .before .before .before .before .before .before .before .before .before in lines-stopped (at-lines .read-lines .ensures) (at-count .flight-count .ensures) (c .before .before .before .before .before .if2 .taken) (c .before .before .first-wrong .ensures)
 
 read-end-requires : tie.Need-read-end-requires
-read-end-requires c κs = can-end (lines-all (c .before .before .before .before .before .before .before .read-lines .ensures) (c .before .before .flight-count .ensures) (c .before .if2 .left))
+read-end-requires c κs =
+    let at-lines = c .before .before .before .before .before .before .before in
+    can-end (lines-all (at-lines .read-lines .ensures) (c .before .before .flight-count .ensures) (c .before .if2 .left))
 
 same-length-3 : tie.Need-same-length-3
 same-length-3 c = search needs
@@ -42,7 +49,9 @@ same-length-4 : tie.Need-same-length-4
 same-length-4 c = search needs
 
 returns-3 : tie.Need-returns-3
-returns-3 c = rows-ended (lines-all (c .before .before .before .before .before .before .before .before .read-lines .ensures) (c .before .before .before .flight-count .ensures) (c .before .before .if2 .left)) (c .read-end .result) (c .read-end .ensures)
+returns-3 c =
+    let at-lines = c .before .before .before .before .before .before .before .before in
+    rows-ended (lines-all (at-lines .read-lines .ensures) (c .before .before .before .flight-count .ensures) (c .before .before .if2 .left)) (c .read-end .result) (c .read-end .ensures)
 
 pub read-rows-spec : {M : Type 1} → statement M
 read-rows-spec =

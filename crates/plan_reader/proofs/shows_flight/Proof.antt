@@ -37,7 +37,9 @@ wide-requires-3 : tie.Need-wide-requires-3
 wide-requires-3 c κs = search needs
 
 returns-2 : tie.Need-returns-2
-returns-2 c = other-number _ _ _ _ 1 (λ e. c .if2 .taken (c .before .wide3 .ensures ∙ (e ∙ sym (c .before .before .before .before .before .before .before .due-of .ensures .0))))
+returns-2 c =
+    let at-due = c .before .before .before .before .before .before .before in
+    other-number _ _ _ _ 1 (λ e. c .if2 .taken (c .before .wide3 .ensures ∙ (e ∙ sym (at-due .due-of .ensures .0))))
 
 shared-slice-read-wide-4 : tie.Need-shared-slice-read-wide-4
 shared-slice-read-wide-4 c = search needs
@@ -46,7 +48,11 @@ wide-requires-4 : tie.Need-wide-requires-4
 wide-requires-4 c κs = search needs
 
 add-if3 : tie.Need-add-if3
-add-if3 c = omega (arith, c .before .before .before .before .before .before .before .before .before .due-of .ensures .1, c .before .before .before .before .before .before .before .before .before .before .wide .ensures, c .before .before .before .before .before .before .before .before .before .before .before .shared-slice-known3 .given 3)
+add-if3 c =
+    let at-due = c .before .before .before .before .before .before .before .before .before in
+    let at-wide = c .before .before .before .before .before .before .before .before .before .before in
+    let at-known = c .before .before .before .before .before .before .before .before .before .before .before in
+    omega (arith, at-due .due-of .ensures .1, at-wide .wide .ensures, at-known .shared-slice-known3 .given 3)
 
 returns-3 : tie.Need-returns-3
 returns-3 c =
@@ -61,12 +67,15 @@ cost-of-requires c κs = let at-wide = c .before .before .before .before .before
 
 returns-4 : tie.Need-returns-4
 returns-4 c =
+    let at-second = c .before .before .before .before .before .before in
+    let at-if1 = c .before .before .before .before .before .before .before .before in
+    let at-start = c .before .before .before .before .before .before .before .before .before .before .before .before .before .before .before .before .before in
     let at-due = c .before .before .before .before .before .before .before .before .before .before .before .before in
     let hold-is = at-due .before .wide .ensures in
     let at-number = c .before .before .before .before .before .before .before .before .before in
-    cost-decides _ _ _ _ (c .before .before .before .before .before .before .before .before .before .before .before .before .before .before .before .before .before .pre .1)
-    (sym (at-number .before .wide2 .ensures) ∙ (c .before .before .before .before .before .before .before .before .if1 .left ∙ at-number .number-of .ensures .0))
-    (sym (c .before .before .before .before .before .before .wide3 .ensures) ∙ (c .before .before .before .before .before .if2 .left ∙ at-due .due-of .ensures .0))
+    cost-decides _ _ _ _ (at-start .pre .1)
+    (sym (at-number .before .wide2 .ensures) ∙ (at-if1 .if1 .left ∙ at-number .number-of .ensures .0))
+    (sym (at-second .wide3 .ensures) ∙ (c .before .before .before .before .before .if2 .left ∙ at-due .due-of .ensures .0))
     (sym (c .before .before .before .wide4 .ensures) ∙ (c .before .before .if3 .left ∙ ap₂ _+_ (at-due .due-of .ensures .0) hold-is))
     (c .before .wide5 .ensures) (c .cost-of .ensures ∙ ap (lineCost _ _) hold-is)
 

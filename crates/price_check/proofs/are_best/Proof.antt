@@ -8,7 +8,7 @@ use native.Mathlib.Omega.{arith}
 use lib.ListN.{length}
 use Rattle.day.specs.Day.{day}
 use Rattle.price_check.specs.Check.{Best}
-use Rattle.price_check.proofs.Laws.{say-yes, say-no}
+use Rattle.answers.proofs.Decides.{say-yes, say-no}
 use Rattle.price_check.proofs.are_best.Statement.{statement}
 use Rattle.price_check.proofs.are_best.Tie as tie
 

@@ -6,7 +6,8 @@ use Prim.Native.Nat.{_≤_, _+_, _-_}
 use native.Mathlib.Omega.{arith}
 use lib.ListN.{length}
 use Rattle.day.specs.Day.{day}
-use Rattle.price_check.proofs.Laws.{say-yes, say-no, UnsoldTo, unsold-free, unsold-full, unsold-not}
+use Rattle.answers.proofs.Decides.{say-yes, say-no}
+use Rattle.price_check.proofs.Laws.{UnsoldTo, unsold-free, unsold-full, unsold-not}
 use Rattle.price_check.proofs.are_unsold.Statement.{statement}
 use Rattle.price_check.proofs.are_unsold.Tie as tie
 

@@ -1,6 +1,7 @@
 -- The periods passed cost the flight no less than its own. Assumes nothing.
 use native.Mathlib.Omega.{arith}
-use Rattle.price_check.proofs.Laws.{say-yes, say-no, best-place, due-made, cost-made, here-made, latest-made, here-land, here-cost, there-made, Bests, best-fits, best-next, best-not, best-limit, best-end}
+use Rattle.answers.proofs.Decides.{say-yes, say-no}
+use Rattle.price_check.proofs.Laws.{best-place, due-made, cost-made, here-made, latest-made, here-land, here-cost, there-made, Bests, best-fits, best-next, best-not, best-limit, best-end}
 use Rattle.day.specs.Day.{day, column, cost, latest, ofPeriod, hold, landOf}
 use lib.ListN.{length}
 use Prim.Native.Nat.{_+_, _-_}

@@ -1,0 +1,75 @@
+-- The call: its refusals in their order, the rows that the text is read into, and the plan copied.
+-- Assumes nothing.
+use Prim.Native.Nat.{ℕ, _≤_, _-_}
+use native.Mathlib.Omega.{arith}
+use mathlib.Core.Path.{_≡_, refl, sym, ap, _∙_}
+use mathlib.Core.Bool.{true, false}
+use mathlib.Core.List.{List, _++_, append-nil}
+use lib.ListN.{length, take, drop, length-append}
+use lib.Seq.{take-at, take-append-seam, drop-length, length-take-le, take-length}
+use borrow.Author.Tests.{eq-eqb, ne-eqb}
+use Rattle.answers.specs.declared.Answer.{Answer}
+use Rattle.answers.specs.declared.Answer.the-variants.{Planned, BadDay, BadLength, BadPlanText}
+use Rattle.day.specs.Day.{Day, P, N, valid}
+use Rattle.day.proofs.Valid.{valid-means}
+use Rattle.completion.specs.Loop.{Partial}
+use Rattle.completion.proofs.Completion.{partial-start}
+use Rattle.plan_reader.specs.PlanReading.{TextRead, accepted, refused, ReadPlan}
+use Rattle.plan_reader.specs.Loop.{RowsRead, LargeRows}
+use Rattle.plan_reader.specs.declared.End.the-variants.{Whole, Wrong}
+
+-- ---- the call
+
+module _ (d : Day) (s h : List ℕ) where
+  pub call-bad-day : valid d ≡ false → ReadPlan d s BadDay h h
+  unfolding ReadPlan
+  call-bad-day bad = rw bad (refl, refl)
+
+  module _ (good : valid d ≡ true) {n : ℕ} (is : n ≡ N d) where
+    pub call-bad-length : (length h ≡ n → ⊥) → ReadPlan d s (BadLength n) h h
+    unfolding ReadPlan
+    call-bad-length other = rw (good, ne-eqb (length h) (N d) (λ e. other (e ∙ sym is)), is) (refl, refl)
+
+    pub call-read : length h ≡ n → {a : Answer} {h₂ : List ℕ} → TextRead d s a h h₂ → ReadPlan d s a h h₂
+    unfolding ReadPlan
+    call-read each r = rw (good, eq-eqb (length h) (N d) (each ∙ is)) r
+
+  pub call-refused : (row : List ℕ) {x : ℕ} → RowsRead d s row (Wrong x) → TextRead d s (BadPlanText x) h h
+  call-refused row {x} (wrong, other) = refused (record { line = x; first-wrong = wrong; other = other; line-is = refl; same-holds = refl })
+
+  pub call-accepted : {t : ℕ} {row h₂ : List ℕ} → RowsRead d s row (Whole t) → h₂ ≡ row → TextRead d s (Planned t) h h₂
+  call-accepted (legal, (is, sum)) e = rw e (accepted (record { legal = legal; text-is = is; total-is = ap Planned sum }))
+
+-- ---- rows that are large enough for any day
+
+module _ {d : Day} {h row left : List ℕ} (r : LargeRows d h row left) where
+  pub row-holds : length h ≤ length row
+  row-holds = omega (arith, valid-means (r .good) .flights-to, r .each, r .row-long)
+
+  pub left-holds : P d ≤ length left
+  left-holds = omega (arith, valid-means (r .good) .periods-to, r .left-long)
+
+  -- the capacities are copied to the front of a row
+  module _ {copied : List ℕ} (is : copied ≡ take (P d) (d .capacities) ++ drop (P d) left) where
+    all : take (P d) (d .capacities) ≡ d .capacities
+    all = take-length (d .capacities)
+
+    pub copied-holds : P d ≤ length copied
+    copied-holds = omega (arith, ap length is, length-append (take (P d) (d .capacities)) (drop (P d) left), ap length all)
+
+    pub in-starts : Partial d (take (length h - 0) row) (take (P d - 0) copied) 0
+    in-starts =
+        let z : length h - 0 ≡ length h = omega arith in
+        let y : P d - 0 ≡ P d = omega arith in
+        partial-start (r .good) (rw z (length-take-le (length h) row row-holds) ∙ r .each) (rw (y, is, all) (take-append-seam (d .capacities) (drop (P d) left)))
+
+  -- the plan is copied to a row of its length
+  module _ {s part : List ℕ} (post : List ℕ) {t : ℕ} (w : RowsRead d s part (Whole t)) where
+    long : length part ≡ length h
+    long = w .0 .each ∙ sym (r .each)
+
+    pub plan-holds : length h ≤ length (part ++ post)
+    plan-holds = omega (arith, length-append part post, long)
+
+    pub plan-copied : {h₂ : List ℕ} → h₂ ≡ take (length h) (part ++ post) ++ drop (length h) h → TextRead d s (Planned t) h h₂
+    plan-copied e = call-accepted d s h w (e ∙ rw (take-at part post (length h) long, drop-length, append-nil))
