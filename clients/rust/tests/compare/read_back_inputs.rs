@@ -57,12 +57,15 @@ fn some_plan(seed: &Seed, day: &Day) -> Option<Vec<u32>> {
     Some(holds)
 }
 
-/// A cheapest plan, which is the core's own, the quick plan where it is legal, and so many others; none if the day has none.
+/// A cheapest plan, which is the core's own, the quick plan where it is legal, and so many others; none if the day has none. The core's
+/// rows lie within longer ones: what it may do beside them is another test's matter.
 pub fn plans(seed: &Seed, day: &Day, others: u64) -> Vec<Vec<u32>> {
+    const MARGIN: usize = 16;
     let rows = day.rows();
-    let (mut holds, mut prices) = (vec![0; day.flights.len()], vec![0; day.capacities.len()]);
-    let planned = full_plan(&rows.capacities, &rows.flights, &mut holds, &mut prices).number == 0;
-    let mut plans = vec![holds, quick_by_sorting(day).0];
+    let (n, periods) = (day.flights.len(), day.capacities.len());
+    let (mut holds, mut prices) = (vec![0; n + 2 * MARGIN], vec![0; periods + 2 * MARGIN]);
+    let planned = full_plan(&rows.capacities, &rows.flights, &mut holds[MARGIN..][..n], &mut prices[MARGIN..][..periods]).number == 0;
+    let mut plans = vec![holds[MARGIN..][..n].to_vec(), quick_by_sorting(day).0];
     for _ in 0..if planned { others } else { 0 } {
         plans.extend(some_plan(seed, day));
     }
