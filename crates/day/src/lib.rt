@@ -50,10 +50,10 @@ pub fn copy_front(from: &[u32], to: &mut [u32], n: usize)
     requires { ⌜ (n ≤ length (now from)) × (n ≤ length (now to)) ⌝ }
     ensures { λ _. ⌜ now (to .exit) ≡ take n (now (from .entry)) ++ drop n (now (to .entry)) ⌝ }
 {
-    let mut i = 0;
-    while i < n {
-        to[i] = from[i];
-        i += 1;
+    let mut at = 0;
+    while at < n {
+        to[at] = from[at];
+        at += 1;
     }
 }
 

@@ -1,4 +1,5 @@
--- After i turns the first i entries are copied.
+-- After so many turns so many entries are copied.
+-- Assumes nothing.
 use Rattle.day.proofs.Copying.{copy-step}
 use lib.ListN.{length-set}
 use borrow.Author.Needs.{needs}
@@ -11,10 +12,10 @@ use Rattle.day.proofs.copy_front.Statement.{statement}
 use Rattle.day.proofs.copy_front.Tie as tie
 
 abbrev Inv-loop : tie.InvT-loop
-Inv-loop from to₀ n i₀ to i = (i ≤ n) × (length to ≡ length to₀) × (to ≡ take i from ++ drop i to₀)
+Inv-loop from to₀ n at₀ to at = (at ≤ n) × (length to ≡ length to₀) × (to ≡ take at from ++ drop at to₀)
 
 abbrev μ-loop : tie.MeasureT-loop
-μ-loop from to₀ n i₀ to i = n - i
+μ-loop from to₀ n at₀ to at = n - at
 
 loop-holds : tie.Need-loop-holds Inv-loop μ-loop
 loop-holds c = search needs
@@ -31,8 +32,8 @@ mul-to-2 c = search needs
 slice-write-to : tie.Need-slice-write-to Inv-loop μ-loop
 slice-write-to c = search needs
 
-add-i : tie.Need-add-i Inv-loop μ-loop
-add-i c = search needs
+add-at : tie.Need-add-at Inv-loop μ-loop
+add-at c = search needs
 
 loop-less : tie.Need-loop-less Inv-loop μ-loop
 loop-less c = search needs
@@ -41,7 +42,7 @@ loop-again : tie.Need-loop-again Inv-loop μ-loop
 loop-again c =
     let a = c .before .before .before .args in
     let l = c .before .before .loop in
-    (omega arith, simp length-set (omega arith), copy-step (a .from .now) (a .to .now) (l .to) (l .i) (omega arith) (omega arith) (l .inv .2))
+    (omega arith, simp length-set (omega arith), copy-step (a .from .now) (a .to .now) (l .to) (l .at) (omega arith) (omega arith) (l .inv .2))
 
 same-length : tie.Need-same-length Inv-loop μ-loop
 same-length c = search needs
@@ -50,7 +51,7 @@ returns : tie.Need-returns Inv-loop μ-loop
 returns c =
     let a = c .before .before .args in
     let l = c .before .loop in
-    let e : l .i ≡ a .n = omega arith in
+    let e : l .at ≡ a .n = omega arith in
     l .inv .2 ∙ rw e
 
 pub copy-front-spec : {M : Type 1} → statement M
@@ -64,7 +65,7 @@ copy-front-spec =
     shared-slice-read-to
     mul-to-2
     slice-write-to
-    add-i
+    add-at
     loop-less
     loop-again
     same-length
