@@ -23,7 +23,7 @@ loop-holds c =
     (search needs, rw (no-lines f h) refl, omega arith)
 
 plan-line-len-requires : tie.Need-plan-line-len-requires Inv-loop μ-loop
-plan-line-len-requires c κs = (c .loop-test .taken, omega (arith, c .before .before .before .before .pre .0, c .loop-test .taken))
+plan-line-len-requires c κs = (omega (arith, c .loop-test .taken), omega (arith, c .before .before .before .before .pre .0, c .loop-test .taken))
 
 add-sum : tie.Need-add-sum Inv-loop μ-loop
 add-sum c = omega (arith, c .plan-line-len .ensures .1)
