@@ -212,7 +212,7 @@ hold_desk_answer hold_desk_plan_text(const uint32_t *capacities, size_t capaciti
  * first byte. A line is its bytes up to the end byte and with it: a last line without its end byte is wrong, whatever it begins with,
  * and so is anything behind the total. A line may be right in itself, but leave the flights below it no legal plan; then it is the
  * wrong one. A text of whole lines that are right, but too few, has its own length named. On a day without a legal plan that is the
- * first line, 0, whatever the text. An accepted text takes one pass; a refused one at most one search for a short stretch a line. */
+ * first line, 0, whatever the text. An accepted text takes no search; a refused one at most one search for a short stretch a line. */
 hold_desk_answer hold_desk_read_plan(const uint32_t *capacities, size_t capacities_len,
                                      const uint32_t *flights, size_t flights_len,
                                      const uint8_t *text, size_t text_len,

@@ -33,8 +33,8 @@ pub record PlanBegins (d : Day) (bytes : List ℕ) : Type 0 where
   pub begins : startsWith (planText (d .flights) plan) bytes ≡ true
 
 -- "the offset of the first line, end byte included, such that no legal plan's text begins with the lines up to and including it": some legal
--- plan's text begins with the lines before it, if there are any, and none with those up to the end of a later line. A last line without
--- its end byte has no such end, and in "a text of whole lines that merely ends early" no line begins at its length.
+-- plan's text begins with the lines before it, if there are any, and none with those up to its end or the end of a later one. A last
+-- line without its end byte has no such end, and in "a text of whole lines that merely ends early" no line begins at its length.
 pub record FirstWrongLine (d : Day) (text : List ℕ) (at : ℕ) : Type 0 where
   pub whole : WholeLines text at
   pub before : 1 ≤ at → PlanBegins d (take at text)
