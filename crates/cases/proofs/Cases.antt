@@ -1,4 +1,4 @@
--- Cases A to K of document 01 and the days of #102 and #103: every row of their table is correct, worked out by its tests.
+-- Cases A to K of document 01 and the days of #102, #103 and #108: every row of their table is correct, worked out by its tests.
 -- Assumes nothing.
 use mathlib.Core.Path.{refl}
 use mathlib.Core.List.{List, [], _∷_}
@@ -6,13 +6,13 @@ use Prim.Native.Nat.{ℕ}
 use native.Mathlib.Omega.{arith}
 use Rattle.assignment.specs.Sum.{sum, count}
 use Rattle.assignment.specs.Rows.{row}
-use Rattle.day.specs.Day.{flightAt, flightCount, holdCost, latestOf, totalOf, all, flightFits, isNew, valid}
-use Rattle.day.specs.Plan.{mustLand, room, tooLong, overCapacity, breaks, firstOf, firstBreak}
+use Rattle.day.specs.Day.{takesOf, countedOf, flightAt, flightCount, holdCost, latestOf, lastOf, totalOf, all, flightFits, isNew, valid}
+use Rattle.day.specs.Plan.{mustLand, room, tooLongOf, overCapacity, breaks, firstOf, firstBreak}
 use Rattle.quick_plan.specs.NextCost.{nextCost}
 use Rattle.quick_plan.specs.Quick.{before, aheadOf}
 use Rattle.quick_plan.specs.Loop.{pick, bestTo, waiting, top, landAll, rowTo}
-use Rattle.cases.specs.Cases.{dayA, dayB, dayD, dayE, dayF, dayG, dayH, dayI, dayJ, dayK, dayLate, dayLates, dayMost, holdsJ, holdsK, Correct, table}
-use Rattle.cases.proofs.Check.{accepts, gets-yes, cheaperAt, gets-no, least-total, savesAll, smallest-prices, picks, no-plan, landIn, oneOf, quick-holds, two-land}
+use Rattle.cases.specs.Cases.{dayA, dayB, dayD, dayE, dayF, dayG, dayH, dayI, dayJ, dayK, dayLate, dayLates, dayMost, dayFar, withLine, holdsJ, holdsK, Correct, table}
+use Rattle.cases.proofs.Check.{accepts, gets-yes, cheaperAt, gets-no, pricedAt, gets-no-unsold, least-total, savesAll, smallest-prices, picks, no-plan, landIn, oneOf, quick-holds, two-land}
 
 -- one row, and those below it
 infixr 5 _and_
@@ -43,7 +43,7 @@ plansK =
     ∷ []
 
 pub cases : Correct table
-unfolding dayA dayB dayD dayE dayF dayG dayH dayI dayJ dayK dayLate dayLates dayMost sum count flightAt flightCount holdCost latestOf totalOf all flightFits isNew valid mustLand room tooLong overCapacity breaks firstOf firstBreak nextCost before aheadOf row pick bestTo waiting top landAll rowTo accepts cheaperAt savesAll picks landIn oneOf
+unfolding dayA dayB dayD dayE dayF dayG dayH dayI dayJ dayK dayLate dayLates dayMost dayFar sum count takesOf countedOf flightAt flightCount holdCost latestOf lastOf totalOf all flightFits isNew valid mustLand room tooLongOf overCapacity breaks firstOf firstBreak nextCost before aheadOf row pick bestTo waiting top landAll rowTo accepts cheaperAt pricedAt savesAll picks landIn oneOf
 cases =
     -- A
     (refl, least-total _ _ _ refl refl refl)
@@ -83,4 +83,16 @@ cases =
     and (refl, smallest-prices _ _ _ plansJ refl refl refl)
     and (refl, smallest-prices _ _ _ plansK refl refl refl)
     and (refl, smallest-prices _ _ _ ((0 ∷ []) ∷ []) refl refl refl)
+    -- #108: with one more landing in period 1 the flight of F lands when due, with one more in the closing period as before
+    and (refl, least-total _ _ _ refl refl refl)
+    and (refl, smallest-prices _ _ _ ((0 ∷ []) ∷ (1 ∷ []) ∷ []) refl refl refl)
+    and (refl, smallest-prices _ _ _ ((0 ∷ []) ∷ (1 ∷ []) ∷ []) refl refl refl)
+    -- #108: for 3, 1 it could land in period 1 for less; with room for two the closing period isn't full
+    and (refl, gets-yes _ _ _ refl refl)
+    and (refl, gets-no (withLine 1 dayF) _ _ 0 1 refl)
+    and (refl, gets-no-unsold (withLine 2 dayF) _ _ 2 refl)
+    -- #108: the stretches
+    and (refl, no-plan _ _ _ refl refl)
+    and (refl, no-plan _ _ _ refl refl)
+    and (refl, no-plan _ _ _ refl refl)
     and tt

@@ -13,7 +13,7 @@ use borrow.Author.Tests.{leb-true, ltb-true, eqb-true, lt-ltb, le-leb}
 use Rattle.assignment.specs.Rows.{row}
 use Rattle.assignment.proofs.Rows.{row-at}
 use Rattle.assignment.proofs.Tests.{lt?, and-true, true-and}
-use Rattle.day.specs.Day.{Day, P, N, number, due, ofPeriod, capacity, cost, latest, Window, hold, land, landings, total, all, valid}
+use Rattle.day.specs.Day.{Day, P, N, number, due, ofPeriod, takes, counted, cost, latest, Window, hold, land, landings, total, all, valid}
 use Rattle.day.specs.Plan.{Accepted, oneMore, Saves, PricesSave, Picked, Short, mustLand, room, firstBreak}
 use Rattle.day.proofs.Tests.{all-at}
 use Rattle.day.proofs.Valid.{valid-means}
@@ -38,7 +38,7 @@ then a b e t = rw t at e
 module _ (d : Day) (holds prices : List ℕ) where
   -- a period that is not full has price 0
   unsoldFree : ℕ → Bool
-  unsoldFree k = implies (ltb (landings d holds k) (capacity d k)) (eqb (ofPeriod prices k) 0)
+  unsoldFree k = implies (ltb (landings d holds k) (takes d k)) (eqb (ofPeriod prices k) 0)
 
   inWindow : ℕ → ℕ → Bool
   inWindow i k = leb (due d i) k && leb k (P d + 1) && leb k (latest d i)
@@ -56,7 +56,7 @@ module _ (d : Day) (holds prices : List ℕ) where
   unfoldable pub accepts : Bool
   unfolding unsoldFree inWindow leastAt
   accepts =
-      eqb (length holds) (N d) && eqb (firstBreak d holds) (N d) && eqb (length prices) (P d) && all (P d + 1) unsoldFree
+      eqb (length holds) (N d) && eqb (firstBreak d holds) (N d) && eqb (length prices) (counted d) && all (counted d + 1) unsoldFree
       && all (N d) (λ i. all (P d + 2) (leastAt i))
 
   window-passes : (i k : ℕ) → Window d i k → inWindow i k ≡ true
@@ -73,8 +73,8 @@ module _ (d : Day) (holds prices : List ℕ) where
       let holdings = and-true (pricings .0) in
       record {
         legal = none-legal d holds (eqb-true (length holds) (N d) (holdings .0)) (eqb-true (firstBreak d holds) (N d) (holdings .1));
-        each = eqb-true (length prices) (P d) (pricings .1);
-        unsold = λ k a b less. eqb-true (ofPeriod prices k) 0 (then _ _ (all-at (P d + 1) unsoldFree (unsolds .1) k (omega arith)) (lt-ltb _ _ less));
+        each = eqb-true (length prices) (counted d) (pricings .1);
+        unsold = λ k a b less. eqb-true (ofPeriod prices k) 0 (then _ _ (all-at (counted d + 1) unsoldFree (unsolds .1) k (omega arith)) (lt-ltb _ _ less));
         least = λ i k l w.
             leb-true _ _ (then _ _ (all-at (P d + 2) (leastAt i) (all-at (N d) _ (leasts .1) i l) k (omega (arith, w .closing))) (window-passes i k w));
       }
@@ -102,6 +102,19 @@ module _ (d : Day) (holds prices : List ℕ) where
       let there = and-true (less .0) in
       not-le-of-lt (ltb-true (in-period i k) (own i) (less .1)) (said .least i k (ltb-true i (N d) (there .0)) (passes-window i k (there .1)))
 
+  -- period k has a price though it is not full
+  unfoldable pub pricedAt : ℕ → Bool
+  pricedAt k = leb 1 k && leb k (counted d) && ltb (landings d holds k) (takes d k) && ltb 0 (ofPeriod prices k)
+
+  pub gets-no-unsold : (k : ℕ) → pricedAt k ≡ true → Accepted d holds prices → ⊥
+  unfolding pricedAt
+  gets-no-unsold k e said =
+      let priced = and-true e in
+      let unsolds = and-true (priced .0) in
+      let periods = and-true (unsolds .0) in
+      let free = said .unsold k (leb-true 1 k (periods .0)) (leb-true k (counted d) (periods .1)) (ltb-true _ _ (unsolds .1)) in
+      omega (arith, free, ltb-true 0 (ofPeriod prices k) (priced .1))
+
   pub least-total : {t : ℕ} → valid d ≡ true → accepts ≡ true → total d holds ≡ t → TotalIsLeast d t holds prices
   least-total v e sums =
       let said = gets-yes v e in
@@ -109,7 +122,7 @@ module _ (d : Day) (holds prices : List ℕ) where
 
 -- ---- smallest prices
 
--- `plans` has a plan for each period
+-- `plans` has a plan for each period that has a price
 module _ (d : Day) (holds prices : List ℕ) (plans : List (List ℕ)) where
   -- the plan for period j + 1 is legal with one more landing there, and saves the price
   savesAt : ℕ → Bool
@@ -119,9 +132,9 @@ module _ (d : Day) (holds prices : List ℕ) (plans : List (List ℕ)) where
 
   unfoldable pub savesAll : Bool
   unfolding savesAt
-  savesAll = all (P d) savesAt
+  savesAll = all (counted d) savesAt
 
-  saves-at : valid d ≡ true → Accepted d holds prices → (j : ℕ) → savesAt j ≡ true → j < P d → Saves d (total d holds) (suc j) (ofPeriod prices (suc j))
+  saves-at : valid d ≡ true → Accepted d holds prices → (j : ℕ) → savesAt j ≡ true → j < counted d → Saves d (total d holds) (suc j) (ofPeriod prices (suc j))
   unfolding savesAt
   saves-at v said j e to =
       let z = getD plans j [] in
@@ -140,7 +153,7 @@ module _ (d : Day) (holds prices : List ℕ) (plans : List (List ℕ)) where
     where
       at-each : Accepted d holds prices → PricesSave d (total d holds) prices
       at-each said zero from to = absurd (omega arith)
-      at-each said (suc j) from to = saves-at v said j (all-at (P d) savesAt saved j to) to
+      at-each said (suc j) from to = saves-at v said j (all-at (counted d) savesAt saved j to) to
 
 -- ---- stretches
 
@@ -151,7 +164,7 @@ module _ (d : Day) (a b : ℕ) where
 
   unfoldable pub picks : Bool
   unfolding notBefore
-  picks = leb 1 a && leb a b && leb b (P d) && ltb (room d a b) (mustLand d a b) && all (b + 1) (λ last. all (last + 1) (notBefore last))
+  picks = leb 1 a && leb a b && leb b (counted d) && ltb (room d a b) (mustLand d a b) && all (b + 1) (λ last. all (last + 1) (notBefore last))
 
   -- so a short stretch that ends by b ends there
   short-by : all (b + 1) (λ last. all (last + 1) (notBefore last)) ≡ true → {first last : ℕ} → last ≤ b → Short d first last → (b ≤ last) × (first ≤ a)
@@ -172,7 +185,7 @@ module _ (d : Day) (a b : ℕ) where
         short = record {
           from = leb-true 1 a (starts .0);
           stretch = leb-true a b (starts .1);
-          to = leb-true b (P d) (tos .1);
+          to = leb-true b (counted d) (tos .1);
           short = ltb-true (room d a b) (mustLand d a b) (shorts .1);
         };
         smallest-last = λ first last s. elim (lt? b last) [ inl more ↦ omega arith | inr by ↦ short-by (others .1) by s .0 ];

@@ -1,11 +1,11 @@
--- Cases A to K of document 01 and the days of #102 and #103 as one table: each row is a day, and what the documents say of it.
+-- Cases A to K of document 01 and the days of #102, #103 and #108 as one table: each row is a day, and what the documents say of it.
 -- Assumes nothing.
 use mathlib.Core.Path.{_≡_}
 use mathlib.Core.Bool.{true, _||_}
 use mathlib.Core.List.{List, [], _∷_, _++_}
 use Prim.Native.Nat.{ℕ, _<_}
 use lib.Dec.{eqb}
-use Rattle.day.specs.Day.{Day, day, N, number, cost, total, valid}
+use Rattle.day.specs.Day.{Day, day, unlimited, N, number, cost, total, valid}
 use Rattle.day.specs.Flights.{numbersOf}
 use Rattle.day.specs.Plan.{Legal, Cheapest, Accepted, Smallest, PricesSave, Picked}
 use Rattle.quick_plan.specs.Quick.{operates, rates, quick}
@@ -62,7 +62,7 @@ abbrev pub Correct : List (Day × Claim) → Type 0
 Correct [] = Unit {0}
 Correct ((d, said) ∷ rest) = ((valid d ≡ true) × Says d said) × Correct rest
 
--- ---- the days; what document 01 leaves open in them (a capacity, a rate, a flight number) is chosen
+-- ---- the days; what document 01 leaves open in them (a capacity, a rate, a flight number) is chosen. Up to #103 none has a closing line
 
 -- a flight's seven numbers, in sheet order
 abbrev pub lateFlight : ℕ → ℕ → ℕ → ℕ → ℕ → ℕ → ℕ → List ℕ
@@ -79,11 +79,11 @@ noLimit = 255
 
 -- "one period, no flights"
 unfoldable pub dayA : Day
-dayA = day (1 ∷ []) []
+dayA = day (1 ∷ []) [] unlimited
 
 -- "This whole sheet is case B"
 unfoldable pub dayB : Day
-dayB = day (1 ∷ 1 ∷ []) (flight 11 1 10 0 0 noLimit ++ flight 12 1 4 0 0 noLimit ++ flight 13 2 6 0 0 1)
+dayB = day (1 ∷ 1 ∷ []) (flight 11 1 10 0 0 noLimit ++ flight 12 1 4 0 0 noLimit ++ flight 13 2 6 0 0 1) unlimited
 
 -- "two flights due 1 with limit 0"
 abbrev pub twoFlights : List ℕ
@@ -91,34 +91,34 @@ twoFlights = flight 1 1 1 0 0 0 ++ flight 2 1 1 0 0 0
 
 -- "one period of capacity 1, two flights due 1 with limit 0"
 unfoldable pub dayD : Day
-dayD = day (1 ∷ []) twoFlights
+dayD = day (1 ∷ []) twoFlights unlimited
 
 -- "D with capacity 2"
 unfoldable pub dayE : Day
-dayE = day (2 ∷ []) twoFlights
+dayE = day (2 ∷ []) twoFlights unlimited
 
 -- "one period, capacity 0, a flight at rate 3, no jump, no limit"
 unfoldable pub dayF : Day
-dayF = day (0 ∷ []) (flight 1 1 3 0 0 noLimit)
+dayF = day (0 ∷ []) (flight 1 1 3 0 0 noLimit) unlimited
 
 -- "F with limit 0"
 unfoldable pub dayG : Day
-dayG = day (0 ∷ []) (flight 1 1 3 0 0 0)
+dayG = day (0 ∷ []) (flight 1 1 3 0 0 0) unlimited
 
 -- "rate 2, after 1, jump 50"
 unfoldable pub dayH : Day
-dayH = day (0 ∷ 0 ∷ []) (flight 1 1 2 1 50 noLimit)
+dayH = day (0 ∷ 0 ∷ []) (flight 1 1 2 1 50 noLimit) unlimited
 
 -- "two periods of capacity 1, two flights due 1, rates 10 and 4, the second with after 0 and jump 100"
 unfoldable pub dayI : Day
-dayI = day (1 ∷ 1 ∷ []) (flight 1 1 10 0 0 noLimit ++ flight 2 1 4 0 100 noLimit)
+dayI = day (1 ∷ 1 ∷ []) (flight 1 1 10 0 0 noLimit ++ flight 2 1 4 0 100 noLimit) unlimited
 
 -- "the report's ten flights, seven periods of capacity 2", each flight with the same limit
 abbrev pub report : ℕ → Day
 report limit = day (2 ∷ 2 ∷ 2 ∷ 2 ∷ 2 ∷ 2 ∷ 2 ∷ []) (
     flight 1 3 10 0 0 limit ++ flight 2 5 5 0 0 limit ++ flight 3 5 10 0 0 limit ++ flight 4 4 10 0 0 limit ++ flight 5 3 10 0 0 limit
     ++ flight 6 5 5 0 0 limit ++ flight 7 3 5 0 0 limit ++ flight 8 5 10 0 0 limit ++ flight 9 4 10 0 0 limit ++ flight 10 4 5 0 0 limit
-    )
+    ) unlimited
 
 unfoldable pub dayJ : Day
 dayJ = report noLimit
@@ -129,15 +129,23 @@ dayK = report 2
 
 -- #102: late + hold is greater than after at hold 0 already
 unfoldable pub dayLate : Day
-dayLate = day (1 ∷ []) (lateFlight 1 1 2 1 50 noLimit 2)
+dayLate = day (1 ∷ []) (lateFlight 1 1 2 1 50 noLimit 2) unlimited
 
 -- #102: one period of capacity 1, and two flights that differ in number and late alone
 unfoldable pub dayLates : ℕ → ℕ → Day
-dayLates first second = day (1 ∷ []) (lateFlight 1 1 1 1 5 noLimit first ++ lateFlight 2 1 1 1 5 noLimit second)
+dayLates first second = day (1 ∷ []) (lateFlight 1 1 1 1 5 noLimit first ++ lateFlight 2 1 1 1 5 noLimit second) unlimited
 
 -- #103: the day with one more landing has a capacity of 256, which no day that passes its check has
 unfoldable pub dayMost : Day
-dayMost = day (255 ∷ []) (flight 1 1 3 0 0 noLimit)
+dayMost = day (255 ∷ []) (flight 1 1 3 0 0 noLimit) unlimited
+
+-- #108: the day with `closing,c` after its period lines
+abbrev pub withLine : ℕ → Day → Day
+withLine c d = day (d .capacities) (d .flights) c
+
+-- #108: F with a limit that "reaches further" than the closing period
+unfoldable pub dayFar : Day
+dayFar = day (0 ∷ []) (flight 1 1 3 0 0 96) unlimited
 
 -- ---- the table
 
@@ -193,4 +201,19 @@ table =
     ∷ (dayK, smallestPrices holdsK (0 ∷ 0 ∷ 25 ∷ 20 ∷ 15 ∷ 5 ∷ 0 ∷ []))
     -- #103: "this holds on paper at capacity 255 too"
     ∷ (dayMost, smallestPrices (0 ∷ []) (0 ∷ []))
+    -- #108: a line that leaves room for F's flight changes neither its plan nor its price, and the added price is 0; with 255 the day with
+    -- one more landing in the closing period has 256, which is no line
+    ∷ (withLine 1 dayF, leastTotal 3 (1 ∷ []) (3 ∷ 0 ∷ []))
+    ∷ (withLine 1 dayF, smallestPrices (1 ∷ []) (3 ∷ 0 ∷ []))
+    ∷ (withLine 255 dayF, smallestPrices (1 ∷ []) (3 ∷ 0 ∷ []))
+    -- #108: "the price row has one entry more .. under the same rules": the flight pays the closing price too, and it is 0 where the closing
+    -- period isn't full
+    ∷ (withLine 1 dayF, getYes (1 ∷ []) (4 ∷ 1 ∷ []))
+    ∷ (withLine 1 dayF, getNo (1 ∷ []) (3 ∷ 1 ∷ []))
+    ∷ (withLine 2 dayF, getNo (1 ∷ []) (4 ∷ 1 ∷ []))
+    -- #108: "stretches may now end at P+1", where "due + limit counts as P+1 where the limit is missing or reaches further"
+    ∷ (withLine 0 dayF, noPlan 1 2)
+    ∷ (withLine 0 dayFar, noPlan 1 2)
+    -- #108: of D's stretches 1 to 1 and 1 to 2, both short with the line, the first has the smaller last period
+    ∷ (withLine 0 dayD, noPlan 1 1)
     ∷ []

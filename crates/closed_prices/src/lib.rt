@@ -1,6 +1,6 @@
 // The prices of the closed periods, those of capacity 0, for a plan whose other prices are known: a search leaves such periods out.
 ghost use Prim.Native.Nat.{_<_};
-ghost use Rattle.day.specs.Day.{lent, flightCount};
+ghost use Rattle.day.specs.Day.{lent, unlimited, flightCount};
 ghost use Rattle.closed_prices.specs.ClosedPrices.{CanPay, Shortfall, LeastPrice, CanPrice, Priced};
 use day::flight_at;
 use day::flight_count;
@@ -60,8 +60,8 @@ fn least_price(periods: usize, flights: &[u32], holds: &[u32], prices: &[u32], k
 // Gives each closed period the least price that keeps every flight where it lands. Nobody lands in a closed period, so that no price that
 // is read here is stored here.
 pub fn price_closed(capacities: &[u32], flights: &[u32], holds: &[u32], prices: &mut [u32])
-    requires { ⌜ CanPrice (lent capacities flights) (now holds) (now prices) ⌝ }
-    ensures { λ _. ⌜ Priced (lent (capacities .entry) (flights .entry)) (now (holds .entry)) (now (prices .entry)) (now (prices .exit)) ⌝ }
+    requires { ⌜ CanPrice (lent capacities flights unlimited) (now holds) (now prices) ⌝ }
+    ensures { λ _. ⌜ Priced (lent (capacities .entry) (flights .entry) unlimited) (now (holds .entry)) (now (prices .entry)) (now (prices .exit)) ⌝ }
 {
     let periods = capacities.len();
     let mut at = 0;

@@ -10,21 +10,23 @@ use native.Mathlib.Numerals.{add-one}
 use native.Mathlib.Omega.{arith}
 use lib.ListN.{length, getD, set, drop, length-append, length-drop, length-set, List·getD-append}
 use lib.Dec.{eqb}
-use lib.Seq.{getD-drop, getD-append-add, getD-set-other, ext-getD}
+use lib.Seq.{getD-take, length-take-le, getD-drop, getD-append-add, getD-set-other, ext-getD}
+use borrow.Author.Tests.{lt-ltb, le-ltb}
 use Rattle.assignment.specs.Sum.{gate, count}
 use Rattle.assignment.specs.Rows.{row}
 use Rattle.assignment.proofs.Tests.{lt?}
 use Rattle.assignment.proofs.Rows.{row-length, row-at, row-ext}
 use Rattle.assignment.proofs.Sums.{sum-split, count-ext, count-zero}
-use Rattle.day.specs.Day.{Day, P, N, width, column, flightCount, flightAt, due, latest, ofPeriod, capacity, hold, land, landings, Window, valid}
+use Rattle.day.specs.Day.{Day, P, N, width, column, flightCount, flightAt, due, latest, ofPeriod, unlimited, takes, counted, hold, land, landings, Window, valid}
 use Rattle.day.specs.Plan.{Legal, HasPlan, Short, breaks, firstBreak}
 use Rattle.day.specs.Valid.{Valid}
+use Rattle.day.proofs.Costs.{period-in, takes-in, takes-closing, counted-line, counted-open, counted-from, counted-to}
 use Rattle.day.proofs.Existence.{plan-exactly}
 use Rattle.day.proofs.Flights.{same-columns}
 use Rattle.day.proofs.Tests.{first-none, none-passes}
 use Rattle.day.proofs.Valid.{range-means, range-from}
 use Rattle.legality.proofs.Meaning.{passes-window, upto, none-legal, walk-means}
-use Rattle.completion.specs.Rest.{Completed, Unbroken, capacitiesLeft, rest}
+use Rattle.completion.specs.Rest.{Completed, Unbroken, placesLeft, rest}
 use Rattle.completion.specs.Loop.{Partial}
 
 -- ---- what breaks a row, by the holds up to a table place
@@ -42,14 +44,69 @@ legal-unbroken {d} {h} v legal i l = record { none = λ j b. none-passes (N d) (
 -- ---- the rest of the day
 
 module _ (d : Day) (h : List ℕ) (i : ℕ) where
-  pub left-length : length (capacitiesLeft d h i) ≡ P d
-  unfolding capacitiesLeft
-  left-length = row-length (P d) _
+  pub left-length : length (placesLeft d h i) ≡ counted d
+  unfolding placesLeft
+  left-length = row-length (counted d) _
 
-  pub left-at : (k : ℕ) → 1 ≤ k → k ≤ P d → capacity (rest d h i) k ≡ capacity d k - count i (land d h) k
-  unfolding capacitiesLeft
+  pub left-at : (k : ℕ) → 1 ≤ k → k ≤ counted d → ofPeriod (placesLeft d h i) k ≡ takes d k - count i (land d h) k
+  unfolding placesLeft
   left-at zero some to = absurd (omega arith)
-  left-at (suc k) some to = row-at (P d) _ k 0 to ∙ rw (add-one k)
+  left-at (suc k) some to = row-at (counted d) _ k 0 to ∙ rw (add-one k)
+
+  rest-periods : P (rest d h i) ≡ P d
+  rest-periods = length-take-le (P d) (placesLeft d h i) (omega (arith, left-length, counted-from (P d) (d .closing)))
+
+  -- a closing number that is left is no greater, and 256 stays
+  closing-most : rest d h i .closing ≤ d .closing
+  closing-most = elim (lt? (d .closing) unlimited) [
+    | inl line ↦ rw (lt-ltb (d .closing) unlimited line) (omega (
+      arith,
+      left-at (P d + 1) (omega arith) (omega (arith, counted-line (P d) (d .closing) line)),
+      period-in (placesLeft d h i) (P d + 1) (omega arith),
+      ap (λ n. getD (placesLeft d h i) n 0) back,
+      takes-closing (d .capacities) (d .closing),
+    ))
+    | inr none ↦ rw (le-ltb (d .closing) unlimited none) (omega arith)
+  ]
+    where
+      back : P d + 1 - 1 ≡ P d
+      back = omega arith
+
+  rest-counted : counted (rest d h i) ≡ counted d
+  rest-counted = elim (lt? (d .closing) unlimited) [
+    | inl line ↦ omega (
+      arith,
+      counted-line (P d) (d .closing) line,
+      counted-line (P (rest d h i)) (rest d h i .closing) (omega (arith, closing-most)),
+      rest-periods,
+    )
+    | inr none ↦ rw (le-ltb (d .closing) unlimited none, rest-periods)
+  ]
+
+  -- each period that is counted takes what is left of it
+  pub rest-takes : (k : ℕ) → 1 ≤ k → k ≤ counted d → takes (rest d h i) k ≡ takes d k - count i (land d h) k
+  rest-takes k from to = elim (lt? (P d) k) [
+    | inr in-day ↦ omega (
+      arith,
+      takes-in (rest d h i .capacities) (rest d h i .closing) k (omega (arith, rest-periods)),
+      period-in (rest d h i .capacities) k (omega arith),
+      getD-take (P d) (placesLeft d h i) (k - 1) 0 (omega arith),
+      period-in (placesLeft d h i) k (omega arith),
+      left-at k from to,
+    )
+    | inl past ↦
+        let e : k ≡ P d + 1 = omega (arith, counted-to (P d) (d .closing)) in
+        let line : d .closing < unlimited = elim (lt? (d .closing) unlimited) [
+          | inl line ↦ line
+          | inr none ↦ absurd (omega (arith, counted-open (P d) (d .closing) none))
+        ] in
+        let at-closing : takes (rest d h i) k ≡ getD (placesLeft d h i) (P d) 0 =
+        ap (takes (rest d h i)) (e ∙ ap (λ p. p + 1) (sym rest-periods)) ∙ takes-closing (rest d h i .capacities) (rest d h i .closing)
+        ∙ rw (lt-ltb (d .closing) unlimited line)
+        in
+        let entry : k - 1 ≡ P d = omega arith in
+        omega (arith, at-closing, period-in (placesLeft d h i) k (omega arith), ap (λ n. getD (placesLeft d h i) n 0) entry, left-at k from to)
+  ]
 
   rest-count : N (rest d h i) ≡ N d - i
   unfolding flightCount
@@ -72,23 +129,32 @@ window-same dues periods latests w = record {
 
 module _ (d : Day) (h : List ℕ) (i : ℕ) where
   rest-latest : (j : ℕ) → latest (rest d h i) j ≡ latest d (i + j)
-  rest-latest j = rw (left-length d h i, rest-flight (d .flights) i j)
+  rest-latest j = rw (rest-periods d h i, rest-flight (d .flights) i j)
 
   window-rest : {j k : ℕ} → Window d (i + j) k → Window (rest d h i) j k
-  window-rest {j} = window-same (sym (rest-column (d .flights) i 1 j)) (sym (left-length d h i)) (sym (rest-latest j))
+  window-rest {j} = window-same (sym (rest-column (d .flights) i 1 j)) (sym (rest-periods d h i)) (sym (rest-latest j))
 
   rest-window : {j k : ℕ} → Window (rest d h i) j k → Window d (i + j) k
-  rest-window {j} = window-same (rest-column (d .flights) i 1 j) (left-length d h i) (rest-latest j)
+  rest-window {j} = window-same (rest-column (d .flights) i 1 j) (rest-periods d h i) (rest-latest j)
 
 pub rest-valid : {d : Day} → Valid d → (holds : List ℕ) (i : ℕ) → i ≤ N d → Valid (rest d holds i)
 rest-valid {d} v h i l = record {
-  periods-from = omega (arith, v .periods-from, left-length d h i);
-  periods-to = omega (arith, v .periods-to, left-length d h i);
+  periods-from = omega (arith, v .periods-from, rest-periods d h i);
+  periods-to = omega (arith, v .periods-to, rest-periods d h i);
   whole = rw (rest-count d h i, length-drop) (omega (arith, v .whole));
   flights-to = omega (arith, v .flights-to, rest-count d h i);
-  capacity-to = λ k b. omega (arith, left-at d h i (suc k) (omega arith) (omega (arith, left-length d h i)), v .capacity-to k (omega (arith, left-length d h i)));
+  closing-to = omega (arith, closing-most d h i, v .closing-to);
+  capacity-to = λ k b.
+      let to : suc k ≤ P d = omega (arith, rest-periods d h i) in
+      omega (
+        arith,
+        rest-takes d h i (suc k) (omega arith) (omega (arith, counted-from (P d) (d .closing))),
+        takes-in (rest d h i .capacities) (rest d h i .closing) (suc k) (omega arith),
+        takes-in (d .capacities) (d .closing) (suc k) to,
+        v .capacity-to k to,
+      );
   flight = λ j b. range-means (rest d h i) j
-      (rw (left-length d h i, rest-flight (d .flights) i j) (range-from d (i + j) (v .flight (i + j) (omega (arith, rest-count d h i)))));
+      (rw (rest-periods d h i, rest-flight (d .flights) i j) (range-from d (i + j) (v .flight (i + j) (omega (arith, rest-count d h i)))));
   distinct = λ j o b c. rw (rest-column (d .flights) i 0 j, rest-column (d .flights) i 0 o)
       (v .distinct (i + j) (i + o) (omega (arith, rest-count d h i)) (omega arith));
 }
@@ -127,7 +193,12 @@ module _ (d : Day) {h r g : List ℕ} {i : ℕ} (parts : Joined h r g i) (l : i 
   rest-legal legal each = record {
     each = each;
     window = λ j b. rw (← later-lands j) (window-rest d h i (legal .window (i + j) (omega (arith, rest-count d h i))));
-    room = λ k a b. omega (arith, landings-two k, left-at d h i k a (omega (arith, left-length d h i)), legal .room k a (omega (arith, left-length d h i)));
+    room = λ k a b. omega (
+      arith,
+      landings-two k,
+      rest-takes d h i k a (omega (arith, rest-counted d h i)),
+      legal .room k a (omega (arith, rest-counted d h i)),
+    );
   }
 
   -- and the other way round, where the first holds break nothing: their landings are within the capacities, and the rest has what is left
@@ -142,13 +213,13 @@ module _ (d : Day) {h r g : List ℕ} {i : ℕ} (parts : Joined h r g i) (l : i 
             rw (← e, later-lands (j - i)) (rest-window d h i (legal .window (j - i) (omega (arith, rest-count d h i))))
       ]
 
-      room : (k : ℕ) → 1 ≤ k → k ≤ P d → landings d g k ≤ capacity d k
+      room : (k : ℕ) → 1 ≤ k → k ≤ counted d → landings d g k ≤ takes d k
       room k a b = omega (
         arith,
         landings-two k,
-        left-at d h i k a b,
+        rest-takes d h i k a b,
         upto d h i (u .none) k b,
-        legal .room k a (omega (arith, left-length d h i)),
+        legal .room k a (omega (arith, rest-counted d h i)),
       )
 
 -- ---- the theorem
@@ -201,29 +272,30 @@ completed-exactly v h i l =
     let plans = plan-exactly (rest-valid v h i l) in
     (λ c. (split .0 c .0, plans .0 (split .0 c .1)), λ p. split .1 (p .0, plans .1 (p .1)))
 
--- ---- holds so far, and the capacities that they leave
+-- ---- holds so far, and the places that they leave
 
 -- the same landings leave the same
-pub left-same : (d : Day) (h g : List ℕ) (i n : ℕ) → ((k : ℕ) → 1 ≤ k → k ≤ P d → count n (land d g) k ≡ count i (land d h) k)
-    → capacitiesLeft d h i ≡ capacitiesLeft d g n
-unfolding capacitiesLeft
+pub left-same : (d : Day) (h g : List ℕ) (i n : ℕ) → ((k : ℕ) → 1 ≤ k → k ≤ counted d → count n (land d g) k ≡ count i (land d h) k)
+    → placesLeft d h i ≡ placesLeft d g n
+unfolding placesLeft
 left-same d h g i n same =
-    row-ext (P d) _ _ (λ k l. ap (λ x. getD (d .capacities) k 0 - x) (sym (same (k + 1) (omega arith) (omega arith))))
+    row-ext (counted d) _ _ (λ k l. ap (λ x. takes d (k + 1) - x) (sym (same (k + 1) (omega arith) (omega arith))))
 
 -- a row is what is left if each period has what is left there
-pub left-from : (d : Day) (h left : List ℕ) (i : ℕ) → length left ≡ P d
-    → ((k : ℕ) → 1 ≤ k → k ≤ P d → ofPeriod left k ≡ capacity d k - count i (land d h) k) → left ≡ capacitiesLeft d h i
+pub left-from : (d : Day) (h left : List ℕ) (i : ℕ) → length left ≡ counted d
+    → ((k : ℕ) → 1 ≤ k → k ≤ counted d → ofPeriod left k ≡ takes d k - count i (land d h) k) → left ≡ placesLeft d h i
 left-from d h left i each at =
-    ext-getD 0 left (capacitiesLeft d h i) (each ∙ sym (left-length d h i))
+    ext-getD 0 left (placesLeft d h i) (each ∙ sym (left-length d h i))
     (λ k l. at (suc k) (omega arith) (omega arith) ∙ sym (left-at d h i (suc k) (omega arith) (omega arith)))
 
-pub partial-start : {d : Day} {h left : List ℕ} → valid d ≡ true → length h ≡ N d → left ≡ d .capacities → Partial d h left 0
-partial-start {d} {h} {left} good each all-left = record {
+pub partial-start : {d : Day} {h left : List ℕ} → valid d ≡ true → length h ≡ N d → length left ≡ counted d
+    → ((k : ℕ) → 1 ≤ k → k ≤ counted d → ofPeriod left k ≡ takes d k) → Partial d h left 0
+partial-start {d} {h} {left} good each size all-left = record {
   good = good;
   each = each;
   upto = omega arith;
   unbroken = record { none = λ j l. absurd (omega arith) };
-  left-is = left-from d h left 0 (ap length all-left) (λ k a b. rw all-left (omega (arith, count-zero (land d h) k)));
+  left-is = left-from d h left 0 size (λ k a b. omega (arith, all-left k a b, count-zero (land d h) k));
 }
 
 -- holds from i on are free

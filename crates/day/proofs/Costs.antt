@@ -8,13 +8,13 @@ use native.Mathlib.Nat.{mul-le-mul, mul-le-mul-left}
 use native.Mathlib.Omega.{arith}
 use lib.Dec.{ltb}
 use lib.ListN.{length, getD, set, List·getD-eq-default}
-use lib.Seq.{getD-set-same, getD-set-other}
+use lib.Seq.{getD-set-same, getD-set-other, set-out}
 use borrow.Author.Tests.{eq-eqb, ne-eqb}
 use Rattle.assignment.specs.Sum.{gate}
 use Rattle.assignment.specs.Moves.{Moved}
 use Rattle.assignment.proofs.Tests.{eq?, lt?, gate-le, gate-lt, gate-ge, gate-eq, gate-ne}
 use Rattle.day.specs.declared.Flight.{Flight}
-use Rattle.day.specs.Day.{Day, P, due, rate, after, jump, late, limit, ofPeriod, takes, flightAt, holdCost, cost, latestOf, latest}
+use Rattle.day.specs.Day.{Day, P, due, rate, after, jump, late, limit, unlimited, ofPeriod, takesOf, countedOf, flightAt, holdCost, cost, latestOf, latest}
 
 -- ---- rows by period
 
@@ -35,20 +35,46 @@ period-moved row (suc k) v some l =
       others = λ o f. getD-set-other (0 ∷ row) (suc k) o v 0 f;
     })
 
+-- none is stored past the last
+pub period-set-out : (row : List ℕ) (k v o : ℕ) → length row < k → ofPeriod (set row (k - 1) v) o ≡ ofPeriod row o
+period-set-out row k v o l = ap (λ r. ofPeriod r o) (set-out row (k - 1) v (omega arith))
+
 -- ---- what a period takes
 
-module _ (capacities : List ℕ) where
-  pub takes-other : (k : ℕ) → k ≢ length capacities + 1 → takes capacities k ≡ ofPeriod capacities k
-  unfolding takes
-  takes-other k other = omega (arith, gate-ne k (length capacities + 1) 256 other)
+module _ (capacities : List ℕ) (closing : ℕ) where
+  pub takes-other : (k : ℕ) → k ≢ length capacities + 1 → takesOf capacities closing k ≡ ofPeriod capacities k
+  unfolding takesOf
+  takes-other k other = omega (arith, gate-ne k (length capacities + 1) closing other)
 
-  pub takes-in : (k : ℕ) → k ≤ length capacities → takes capacities k ≡ ofPeriod capacities k
+  pub takes-in : (k : ℕ) → k ≤ length capacities → takesOf capacities closing k ≡ ofPeriod capacities k
   takes-in k l = takes-other k (omega arith)
 
-  pub takes-closing : takes capacities (length capacities + 1) ≡ 256
-  unfolding takes
+  pub takes-closing : takesOf capacities closing (length capacities + 1) ≡ closing
+  unfolding takesOf
   takes-closing =
-      omega (arith, gate-eq (length capacities + 1) (length capacities + 1) 256 refl, period-out capacities (length capacities + 1) (omega arith))
+      omega (arith, gate-eq (length capacities + 1) (length capacities + 1) closing refl, period-out capacities (length capacities + 1) (omega arith))
+
+-- ---- which periods are counted
+
+module _ (p closing : ℕ) where
+  pub counted-line : closing < unlimited → countedOf p closing ≡ p + 1
+  unfolding countedOf
+  counted-line l = omega (arith, gate-lt closing unlimited 1 l)
+
+  pub counted-open : unlimited ≤ closing → countedOf p closing ≡ p
+  unfolding countedOf
+  counted-open l = omega (arith, gate-ge closing unlimited 1 (omega arith))
+
+  pub counted-from : p ≤ countedOf p closing
+  unfolding countedOf
+  counted-from = omega arith
+
+  pub counted-to : countedOf p closing ≤ p + 1
+  counted-to = elim (lt? closing unlimited) [ inl l ↦ omega (arith, counted-line l) | inr l ↦ omega (arith, counted-open l) ]
+
+  -- beyond the last counted period only the closing period takes flights, and then any number
+  pub uncounted : countedOf p closing < p + 1 → unlimited ≤ closing
+  uncounted l = elim (lt? closing unlimited) [ inl line ↦ absurd (omega (arith, counted-line line)) | inr none ↦ omega (arith, none) ]
 
 -- ---- costs
 

@@ -1,15 +1,14 @@
--- A day is an assignment problem in which the closing period is one more period, of capacity 256: no day can fill it.
+-- A day is an assignment problem in which the closing period is one more period, of the closing number's capacity: no day can fill 256.
 -- So what holds of assignments holds of days: accepted prices show that a plan is cheapest, and a short stretch that there is none.
 -- Assumes nothing.
 use mathlib.Core.Path.{_≡_, refl, sym, ap, _∙_}
 use mathlib.Core.Logic.{_≢_, inl, inr}
-use mathlib.Core.Bool.{_&&_}
 use mathlib.Core.List.{List}
-use Prim.Native.Nat.{ℕ, zero, suc, _+_, _-_, _≤_, _<_, min}
+use Prim.Native.Nat.{ℕ, zero, suc, _+_, _-_, _≤_, _<_}
 use native.Mathlib.Nat.{mul-le-mul}
 use native.Mathlib.Omega.{arith}
 use lib.ListN.{length}
-use lib.Dec.{leb, eqb}
+use lib.Dec.{eqb}
 use Rattle.assignment.specs.Sum.{gate, count}
 use Rattle.assignment.specs.Assignment as A
 use Rattle.assignment.proofs.Tests.{lt?, eq?, gate-ne}
@@ -18,22 +17,21 @@ use Rattle.assignment.proofs.Sums.{sum-ext, sum-zero, sum-most, count-le, count
 use Rattle.assignment.proofs.Rows.{row-length, row-at}
 use Rattle.assignment.proofs.Duality as duality
 use Rattle.assignment.proofs.Stretch as stretch
-use Rattle.day.specs.Day.{Day, P, N, due, rate, ofPeriod, capacity, takes, cost, latest, Window, hold, land, totalOf, total, last}
+use Rattle.day.specs.Day.{Day, P, N, due, rate, ofPeriod, takes, counted, cost, latest, Window, hold, land, totalOf, total, lastOf, last}
 use Rattle.day.specs.Plan.{Legal, Cheapest, Accepted, mustLand, room, Short}
-use borrow.Author.Tests.{le-leb, lt-leb}
-use Rattle.day.proofs.Costs.{takes-in, takes-closing, period-out, cost-most}
+use Rattle.day.proofs.Costs.{takes-closing, counted-from, uncounted, period-out, cost-most}
 use Rattle.day.specs.Valid.{ValidFlights, Valid}
 use Rattle.day.specs.Instance.{last-to, instance}
 use Rattle.day.proofs.Valid.{valid-flights}
 
 pub last-latest : (d : Day) (i : ℕ) → last d i ≤ latest d i
-unfolding last
+unfolding lastOf
 last-latest d i = omega arith
 
 -- ---- windows
 
 pub window-in : {d : Day} {i k : ℕ} → Window d i k → A.In (instance d) i k
-unfolding last
+unfolding lastOf
 window-in w = record { from = w .from; to = omega (arith, w .closing, w .limited) }
 
 pub in-window : {d : Day} {i k : ℕ} → A.In (instance d) i k → Window d i k
@@ -58,15 +56,22 @@ total-instance d h = sum-ext (N d) (λ i. cost d i (land d h i - due d i)) (λ i
 pub legal-instance : {d : Day} {h : List ℕ} → ValidFlights (P d) (d .flights) → Legal d h → A.Legal (instance d) (land d h)
 legal-instance {d} {h} v legal = record { window = λ i l. window-in (legal .window i l); room = fits }
   where
-    fits : (k : ℕ) → count (N d) (land d h) k ≤ takes (d .capacities) k
-    fits k = elim (lt? (P d) k) [
+    fits : (k : ℕ) → count (N d) (land d h) k ≤ takes d k
+    fits k = elim (lt? (counted d) k) [
       | inr in-day ↦ elim (lt? 0 k) [
-        | inl some ↦ omega (arith, takes-in (d .capacities) k in-day, legal .room k some in-day)
+        | inl some ↦ legal .room k some in-day
         | inr none ↦ omega (arith, count-out (N d) (land d h) k (λ i l. omega (arith, v .flight i l .due-from)))
       ]
       | inl past ↦ elim (eq? k (P d + 1)) [
-        | inl closing ↦ rw closing (omega (arith, takes-closing (d .capacities), count-le (N d) (land d h) (P d + 1), v .flights-to))
-        | inr out ↦ omega (arith, count-out (N d) (land d h) k (λ i l. omega (arith, legal .window i l .closing)))
+        | inl closing ↦ rw closing (omega (
+          arith,
+          takes-closing (d .capacities) (d .closing),
+          uncounted (P d) (d .closing) (omega arith),
+          count-le (N d) (land d h) (P d + 1),
+          v .flights-to,
+        ))
+        | inr out ↦
+            omega (arith, count-out (N d) (land d h) k (λ i l. omega (arith, legal .window i l .closing, counted-from (P d) (d .closing))))
       ]
     ]
 
@@ -74,7 +79,7 @@ pub instance-legal : {d : Day} {h : List ℕ} → length h ≡ N d → A.Legal (
 instance-legal {d} each legal = record {
   each = each;
   window = λ i l. in-window (legal .window i l);
-  room = λ k a b. omega (arith, takes-in (d .capacities) k b, legal .room k);
+  room = λ k a b. legal .room k;
 }
 
 -- a plan as a row of holds
@@ -105,18 +110,18 @@ module _ {d : Day} {h p : List ℕ} where
     best = λ i k l w. rw (hold-of d h i) (said .least i k l (in-window w));
   }
     where
-      unsold : (k : ℕ) → count (N d) (land d h) k < takes (d .capacities) k → ofPeriod p k ≡ 0
+      unsold : (k : ℕ) → count (N d) (land d h) k < takes d k → ofPeriod p k ≡ 0
       unsold zero less = refl
-      unsold (suc k) less = elim (lt? k (P d)) [
-        | inl in-day ↦ said .unsold (suc k) (omega arith) in-day (omega (arith, takes-in (d .capacities) (suc k) in-day))
+      unsold (suc k) less = elim (lt? k (counted d)) [
+        | inl in-day ↦ said .unsold (suc k) (omega arith) in-day less
         | inr past ↦ period-out p (suc k) (omega (arith, said .each))
       ]
 
-  pub instance-accepted : length h ≡ N d → length p ≡ P d → A.Accepted (instance d) (land d h) (ofPeriod p) → Accepted d h p
+  pub instance-accepted : length h ≡ N d → length p ≡ counted d → A.Accepted (instance d) (land d h) (ofPeriod p) → Accepted d h p
   instance-accepted holds prices said = record {
     legal = instance-legal holds (said .legal);
     each = prices;
-    unsold = λ k a b less. said .unsold k (omega (arith, takes-in (d .capacities) k b));
+    unsold = λ k a b less. said .unsold k less;
     least = λ i k l w. rw (hold-of d h i) at (said .best i k l (window-in w));
   }
 
@@ -134,33 +139,18 @@ accepted-is-cheapest {d} {h} {p} v said = record {
 
 -- ---- stretches
 
-module _ (d : Day) (a b : ℕ) (to : b ≤ P d) where
-  same-room : A.room (instance d) a b ≡ room d a b
-  unfolding A.room room
-  same-room = sum-ext (b + 1) (λ k. gate (leb a k) (takes (d .capacities) k)) (λ k. gate (leb a k) (capacity d k)) (λ k l. ap (gate (leb a k)) (takes-in (d .capacities) k (omega arith)))
-
-  -- a window ends by b, at most P, exactly where the limit says so
-  same-end : (i : ℕ) → leb (last d i) b ≡ leb (latest d i) b
-  unfolding last
-  same-end i = elim (lt? b (latest d i)) [
-    | inl more ↦ lt-leb (min (latest d i) (P d + 1)) b (omega arith) ∙ sym (lt-leb (latest d i) b more)
-    | inr less ↦ le-leb (min (latest d i) (P d + 1)) b (omega arith) ∙ sym (le-leb (latest d i) b less)
-  ]
-
-  same-need : A.mustLand (instance d) a b ≡ mustLand d a b
-  unfolding A.mustLand mustLand
-  same-need = sum-ext (N d) (λ i. gate (leb a (due d i) && leb (last d i) b) 1) (λ i. gate (leb a (due d i) && leb (latest d i) b) 1)
-      (λ i l. ap (λ t. gate (leb a (due d i) && t) 1) (same-end i))
-
+module _ (d : Day) (a b : ℕ) where
   pub short-instance : Short d a b → A.Short (instance d) a b
-  short-instance s = record { short = omega (arith, s .short, same-room, same-need) }
+  unfolding A.room A.mustLand room mustLand
+  short-instance s = record { short = s .short }
 
-  pub instance-short : 1 ≤ a → a ≤ b → A.Short (instance d) a b → Short d a b
-  instance-short from stretch s = record { from = from; stretch = stretch; to = to; short = omega (arith, s .short, same-room, same-need) }
+  pub instance-short : 1 ≤ a → a ≤ b → b ≤ counted d → A.Short (instance d) a b → Short d a b
+  unfolding A.room A.mustLand room mustLand
+  instance-short from stretch to s = record { from = from; stretch = stretch; to = to; short = s .short }
 
 -- a short stretch leaves no legal plan
 pub short-has-no-plan : {d : Day} {a b : ℕ} {h : List ℕ} → Valid d → Short d a b → Legal d h → ⊥
-short-has-no-plan {d} {a} {b} {h} v s legal = stretch.short-has-no-plan (short-instance d a b (s .to) s) (land d h) (legal-instance (valid-flights v) legal)
+short-has-no-plan {d} {a} {b} {h} v s legal = stretch.short-has-no-plan (short-instance d a b s) (land d h) (legal-instance (valid-flights v) legal)
 
 -- ---- the bound of totals
 

@@ -6,4 +6,5 @@ pub mod Valid
 pub mod Instance
 pub mod Existence
 pub mod Prices
+pub mod Curfew
 pub mod Copying

@@ -2,7 +2,7 @@
 -- day has only one row of them.
 -- Assumes nothing.
 use mathlib.Core.Path.{_≡_, refl, sym, ap, _∙_}
-use mathlib.Core.Logic.{inl, inr}
+use mathlib.Core.Logic.{_≢_, inl, inr}
 use mathlib.Core.List.{List}
 use Prim.Native.Nat.{ℕ, suc, _+_, _≤_}
 use native.Mathlib.Omega.{arith}
@@ -16,36 +16,55 @@ use Rattle.assignment.specs.Insertion.{Sound}
 use Rattle.assignment.proofs.Tests.{lt?, eq?, gate-eq, gate-ne, gate-le}
 use Rattle.assignment.proofs.Duality.{legal-in, dual}
 use Rattle.assignment.proofs.Saving.{saved, saved-legal}
-use Rattle.day.specs.Day.{Day, P, N, ofPeriod, capacity, takes, land, total, last}
+use Rattle.day.specs.Day.{Day, P, N, ofPeriod, capacity, takes, counted, land, total, lastOf, last}
 use Rattle.day.specs.Plan.{Legal, Accepted, Smallest, oneMore, Saves, PricesSave}
 use Rattle.day.specs.Valid.{ValidFlights, Valid}
 use Rattle.day.specs.Instance.{instance}
-use Rattle.day.proofs.Costs.{period-out, period-moved}
+use Rattle.day.proofs.Costs.{period-out, period-moved, period-set-out, takes-closing, takes-other, counted-to}
 use Rattle.day.proofs.Valid.{valid-flights}
-use Rattle.day.proofs.Instance.{total-instance, legal-instance, holds-legal, holds-total, accepted-instance, instance-accepted, accepted-is-cheapest}
+use Rattle.day.proofs.Instance.{total-instance, legal-instance, instance-legal, holds-legal, holds-total, accepted-instance, instance-accepted, accepted-is-cheapest}
 
 -- ---- the day with one more landing in period k, as an assignment problem
 
 module _ (d : Day) (k : ℕ) where
-  same-periods : P (oneMore d k) ≡ P d
+  pub same-periods : P (oneMore d k) ≡ P d
   same-periods = length-set (d .capacities) _ _
 
   same-last : (i : ℕ) → last (oneMore d k) i ≡ last d i
-  unfolding last
+  unfolding lastOf
   same-last i = rw same-periods refl
 
-  module _ (from : 1 ≤ k) (to : k ≤ P d) where
-    pub more-capacity : (j : ℕ) → capacity (oneMore d k) j ≡ capacity d j + gate (eqb k j) 1
-    more-capacity j =
-        let v = period-moved (d .capacities) k (capacity d k + 1) from to in
-        elim (eq? k j) [
-          | inl e ↦ rw (← e) (omega (arith, v .here, gate-eq k k 1 refl))
-          | inr e ↦ omega (arith, v .others j (λ f. e (sym f)), gate-ne k j 1 e)
-        ]
+  module _ (from : 1 ≤ k) (to : k ≤ counted d) where
+    more-capacity : (j : ℕ) → j ≢ P d + 1 → capacity (oneMore d k) j ≡ capacity d j + gate (eqb k j) 1
+    more-capacity j other = elim (lt? (P d) k) [
+      | inl past ↦ omega (
+        arith,
+        period-set-out (d .capacities) k (capacity d k + 1) j past,
+        gate-ne k j 1 (λ e. other (omega (arith, counted-to (P d) (d .closing)))),
+      )
+      | inr in-day ↦
+          let v = period-moved (d .capacities) k (capacity d k + 1) from (omega arith) in
+          elim (eq? k j) [
+            | inl e ↦ rw (← e) (omega (arith, v .here, gate-eq k k 1 refl))
+            | inr e ↦ omega (arith, v .others j (λ f. e (sym f)), gate-ne k j 1 e)
+          ]
+    ]
 
-    more-takes : (j : ℕ) → takes (oneMore d k .capacities) j ≡ takes (d .capacities) j + gate (eqb k j) 1
-    unfolding takes
-    more-takes j = omega (arith, more-capacity j, ap (λ n. gate (eqb j (n + 1)) 256) same-periods)
+    more-takes : (j : ℕ) → takes (oneMore d k) j ≡ takes d j + gate (eqb k j) 1
+    more-takes j = elim (eq? j (P d + 1)) [
+      | inl e ↦ rw e (omega (
+        arith,
+        takes-closing (d .capacities) (d .closing),
+        ap (λ p. takes (oneMore d k) (p + 1)) same-periods,
+        takes-closing (oneMore d k .capacities) (oneMore d k .closing),
+      ))
+      | inr other ↦ omega (
+        arith,
+        more-capacity j other,
+        takes-other (d .capacities) (d .closing) j other,
+        takes-other (oneMore d k .capacities) (oneMore d k .closing) j (λ e. other (omega (arith, same-periods))),
+      )
+    ]
 
     -- one more place in the assignment problem
     more-places : {x : ℕ → ℕ} → A.Legal (instance (oneMore d k)) x → A.Legal (more (instance d) k) x
@@ -54,10 +73,16 @@ module _ (d : Day) (k : ℕ) where
     places-more : {x : ℕ → ℕ} → A.Legal (more (instance d) k) x → A.Legal (instance (oneMore d k)) x
     places-more = legal-in (more (instance d) k) (instance (oneMore d k)) refl (λ i. omega arith) (λ i. omega (arith, same-last i)) (λ j. omega (arith, more-takes j))
 
+    -- what is legal stays so with one more place
+    pub legal-more : {h : List ℕ} → ValidFlights (P d) (d .flights) → Legal d h → Legal (oneMore d k) h
+    legal-more {h} v legal =
+        instance-legal (legal .each) (legal-in (instance d) (instance (oneMore d k)) refl (λ i. omega arith) (λ i. omega (arith, same-last i))
+        (λ j. omega (arith, more-takes j)) (legal-instance v legal))
+
 -- ---- savings
 
 module _ {d : Day} (v : Valid d) {h p : List ℕ} (said : Accepted d h p) where
-  module _ {k : ℕ} (from : 1 ≤ k) (to : k ≤ P d) where
+  module _ {k : ℕ} (from : 1 ≤ k) (to : k ≤ counted d) where
     -- with one more landing in period k no legal plan saves more than its price
     pub saves-most : {z : List ℕ} → Legal (oneMore d k) z → total d h ≤ total d z + ofPeriod p k
     saves-most {z} legal = omega (
@@ -88,7 +113,7 @@ saved-smallest {d} v {h} {p} said saves = record { accepted = said; lowest = low
     lowest : (g r : List ℕ) → Accepted d g r → (k : ℕ) → ofPeriod p k ≤ ofPeriod r k
     lowest g r other k = elim (eq? k 0) [
       | inl e ↦ rw e (omega arith)
-      | inr some ↦ elim (lt? (P d) k) [
+      | inr some ↦ elim (lt? (counted d) k) [
         | inl past ↦ omega (arith, period-out p k (omega (arith, said .each)))
         | inr to ↦
             let s = saves k (omega arith) to in
@@ -108,7 +133,7 @@ one-row {d} {h} {p} {g} {r} a b =
 
 -- ---- prices that are held up are accepted, and saved in full
 
-module _ {d : Day} (v : Valid d) (h p : List ℕ) (holds : length h ≡ N d) (prices : length p ≡ P d)
+module _ {d : Day} (v : Valid d) (h p : List ℕ) (holds : length h ≡ N d) (prices : length p ≡ counted d)
     (s : Sound (instance d) (land d h) (ofPeriod p)) where
   sound-accepted : Accepted d h p
   sound-accepted = instance-accepted holds prices (s .accepted)

@@ -8,7 +8,7 @@ use lib.ListN.{length, getD}
 use lib.Dec.{leb}
 use borrow.Author.Tests.{le-leb, lt-leb, eq-eqb, ne-eqb, leb-true, eqb-true, eqb-false, not-true}
 use Rattle.assignment.proofs.Tests.{and-true, true-and, and-assoc}
-use Rattle.day.specs.Day.{Day, P, N, mostPeriods, mostFlights, number, due, rate, after, jump, late, limit, missing, all, inside, flightAt, flightFits, inRange, isNew, valid, width}
+use Rattle.day.specs.Day.{Day, P, N, unlimited, mostPeriods, mostFlights, number, due, rate, after, jump, late, limit, missing, all, inside, flightAt, flightFits, inRange, isNew, valid, width}
 use Rattle.day.specs.Valid.{InRange, ValidFlights, Valid}
 use Rattle.day.proofs.Tests.{all-at, all-from}
 
@@ -29,12 +29,27 @@ module _ (d : Day) where
       unfolding valid
       valid-not-few e = rw (periods, eq-eqb (length (d .flights)) (N d * width) whole, lt-leb (N d) mostFlights e)
 
+      pub valid-not-closing : N d ≤ mostFlights → unlimited < d .closing → false ≡ valid d
+      unfolding valid
+      valid-not-closing few e =
+          rw (periods, eq-eqb (length (d .flights)) (N d * width) whole, le-leb (N d) mostFlights few, lt-leb (d .closing) unlimited e)
+
   -- the rest of the check, with what its parts found
-  pub valid-made : inside 1 mostPeriods (P d) ≡ true → {n : ℕ} → n ≡ N d → length (d .flights) ≡ n * width → n ≤ mostFlights → {x y r : Bool}
+  pub valid-made : inside 1 mostPeriods (P d) ≡ true → {n : ℕ} → n ≡ N d → length (d .flights) ≡ n * width → n ≤ mostFlights → d .closing ≤ unlimited
+      → {x y r : Bool}
       → x ≡ all (P d) (λ k. leb (getD (d .capacities) k 0) 255) → y ≡ (all n (inRange (P d) (d .flights)) && all n (isNew (d .flights))) → r ≡ (x && y) → r ≡ valid d
   unfolding valid
-  valid-made periods e whole few caps fits both =
-      rw (both, caps, fits, e, periods, eq-eqb (length (d .flights)) (N d * width) (rw e at whole), le-leb (N d) mostFlights (rw e at few))
+  valid-made periods e whole few line caps fits both =
+      rw (
+        both,
+        caps,
+        fits,
+        e,
+        periods,
+        eq-eqb (length (d .flights)) (N d * width) (rw e at whole),
+        le-leb (N d) mostFlights (rw e at few),
+        le-leb (d .closing) unlimited line,
+      )
       (and-assoc (all (P d) (λ k. leb (getD (d .capacities) k 0) 255)) (all (N d) (inRange (P d) (d .flights))) (all (N d) (isNew (d .flights))))
 
 -- ---- what a day that passes is
@@ -80,7 +95,8 @@ valid-means {d} e =
     let numbers = and-true e in
     let ranges = and-true (numbers .0) in
     let caps = and-true (ranges .0) in
-    let few = and-true (caps .0) in
+    let lines = and-true (caps .0) in
+    let few = and-true (lines .0) in
     let wholes = and-true (few .0) in
     let periods = inside-means 1 mostPeriods (P d) (wholes .0) in
     record {
@@ -88,6 +104,7 @@ valid-means {d} e =
       periods-to = periods .1;
       whole = eqb-true (length (d .flights)) (N d * width) (wholes .1);
       flights-to = leb-true (N d) mostFlights (few .1);
+      closing-to = leb-true (d .closing) unlimited (lines .1);
       capacity-to = λ k l. leb-true _ 255 (all-at (P d) _ (caps .1) k l);
       flight = λ i l. range-means d i (all-at (N d) _ (ranges .1) i l);
       distinct = λ i j l b. eqb-false _ _ (not-true _ (all-at i _ (all-at (N d) _ (numbers .1) i l) j b));
@@ -131,7 +148,8 @@ means-valid {d} v =
     let periods = inside-from 1 mostPeriods (P d) (v .periods-from) (v .periods-to) in
     let whole = eq-eqb (length (d .flights)) (N d * width) (v .whole) in
     let few = le-leb (N d) mostFlights (v .flights-to) in
+    let line = le-leb (d .closing) unlimited (v .closing-to) in
     let caps = all-from (P d) (λ k. leb (getD (d .capacities) k 0) 255) (λ k l. le-leb (getD (d .capacities) k 0) 255 (v .capacity-to k l)) in
     let ranges = all-from (N d) (inRange (P d) (d .flights)) (λ i l. range-from d i (v .flight i l)) in
     let numbers = all-from (N d) (isNew (d .flights)) (λ i l. new-from d i (λ j b. v .distinct i j l b)) in
-    true-and (true-and (true-and (true-and (true-and periods whole) few) caps) ranges) numbers
+    true-and (true-and (true-and (true-and (true-and (true-and periods whole) few) line) caps) ranges) numbers

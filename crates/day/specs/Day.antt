@@ -1,5 +1,5 @@
--- The day of document 01, "The day", with the column of #102: two rows of numbers, and what a flight's seven numbers, its cost and its
--- window are.
+-- The day of document 01, "The day", with the column of #102 and the closing number of #108: two rows of numbers and one number more, and
+-- what a flight's seven numbers, its cost and its window are.
 -- Assumes nothing.
 use mathlib.Core.Bool.{Bool, true, cond, not, _&&_, _||_}
 use mathlib.Core.List.{List, _∷_}
@@ -21,17 +21,23 @@ mostFlights = 128
 abbrev pub periodRow : ℕ
 periodRow = mostPeriods + 2
 
--- "In memory a day is two lent rows": P capacities, and "seven numbers" a flight (#102) in sheet order
+-- "In memory a day is two lent rows": P capacities, and "seven numbers" a flight (#102) in sheet order; and "one more number travels with
+-- the day" (#108): how many may land in the closing period, 0 to 255, or 256 for unlimited
 pub record Day : Type 0 where
   pub capacities : List ℕ
   pub flights : List ℕ
+  pub closing : ℕ
 
-abbrev pub day : List ℕ → List ℕ → Day
-day capacities flights = record { capacities = capacities; flights = flights }
+abbrev pub day : List ℕ → List ℕ → ℕ → Day
+day capacities flights closing = record { capacities = capacities; flights = flights; closing = closing }
 
--- the day in two rows as they are lent to a call
-abbrev pub lent : (capacities flights : RefT (List ℕ)) → Day
-lent capacities flights = day (now capacities) (now flights)
+-- the day in two rows and a number as they are lent to a call
+abbrev pub lent : (capacities flights : RefT (List ℕ)) → ℕ → Day
+lent capacities flights closing = day (now capacities) (now flights) closing
+
+-- "256 for unlimited" (#108): more than a day has flights
+abbrev pub unlimited : ℕ
+unlimited = 256
 
 -- P, the number of periods, numbered 1 to P; period P + 1 is the closing period
 abbrev pub P : Day → ℕ
@@ -119,9 +125,23 @@ ofPeriod row k = getD (0 ∷ row) k 0
 abbrev pub capacity : Day → ℕ → ℕ
 capacity d k = ofPeriod (d .capacities) k
 
--- how many may land in a period; the closing period "takes any number of flights", and 256 is more than a day has
-unfoldable pub takes : List ℕ → ℕ → ℕ
-takes capacities k = ofPeriod capacities k + gate (eqb k (length capacities + 1)) 256
+-- how many may land in a period, the closing period among them
+unfoldable pub takesOf : (capacities : List ℕ) (closing k : ℕ) → ℕ
+takesOf capacities closing k = ofPeriod capacities k + gate (eqb k (length capacities + 1)) closing
+
+abbrev pub takes : Day → ℕ → ℕ
+takes d = takesOf (d .capacities) (d .closing)
+
+-- a closing line is there (#108): 256 is written by none
+abbrev pub hasLine : ℕ → Bool
+hasLine closing = ltb closing unlimited
+
+-- the last period whose landings are counted against a number: P, or the closing period where a closing line is there (#108)
+unfoldable pub countedOf : (p closing : ℕ) → ℕ
+countedOf p closing = p + gate (hasLine closing) 1
+
+abbrev pub counted : Day → ℕ
+counted d = countedOf (P d) (d .closing)
 
 -- "Its cost is rate × h, plus jump", "charged when late + hold is greater than after" (#102)
 unfoldable pub holdCost : Flight → ℕ → ℕ
@@ -144,9 +164,13 @@ pub record Window (d : Day) (i k : ℕ) : Type 0 where
   pub closing : k ≤ P d + 1
   pub limited : k ≤ latest d i
 
--- the last period of flight i's window
-unfoldable pub last : Day → ℕ → ℕ
-last d i = min (latest d i) (P d + 1)
+-- the last period of a flight's window, on a day of p periods: "due + limit counts as P+1 where the limit is missing or reaches further"
+-- (#108)
+unfoldable pub lastOf : ℕ → Flight → ℕ
+lastOf p f = min (latestOf p f) (p + 1)
+
+abbrev pub last : Day → ℕ → ℕ
+last d i = lastOf (P d) (flightAt (d .flights) i)
 
 -- "A flight with hold h lands in period due + h."
 abbrev pub hold : List ℕ → ℕ → ℕ
@@ -197,9 +221,9 @@ unfoldable pub isNew : List ℕ → ℕ → Bool
 unfolding all
 isNew flights i = all i (λ j. not (eqb (numberOf flights j) (numberOf flights i)))
 
--- no "length or value against the table above, or a repeated flight number": what refusal 6 tests
+-- no "length or value against the table above, or a repeated flight number", no closing number above 256 (#108): what refusal 6 tests
 unfoldable pub valid : Day → Bool
 unfolding flightCount all flightFits isNew
 valid d =
     inside 1 mostPeriods (P d) && eqb (length (d .flights)) (N d * width) && leb (N d) mostFlights
-    && capacitiesFit (d .capacities) && all (N d) (inRange (P d) (d .flights)) && all (N d) (isNew (d .flights))
+    && leb (d .closing) unlimited && capacitiesFit (d .capacities) && all (N d) (inRange (P d) (d .flights)) && all (N d) (isNew (d .flights))

@@ -6,7 +6,7 @@ use mathlib.Core.Logic.{_⊎_, _≢_}
 use Prim.Native.Nat.{ℕ, _*_, _≤_, _<_}
 use mathlib.Core.List.{List}
 use lib.ListN.{length, getD}
-use Rattle.day.specs.Day.{Day, P, N, mostPeriods, mostFlights, flightCount, number, width, afterOf, dueOf, jumpOf, lateOf, limitOf, numberOf, rateOf}
+use Rattle.day.specs.Day.{Day, P, N, unlimited, mostPeriods, mostFlights, flightCount, number, width, afterOf, dueOf, jumpOf, lateOf, limitOf, numberOf, rateOf}
 
 -- the numbers of the flight at table place i of a row, on a day of p periods
 pub record InRange (p : ℕ) (flights : List ℕ) (i : ℕ) : Type 0 where
@@ -33,6 +33,7 @@ pub record Valid (d : Day) : Type 0 where
   pub periods-to : P d ≤ mostPeriods
   pub whole : length (d .flights) ≡ N d * width
   pub flights-to : N d ≤ mostFlights
+  pub closing-to : d .closing ≤ unlimited
   pub capacity-to : (k : ℕ) → k < P d → getD (d .capacities) k 0 ≤ 255
   pub flight : (i : ℕ) → i < N d → InRange (P d) (d .flights) i
   pub distinct : (i j : ℕ) → i < N d → j < i → number d j ≢ number d i

@@ -1,11 +1,11 @@
-// The day in two lent rows: its numbers, its check (refusal 6), and what a hold costs and where it lands.
+// The day in two lent rows and its closing number: its numbers, its check (refusal 6), and what a hold costs and where it lands.
 ghost use mathlib.Core.Path.{_≡_};
 ghost use mathlib.Core.Bool.{true, false, _&&_, _||_};
 ghost use Prim.Native.Nat.{_+_, _*_, _/_, _%_, _^_, _<_, _≤_};
 ghost use mathlib.Core.List.{_++_};
 ghost use lib.ListN.{length, take, drop};
 ghost use lib.Dec.{leb};
-ghost use Rattle.day.specs.Day.{lent, mostPeriods, mostFlights, column, numberOf, dueOf, rateOf, limitOf, width, flightAt, flightCount, ofPeriod, takes, holdCost, landOf, latestOf, all, inside, missing, flightFits, capacitiesFit, inRange, isNew, valid};
+ghost use Rattle.day.specs.Day.{lent, unlimited, mostPeriods, mostFlights, column, numberOf, dueOf, rateOf, limitOf, width, flightAt, flightCount, ofPeriod, takesOf, countedOf, holdCost, landOf, latestOf, lastOf, all, inside, missing, flightFits, capacitiesFit, inRange, isNew, valid};
 ghost use Rattle.day.specs.Flights.{withFlight};
 ghost use Rattle.day.specs.Chains.{chains, Linked, Passed};
 
@@ -25,8 +25,8 @@ pub const PERIOD_ROW: usize = PERIODS + 2;
 // A limit that is missing.
 pub const MISSING: u32 = 255;
 
-// What the closing period takes: more than the flights of a day.
-const ANY_NUMBER: usize = 256;
+// The closing number of a day whose closing period takes everyone: more than the flights of a day.
+pub const UNLIMITED: u32 = 256;
 
 // A flight's numbers, in sheet order.
 pub struct Flight {
@@ -148,17 +148,29 @@ pub fn of_period(row: &[u32], k: usize) -> usize
 }
 
 // How many flights period k takes, the closing period included.
-pub fn capacity_of(capacities: &[u32], k: usize) -> usize
+pub fn capacity_of(capacities: &[u32], closing: u32, k: usize) -> usize
     requires { ⌜ length (now capacities) ≤ mostPeriods ⌝ }
-    ensures { λ r. ⌜ r ≡ takes (now (capacities .entry)) k ⌝ }
+    ensures { λ r. ⌜ r ≡ takesOf (now (capacities .entry)) closing k ⌝ }
 {
     if k <= capacities.len() {
         return of_period(capacities, k);
     }
     if k == capacities.len() + 1 {
-        return ANY_NUMBER;
+        return wide(closing);
     }
     0
+}
+
+// The last period whose landings are counted against a number, on a day of so many periods: the closing period, if there is a closing
+// line. A price row has an entry for each of them.
+pub fn counted_of(periods: usize, closing: u32) -> usize
+    requires { ⌜ periods ≤ mostPeriods ⌝ }
+    ensures { λ r. ⌜ r ≡ countedOf periods closing ⌝ }
+{
+    if closing < UNLIMITED {
+        return periods + 1;
+    }
+    periods
 }
 
 // The period in which the flight at table place i lands.
@@ -199,6 +211,19 @@ pub fn latest_of(periods: usize, f: Flight) -> usize
         return periods + 1;
     }
     wide(f.due) + wide(f.limit)
+}
+
+// The last period in which a flight may land, on a day of so many periods: the closing period where its limit is missing or reaches further.
+pub fn last_of(periods: usize, f: Flight) -> usize
+    requires { ⌜ periods ≤ mostPeriods ⌝ }
+    ensures { λ r. ⌜ r ≡ lastOf periods f ⌝ }
+{
+    let closing = periods + 1;
+    let latest = latest_of(periods, f);
+    if closing < latest {
+        return closing;
+    }
+    latest
 }
 
 fn both(a: bool, b: bool) -> bool
@@ -339,8 +364,8 @@ fn flights_fit(periods: usize, flights: &[u32], n: usize) -> bool
 }
 
 // The day check: refusal 6 is given where it says no.
-pub fn is_valid(capacities: &[u32], flights: &[u32]) -> bool
-    ensures { λ r. ⌜ r ≡ valid (lent (capacities .entry) (flights .entry)) ⌝ }
+pub fn is_valid(capacities: &[u32], flights: &[u32], closing: u32) -> bool
+    ensures { λ r. ⌜ r ≡ valid (lent (capacities .entry) (flights .entry) closing) ⌝ }
 {
     let n = flight_count(flights);
     if !is_inside(1, PERIODS, capacities.len()) {
@@ -350,6 +375,9 @@ pub fn is_valid(capacities: &[u32], flights: &[u32]) -> bool
         return false;
     }
     if FLIGHTS < n {
+        return false;
+    }
+    if UNLIMITED < closing {
         return false;
     }
     both(

@@ -12,13 +12,24 @@ use Rattle.day.specs.Day.{Day}
 use Rattle.full_plan.specs.FullPlan.{FullPlan}
 use Rattle.period_card.specs.declared.Card.{Card}
 use Rattle.plan_reader.specs.PlanReading.{ReadPlan}
+use Rattle.sheet.specs.Sheet.{Reading, answerOf, closingOf}
 use Rattle.desk.specs.declared.CardCode.{CardCode}
+use Rattle.desk.specs.declared.ReadingCode.{ReadingCode}
 
 -- 1 for the first row, 2 for the second, 0 for neither
 abbrev pub rowNumber : Which → ℕ
 rowNumber First = 1
 rowNumber Second = 2
 rowNumber Neither = 0
+
+-- what the reader answers in numbers: P, N or the refusal, and "beside P and N" the closing number, "0 in a refusal" (#108)
+abbrev pub readingCode : Reading → ReadingCode
+readingCode r = record {
+  number = codeOf (answerOf r) .number;
+  first = codeOf (answerOf r) .first;
+  second = codeOf (answerOf r) .second;
+  closing = closingOf r;
+}
 
 -- the card's answer in numbers, beside its words and its size
 abbrev pub cardCode : Card → CardCode

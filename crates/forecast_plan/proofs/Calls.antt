@@ -9,11 +9,11 @@ use native.Mathlib.Nat.{mul-le-mul}
 use native.Mathlib.Omega.{arith}
 use lib.ListN.{length}
 use lib.Dec.{eqb}
-use borrow.Author.Tests.{eq-eqb, ne-eqb, eqb-true}
+use borrow.Author.Tests.{lt-ltb, eq-eqb, ne-eqb, eqb-true}
 use Rattle.assignment.proofs.Tests.{and-true}
 use Rattle.answers.specs.Answers.{outcome}
 use Rattle.answers.specs.declared.Answer.the-variants.{Planned, BadDay, BadLength, BadForecasts, BadTerms}
-use Rattle.day.specs.Day.{Day, P, N, valid, inside, capacitiesFit}
+use Rattle.day.specs.Day.{Day, day, unlimited, P, N, valid, inside, capacitiesFit}
 use Rattle.day.proofs.Valid.{valid-means, inside-means}
 use Rattle.forecast_plan.specs.Forecast.{Forecasts, forecastHolds, expectedTotal}
 use Rattle.forecast_plan.specs.Calls.{noJumps, termsFit, allWeights, forecastsFit, rowsPlan, forecastPlan}
@@ -61,17 +61,28 @@ module _ (d : Day) (f : Forecasts) (h : List ℕ) where
   unfolding forecastPlan
   bad-day e = rw e
 
+  -- a valid day's closing number is 256, or there is a line
+  pub has-line : valid d ≡ true → d .closing ≢ unlimited → forecastPlan d f h ≡ outcome BadTerms h
+  unfolding forecastPlan
+  has-line v e = rw (v, lt-ltb (d .closing) unlimited (omega (arith, e, valid-means v .closing-to)))
+
+-- without a line
+module _ (caps flights : List ℕ) {closing : ℕ} (f : Forecasts) (h : List ℕ) (v : valid (day caps flights closing) ≡ true) (no-line : closing ≡ unlimited) where
+  pub open-day : valid (day caps flights unlimited) ≡ true
+  open-day = rw no-line at v
+
   -- the count and the air factor as the program widens them
-  module _ (v : valid d ≡ true) {n k : ℕ} (n-is : n ≡ f .count) (k-is : k ≡ f .airFactor) where
-    pub bad-terms : termsFit (d .flights) n k ≡ false → forecastPlan d f h ≡ outcome BadTerms h
+  module _ {n k : ℕ} (n-is : n ≡ f .count) (k-is : k ≡ f .airFactor) where
+    pub bad-terms : termsFit flights n k ≡ false → forecastPlan (day caps flights closing) f h ≡ outcome BadTerms h
     unfolding forecastPlan
-    bad-terms e = rw (v, sym n-is, sym k-is, e)
+    bad-terms e = rw (no-line, open-day, sym n-is, sym k-is, e)
 
-    pub by-rows : termsFit (d .flights) n k ≡ true
-        → forecastPlan d f h ≡ rowsPlan d (record { count = n; airFactor = k; weights = f .weights; rows = f .rows }) h
+    pub by-rows : termsFit flights n k ≡ true → forecastPlan (day caps flights closing) f h
+        ≡ rowsPlan (day caps flights unlimited) (record { count = n; airFactor = k; weights = f .weights; rows = f .rows }) h
     unfolding forecastPlan
-    by-rows e = rw (v, n-is, k-is) (rw (sym n-is, sym k-is, e))
+    by-rows e = rw (no-line, open-day, n-is, k-is) (rw (sym n-is, sym k-is, e))
 
+module _ (d : Day) (f : Forecasts) (h : List ℕ) where
   module _ {n : ℕ} (size : n ≡ N d) where
     pub bad-holds : length h ≢ n → rowsPlan d f h ≡ outcome (BadLength n) h
     unfolding rowsPlan

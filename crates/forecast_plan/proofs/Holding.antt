@@ -8,7 +8,7 @@ use lib.ListN.{length, replicate, length-replicate}
 use Rattle.assignment.specs.Sum.{sum}
 use Rattle.assignment.specs.Rows.{el}
 use Rattle.assignment.proofs.Rows.{blank-at}
-use Rattle.day.specs.Day.{periodRow, latestOf}
+use Rattle.day.specs.Day.{periodRow, lastOf}
 use Rattle.day.specs.declared.Flight.{Flight}
 use Rattle.forecast_plan.specs.declared.Chosen.{Chosen}
 use Rattle.forecast_plan.specs.Loop.{airborne, Weighed, weighed, Low, Chooses, Ready}
@@ -35,8 +35,9 @@ module _ {f : Flight} {factor p : ℕ} {weights rows waits : List ℕ} (r : Read
     sums = λ q from to. blank-at periodRow q;
   })
 
-  module _ {due last : ℕ} {air : List ℕ} (e : due ≡ f .due) (l : last ≡ min (latestOf p f) (p + 1)) (w : Weighed p weights rows waits due air (length weights)) where
+  module _ {due last : ℕ} {air : List ℕ} (e : due ≡ f .due) (l : last ≡ lastOf p f) (w : Weighed p weights rows waits due air (length weights)) where
     pub ready-low : Low f factor last air
+    unfolding lastOf
     ready-low = record {
       rate-to = r .rate-to;
       factor-to = r .factor-to;
@@ -47,8 +48,8 @@ module _ {f : Flight} {factor p : ℕ} {weights rows waits : List ℕ} (r : Read
     }
 
     pub ready-chooses : {c : Chosen} → Chooses (last - f .due) (weighed f factor (el air)) c
-        → Chooses (min (latestOf p f) (p + 1) - f .due) (weighed f factor (airborne p weights rows waits (length weights))) c
-    unfolding weighed
+        → Chooses (lastOf p f - f .due) (weighed f factor (airborne p weights rows waits (length weights))) c
+    unfolding weighed lastOf
     ready-chooses {c} chosen =
         subst (λ n. Chooses (n - f .due) (weighed f factor (airborne p weights rows waits (length weights))) c) l
         (chooses-same (λ h to. ap (λ a. 1000 * f .rate * h + factor * f .rate * a) (w .sums (f .due + h) (omega (arith, e)) (omega (arith, l, r .reach, r .due-to)))) chosen)

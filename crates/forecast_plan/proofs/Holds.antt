@@ -9,7 +9,7 @@ use native.Mathlib.Omega.{arith}
 use lib.ListN.{length, length-append, List·getD-append}
 use lib.Seq.{getD-at, ext-getD}
 use Rattle.assignment.proofs.Tests.{eq?}
-use Rattle.day.specs.Day.{Day, P, N, due, rate, last, Window, hold}
+use Rattle.day.specs.Day.{Day, P, N, due, rate, lastOf, last, Window, hold}
 use Rattle.day.specs.Valid.{InRange}
 use Rattle.day.proofs.Costs.{due-latest}
 use Rattle.forecast_plan.specs.Forecast.{Forecasts, weight, forecast, held, waiting, lands, costIf, expected, leastHold, longest, holdsTo, forecastHolds}
@@ -77,11 +77,11 @@ module _ (d : Day) (f : Forecasts) where
 -- the holds to the longest one are those of the window
 module _ (d : Day) (i : ℕ) (r : InRange (P d) (d .flights) i) where
   due-last : due d i ≤ last d i
-  unfolding last
+  unfolding lastOf
   due-last = omega (arith, due-latest d i (r .due-to), r .due-to)
 
   pub hold-window : {h : ℕ} → h ≤ longest d i → Window d i (due d i + h)
-  unfolding last
+  unfolding lastOf
   hold-window l = record {
     from = omega arith;
     closing = omega (arith, due-last);
@@ -89,7 +89,7 @@ module _ (d : Day) (i : ℕ) (r : InRange (P d) (d .flights) i) where
   }
 
   pub window-hold : {k : ℕ} → Window d i k → k - due d i ≤ longest d i
-  unfolding last
+  unfolding lastOf
   window-hold w = omega (arith, w .closing, w .limited, w .from)
 
 -- a cost is at most 96 periods in the air at the highest rate and air factor

@@ -13,12 +13,12 @@ use Rattle.assignment.proofs.Tests.{eq?}
 use Rattle.answers.specs.Answers.{codeOf, outcome}
 use Rattle.answers.specs.declared.Answer.{Answer}
 use Rattle.answers.specs.declared.Answer.the-variants.{Planned}
-use Rattle.day.specs.Day.{Day, P, N, due, Window, hold, land, valid}
+use Rattle.day.specs.Day.{Day, P, N, due, Window, hold, land, valid, day, unlimited}
 use Rattle.day.specs.Valid.{Valid}
 use Rattle.forecast_plan.specs.Forecast.{Forecasts, expected, forecastHolds, expectedTotal}
 use Rattle.forecast_plan.specs.Calls.{termsFit, forecastsFit, forecastPlan}
 use Rattle.forecast_plan.specs.Loop.{Fit}
-use Rattle.forecast_plan.proofs.Calls.{bad-day, bad-terms, by-rows, bad-holds, bad-weights, bad-rows, bad-forecasts, planned, all-fits}
+use Rattle.forecast_plan.proofs.Calls.{bad-day, has-line, open-day, bad-terms, by-rows, bad-holds, bad-weights, bad-rows, bad-forecasts, planned, all-fits}
 use Rattle.forecast_plan.proofs.Holds.{holds-length, each-least, only-row, hold-window, window-hold, expected-most}
 
 -- a row of holds, each in its flight's window, none of the window less, and every smaller one more, "given those before it"
@@ -67,24 +67,35 @@ either false = inr refl
 pub total-most : (d : Day) (f : Forecasts) (holds : List ℕ) (t : ℕ) → forecastPlan d f holds .answer ≡ Planned t → t ≤ 1228800000000
 total-most d f holds t e = elim (either (valid d)) [
   | inr bad ↦ absurd (omega (arith, numbered (way (bad-day d f holds bad))))
-  | inl good ↦ elim (either (termsFit (d .flights) (f .count) (f .airFactor))) [
-    | inr bad ↦ absurd (omega (arith, numbered (way (bad-terms d f holds good refl refl bad))))
-    | inl terms ↦ elim (eq? (length holds) (N d)) [
-      | inr bad ↦ absurd (omega (arith, numbered (way (by-rows d f holds good refl refl terms ∙ bad-holds d f holds refl bad))))
-      | inl each ↦ elim (eq? (length (f .weights)) (f .count)) [
-        | inr bad ↦ absurd (omega (arith, numbered (way (by-rows d f holds good refl refl terms ∙ bad-weights d f holds refl each bad))))
-        | inl weights ↦ elim (eq? (length (f .rows)) (f .count * P d)) [
-          | inr bad ↦ absurd (omega (arith, numbered (way (by-rows d f holds good refl refl terms ∙ bad-rows d f holds refl each weights bad))))
-          | inl rows ↦ elim (either (forecastsFit (f .weights) (f .rows))) [
-            | inr bad ↦ absurd (omega (arith, numbered (way (by-rows d f holds good refl refl terms ∙ bad-forecasts d f holds refl each weights rows bad))))
-            | inl fits ↦
-                omega (arith, same-total (way (by-rows d f holds good refl refl terms ∙ planned d f holds refl each weights rows fits refl refl)), fit-total (all-fits d (f .count) (f .airFactor) (f .weights) (f .rows) good terms weights rows fits))
+  | inl good ↦ elim (eq? (d .closing) unlimited) [
+    | inr line ↦ absurd (omega (arith, numbered (way (has-line d f holds good line))))
+    | inl none ↦ elim (either (termsFit (d .flights) (f .count) (f .airFactor))) [
+      | inr bad ↦ absurd (omega (arith, numbered (way (bad-terms (d .capacities) (d .flights) f holds good none refl refl bad))))
+      | inl terms ↦
+          let rows-plan = by-rows (d .capacities) (d .flights) f holds good none refl refl terms in
+          elim (eq? (length holds) (N d)) [
+            | inr bad ↦ absurd (omega (arith, numbered (way (rows-plan ∙ bad-holds u f holds refl bad))))
+            | inl each ↦ elim (eq? (length (f .weights)) (f .count)) [
+              | inr bad ↦ absurd (omega (arith, numbered (way (rows-plan ∙ bad-weights u f holds refl each bad))))
+              | inl weights ↦ elim (eq? (length (f .rows)) (f .count * P d)) [
+                | inr bad ↦ absurd (omega (arith, numbered (way (rows-plan ∙ bad-rows u f holds refl each weights bad))))
+                | inl rows ↦ elim (either (forecastsFit (f .weights) (f .rows))) [
+                  | inr bad ↦ absurd (omega (arith, numbered (way (rows-plan ∙ bad-forecasts u f holds refl each weights rows bad))))
+                  | inl fits ↦ omega (
+                    arith,
+                    same-total (way (rows-plan ∙ planned u f holds refl each weights rows fits refl refl)),
+                    fit-total (all-fits u (f .count) (f .airFactor) (f .weights) (f .rows) (open-day (d .capacities) (d .flights) f holds good none) terms weights rows fits),
+                  )
+                ]
+              ]
+            ]
           ]
-        ]
-      ]
     ]
   ]
 ]
   where
+    u : Day
+    u = day (d .capacities) (d .flights) unlimited
+
     way : {a : Answer} {x : List ℕ} → forecastPlan d f holds ≡ outcome a x → a ≡ Planned t
     way is = ap (λ o. o .answer) (sym is) ∙ e

@@ -14,7 +14,7 @@ use Rattle.assignment.specs.Moves.{Moved}
 use Rattle.assignment.proofs.Rows.{set-moved, blank-at}
 use Rattle.assignment.proofs.Sums.{sum-ext, sum-most, sum-member, count-suc, count-zero, count-le}
 use Rattle.assignment.proofs.Tests.{eq?, lt?, gate-eq, gate-ne}
-use Rattle.day.specs.Day.{Day, P, N, width, mostFlights, periodRow, due, rate, flightAt, latestOf, last, hold, land}
+use Rattle.day.specs.Day.{Day, P, N, width, mostFlights, periodRow, due, rate, flightAt, latestOf, lastOf, last, hold, land}
 use Rattle.day.specs.declared.Flight.{Flight}
 use Rattle.day.proofs.Costs.{due-latest}
 use Rattle.day.proofs.Flights.{there, due-read}
@@ -88,9 +88,9 @@ module _ {d : Day} {f : Forecasts} {holds heldTo waits : List ℕ} {total i : �
         ∙ sym (expected-is d f (p .fit .add-up) (forecastHolds d f) i h))
 
     module _ {c : Chosen}
-        (chosen : Chooses (min (latestOf (P d) x) (P d + 1) - x .due) (weighed x (f .airFactor) (airborne (P d) (f .weights) (f .rows) waits (length (f .weights)))) c) where
+        (chosen : Chooses (lastOf (P d) x - x .due) (weighed x (f .airFactor) (airborne (P d) (f .weights) (f .rows) waits (length (f .weights)))) c) where
       same-choice : Chooses (longest d i) (expected d f (forecastHolds d f) i) c
-      unfolding last flightAt
+      unfolding lastOf flightAt
       same-choice = chooses-same same-cost (rw x-is at chosen)
 
       pub placed-hold : c .hold ≡ hold (forecastHolds d f) i

@@ -8,7 +8,7 @@ use lib.Dec.{eqb}
 use Rattle.assignment.specs.Sum.{sum}
 use Rattle.answers.specs.Answers.{Outcome, outcome}
 use Rattle.answers.specs.declared.Answer.the-variants.{Planned, BadDay, BadLength, BadForecasts, BadTerms}
-use Rattle.day.specs.Day.{Day, P, N, jumpOf, flightCount, all, inside, capacitiesFit, valid}
+use Rattle.day.specs.Day.{Day, P, N, jumpOf, flightCount, all, inside, capacitiesFit, hasLine, valid}
 use Rattle.forecast_plan.specs.Forecast.{Forecasts, forecastHolds, expectedTotal}
 
 -- no flight of the row has "a jump above 0"
@@ -38,9 +38,10 @@ rowsPlan d f holds =
     (cond (not (forecastsFit (f .weights) (f .rows))) (outcome BadForecasts holds)
     (outcome (Planned (expectedTotal d f (forecastHolds d f))) (forecastHolds d f)))))
 
--- the forecast plan: refusals leave the row as it was
+-- the forecast plan: refusals leave the row as it was; "a day with the line gets 13" (#108)
 unfoldable pub forecastPlan : Day → Forecasts → List ℕ → Outcome
 forecastPlan d f holds =
     cond (not (valid d)) (outcome BadDay holds)
+    (cond (hasLine (d .closing)) (outcome BadTerms holds)
     (cond (not (termsFit (d .flights) (f .count) (f .airFactor))) (outcome BadTerms holds)
-    (rowsPlan d f holds))
+    (rowsPlan d f holds)))

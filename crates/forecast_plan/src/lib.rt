@@ -3,12 +3,13 @@
 use answers::Answer;
 use day::Flight;
 use day::PERIOD_ROW;
+use day::UNLIMITED;
 use day::capacities_fit;
 use day::flight_at;
 use day::flight_count;
 use day::is_inside;
 use day::is_valid;
-use day::latest_of;
+use day::last_of;
 use day::wide;
 ghost use mathlib.Core.Path.{_≡_};
 ghost use mathlib.Core.Bool.{true, cond};
@@ -16,7 +17,7 @@ ghost use Prim.Native.Nat.{_+_, _-_, _*_, _≤_, _<_, min};
 ghost use lib.ListN.{length, set};
 ghost use lib.Dec.{ltb};
 ghost use Rattle.assignment.specs.Rows.{el};
-ghost use Rattle.day.specs.Day.{lent, N, valid, mostPeriods, mostFlights, periodRow, ofPeriod, latestOf};
+ghost use Rattle.day.specs.Day.{lent, unlimited, N, valid, mostPeriods, mostFlights, periodRow, ofPeriod, lastOf};
 ghost use Rattle.forecast_plan.specs.Forecast.{forecasts, forecastAt, leftOver, waiting, firstRoom, forecastHolds, expectedTotal};
 ghost use Rattle.forecast_plan.specs.Calls.{noJumps, termsFit, allWeights, forecastsFit, rowsPlan, forecastPlan};
 ghost use Rattle.forecast_plan.specs.Loop.{Stays, Behind, Turn, Turns, Adding, airborne, Weighed, weighed, Low, Chooses, Ready, odds, Fit, Placed};
@@ -244,16 +245,6 @@ fn least_hold(f: Flight, factor: usize, air: &[usize], last: usize) -> Chosen
     best
 }
 
-// The last period of a flight's window.
-fn last_of(periods: usize, f: Flight) -> usize
-    requires { ⌜ periods ≤ mostPeriods ⌝ }
-    ensures { λ r. ⌜ r ≡ min (latestOf periods f) (periods + 1) ⌝ }
-{
-    let latest = latest_of(periods, f);
-    let closing = periods + 1;
-    smaller(latest, closing)
-}
-
 // A flight's hold, from who waits under each forecast.
 fn hold_of(
     f: Flight,
@@ -264,7 +255,7 @@ fn hold_of(
     waits: &[usize],
 ) -> Chosen
     requires { ⌜ Ready f factor periods (now weights) (now rows) (now waits) ⌝ }
-    ensures { λ r. ⌜ Chooses (min (latestOf periods f) (periods + 1) - f .due) (weighed f factor (airborne periods (now (weights .entry)) (now (rows .entry)) (now (waits .entry)) (length (now (weights .entry))))) r ⌝ }
+    ensures { λ r. ⌜ Chooses (lastOf periods f - f .due) (weighed f factor (airborne periods (now (weights .entry)) (now (rows .entry)) (now (waits .entry)) (length (now (weights .entry))))) r ⌝ }
 {
     let due = wide(f.due);
     let mut air = [0; PERIOD_ROW];
@@ -292,9 +283,9 @@ fn hold_all(
     held: &mut [usize],
     waits: &mut [usize],
 ) -> usize
-    requires { ⌜ Placed (lent capacities flights) (odds factor weights rows) (now holds) (now held) (now waits) 0 0 ⌝ }
-    ensures { λ r. ⌜ r ≡ expectedTotal (lent (capacities .entry) (flights .entry)) (odds factor (weights .entry) (rows .entry)) (forecastHolds (lent (capacities .entry) (flights .entry)) (odds factor (weights .entry) (rows .entry))) ⌝ }
-    ensures { λ _. ⌜ now (holds .exit) ≡ forecastHolds (lent (capacities .entry) (flights .entry)) (odds factor (weights .entry) (rows .entry)) ⌝ }
+    requires { ⌜ Placed (lent capacities flights unlimited) (odds factor weights rows) (now holds) (now held) (now waits) 0 0 ⌝ }
+    ensures { λ r. ⌜ r ≡ expectedTotal (lent (capacities .entry) (flights .entry) unlimited) (odds factor (weights .entry) (rows .entry)) (forecastHolds (lent (capacities .entry) (flights .entry) unlimited) (odds factor (weights .entry) (rows .entry))) ⌝ }
+    ensures { λ _. ⌜ now (holds .exit) ≡ forecastHolds (lent (capacities .entry) (flights .entry) unlimited) (odds factor (weights .entry) (rows .entry)) ⌝ }
 {
     let periods = capacities.len();
     let mut total = 0;
@@ -322,9 +313,9 @@ fn hold_flights(
     rows: &[u32],
     holds: &mut [u32],
 ) -> usize
-    requires { ⌜ Fit (lent capacities flights) (odds factor weights rows) × (length (now holds) ≡ N (lent capacities flights)) ⌝ }
-    ensures { λ r. ⌜ r ≡ expectedTotal (lent (capacities .entry) (flights .entry)) (odds factor (weights .entry) (rows .entry)) (forecastHolds (lent (capacities .entry) (flights .entry)) (odds factor (weights .entry) (rows .entry))) ⌝ }
-    ensures { λ _. ⌜ now (holds .exit) ≡ forecastHolds (lent (capacities .entry) (flights .entry)) (odds factor (weights .entry) (rows .entry)) ⌝ }
+    requires { ⌜ Fit (lent capacities flights unlimited) (odds factor weights rows) × (length (now holds) ≡ N (lent capacities flights unlimited)) ⌝ }
+    ensures { λ r. ⌜ r ≡ expectedTotal (lent (capacities .entry) (flights .entry) unlimited) (odds factor (weights .entry) (rows .entry)) (forecastHolds (lent (capacities .entry) (flights .entry) unlimited) (odds factor (weights .entry) (rows .entry))) ⌝ }
+    ensures { λ _. ⌜ now (holds .exit) ≡ forecastHolds (lent (capacities .entry) (flights .entry) unlimited) (odds factor (weights .entry) (rows .entry)) ⌝ }
 {
     let mut held = [0; PERIOD_ROW];
     let mut waits = [0; WAITS];
@@ -403,9 +394,9 @@ fn plan_rows(
     rows: &[u32],
     holds: &mut [u32],
 ) -> Answer
-    requires { ⌜ (valid (lent capacities flights) ≡ true) × (termsFit (now flights) count factor ≡ true) ⌝ }
-    ensures { λ r. ⌜ r ≡ rowsPlan (lent (capacities .entry) (flights .entry)) (forecasts count factor (weights .entry) (rows .entry)) (now (holds .entry)) .answer ⌝ }
-    ensures { λ _. ⌜ now (holds .exit) ≡ rowsPlan (lent (capacities .entry) (flights .entry)) (forecasts count factor (weights .entry) (rows .entry)) (now (holds .entry)) .holds ⌝ }
+    requires { ⌜ (valid (lent capacities flights unlimited) ≡ true) × (termsFit (now flights) count factor ≡ true) ⌝ }
+    ensures { λ r. ⌜ r ≡ rowsPlan (lent (capacities .entry) (flights .entry) unlimited) (forecasts count factor (weights .entry) (rows .entry)) (now (holds .entry)) .answer ⌝ }
+    ensures { λ _. ⌜ now (holds .exit) ≡ rowsPlan (lent (capacities .entry) (flights .entry) unlimited) (forecasts count factor (weights .entry) (rows .entry)) (now (holds .entry)) .holds ⌝ }
 {
     let n = flight_count(flights);
     if holds.len() != n {
@@ -427,22 +418,26 @@ fn plan_rows(
 }
 
 // Fills the hold row with the forecast plan and answers its expected total, in thousandths. Refusals, in this order: 6, a bad day; 13, a
-// jump, or a count or an air factor out of range; 7, a row of another length, the hold row first, then the weights, then the forecasts;
-// 12, weights that do not add up to 1,000, or a capacity out of range. They leave the row as it was.
+// closing line, a jump, or a count or an air factor out of range; 7, a row of another length, the hold row first, then the weights, then the
+// forecasts; 12, weights that do not add up to 1,000, or a capacity out of range. They leave the row as it was.
 pub fn forecast_plan(
     capacities: &[u32],
     flights: &[u32],
+    closing: u32,
     count: u32,
     factor: u32,
     weights: &[u32],
     rows: &[u32],
     holds: &mut [u32],
 ) -> Answer
-    ensures { λ r. ⌜ r ≡ forecastPlan (lent (capacities .entry) (flights .entry)) (forecasts count factor (weights .entry) (rows .entry)) (now (holds .entry)) .answer ⌝ }
-    ensures { λ _. ⌜ now (holds .exit) ≡ forecastPlan (lent (capacities .entry) (flights .entry)) (forecasts count factor (weights .entry) (rows .entry)) (now (holds .entry)) .holds ⌝ }
+    ensures { λ r. ⌜ r ≡ forecastPlan (lent (capacities .entry) (flights .entry) closing) (forecasts count factor (weights .entry) (rows .entry)) (now (holds .entry)) .answer ⌝ }
+    ensures { λ _. ⌜ now (holds .exit) ≡ forecastPlan (lent (capacities .entry) (flights .entry) closing) (forecasts count factor (weights .entry) (rows .entry)) (now (holds .entry)) .holds ⌝ }
 {
-    if !is_valid(capacities, flights) {
+    if !is_valid(capacities, flights, closing) {
         return Answer::BadDay;
+    }
+    if closing != UNLIMITED {
+        return Answer::BadTerms;
     }
     let forecast_count = wide(count);
     let air_factor = wide(factor);

@@ -1,4 +1,4 @@
--- The full plan: "fills a hold row of N and a price row of P entries".
+-- The full plan: "fills a hold row of N and a price row of P entries"; with a closing line "the price row has one entry more" (#108).
 -- Assumes nothing.
 use mathlib.Core.Path.{_≡_}
 use mathlib.Core.Bool.{cond}
@@ -8,7 +8,7 @@ use lib.ListN.{length}
 use lib.Dec.{eqb}
 use Rattle.answers.specs.declared.Answer.{Answer}
 use Rattle.answers.specs.declared.Answer.the-variants.{Planned, BadDay, BadLength, NoPlan}
-use Rattle.day.specs.Day.{Day, P, N, total, valid}
+use Rattle.day.specs.Day.{Day, N, counted, total, valid}
 use Rattle.day.specs.Plan.{Cheapest, Smallest, PricesSave, Picked}
 
 -- what is left to the program is named here: which cheapest plan (legal, and no legal plan costs less). The prices follow from the day: they
@@ -44,6 +44,7 @@ unfoldable pub FullPlan : Day → Answer → (holds₀ prices₀ holds prices : 
 FullPlan d answer holds₀ prices₀ holds prices =
     cond (valid d)
     (cond (eqb (length holds₀) (N d))
-    (cond (eqb (length prices₀) (P d)) (Solved d answer holds₀ prices₀ holds prices) (Refused (BadLength (P d)) answer holds₀ prices₀ holds prices))
+    (cond (eqb (length prices₀) (counted d)) (Solved d answer holds₀ prices₀ holds prices)
+    (Refused (BadLength (counted d)) answer holds₀ prices₀ holds prices))
     (Refused (BadLength (N d)) answer holds₀ prices₀ holds prices))
     (Refused BadDay answer holds₀ prices₀ holds prices)

@@ -1,1 +1,2 @@
 pub mod FullPlan
+pub mod Inserted

@@ -1,4 +1,4 @@
--- The growing plan is legal, and no legal plan costs less in millionths; and without growth it is the quick plan.
+-- Where there is a legal plan, the growing plan is legal, and no legal plan costs less in millionths; and without growth it is the quick plan.
 -- Assumes nothing.
 use mathlib.Core.Path.{_≡_, refl, sym, ap, _∙_}
 use mathlib.Core.Bool.{true}
@@ -8,8 +8,8 @@ use native.Mathlib.Omega.{arith}
 use native.Mathlib.Nat.{mul-assoc, mul-one, mul-right-comm}
 use lib.Dec.{lit<}
 use Rattle.assignment.proofs.Sums.{sum-ext, sum-same, sum-times}
-use Rattle.day.specs.Day.{Day, P, N, due, rate, cost, hold, totalOf, total, valid}
-use Rattle.day.specs.Plan.{Legal, firstJumpOrLimit}
+use Rattle.day.specs.Day.{Day, P, N, due, rate, cost, hold, land, totalOf, total, valid}
+use Rattle.day.specs.Plan.{Legal, HasPlan, firstJumpOrLimit}
 use Rattle.day.proofs.Costs.{cost-plain}
 use Rattle.day.proofs.Valid.{valid-means}
 use Rattle.growth.specs.Growth.{growthFits, factor, furtherCost, growthCost}
@@ -21,6 +21,7 @@ use Rattle.quick_plan.proofs.NextCosts.{growth-within}
 use Rattle.quick_plan.proofs.Same.{SameOrder, quick-same}
 use Rattle.quick_plan.proofs.Plan.{quick-legal}
 use Rattle.quick_plan.proofs.Cheapest.{paid, spent, Regular, plan-least}
+use Rattle.quick_plan.proofs.Closing.{left-exactly}
 use Rattle.growth_plan.specs.Growing.{growing, growingQuick, growingTotal}
 use Rattle.growth_plan.proofs.Scaled.{ahead-scaled}
 
@@ -57,8 +58,8 @@ total-spent a d h = sum-ext (N d) (λ i. growthCost a (rate d i) (hold h i)) (λ
 -- ---- the plan
 
 module _ (a : ℕ) (d : Day) (v : valid d ≡ true) (plain : firstJumpOrLimit (d .flights) ≡ N d) where
-  pub growing-legal : Legal d (growingQuick a d)
-  growing-legal = quick-legal d (growing a d) v plain
+  pub growing-legal : HasPlan d → Legal d (growingQuick a d)
+  growing-legal some = quick-legal d (growing a d) v plain (left-exactly d v plain (growing a d) .0 some)
 
   -- The order of the flights that wait stays from period to period, since all their next costs grow by the same factor; so the quick plan's
   -- proof holds of this next cost too, and what the flights pay is the total in millionths.
@@ -91,18 +92,18 @@ module _ (d : Day) (short : P d ≤ 6) where
       plain j i p = mul-one (growing 0 d j i) ∙ further-plain (rate d i) (j - due d i) (omega arith)
 
   pub zero-holds : growingQuick 0 d ≡ quick d
-  zero-holds = sym (quick-same (d .capacities) (d .flights) (d .flights) (rates d) (growing 0 d) zero-order)
+  zero-holds = sym (quick-same (d .capacities) (d .flights) (d .flights) (d .closing) (d .closing) (rates d) (growing 0 d) zero-order)
 
-  -- the total of a legal plan, in millionths
-  pub zero-total : valid d ≡ true → firstJumpOrLimit (d .flights) ≡ N d → (h : List ℕ) → Legal d h
+  -- the total of a row of landings up to the closing period, in millionths
+  pub zero-total : valid d ≡ true → firstJumpOrLimit (d .flights) ≡ N d → (h : List ℕ) → ((i : ℕ) → i < N d → land d h i ≤ P d + 1)
       → growingTotal 0 (d .flights) h ≡ total d h * 1000000
   unfolding growingTotal totalOf growthCost
-  zero-total v plain h legal =
+  zero-total v plain h to =
       sum-ext (N d) (λ i. growthCost 0 (rate d i) (hold h i)) (λ i. cost d i (hold h i) * 1000000) each
       ∙ sum-times (N d) 1000000 (λ i. cost d i (hold h i))
     where
       short-hold : (i : ℕ) → i < N d → hold h i ≤ 6
-      short-hold i l = omega (arith, legal .window i l .closing, valid-means v .flight i l .due-from)
+      short-hold i l = omega (arith, to i l, valid-means v .flight i l .due-from)
 
       each : (i : ℕ) → i < N d → growthCost 0 (rate d i) (hold h i) ≡ cost d i (hold h i) * 1000000
       each i l =

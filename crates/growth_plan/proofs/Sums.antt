@@ -9,8 +9,7 @@ use native.Mathlib.Numerals.{add-one}
 use lib.ListN.{length}
 use Rattle.assignment.specs.Sum.{sum}
 use Rattle.assignment.proofs.Sums.{sum-most}
-use Rattle.day.specs.Day.{Day, P, width, flightCount, rateOf, hold, valid}
-use Rattle.day.specs.Plan.{Legal}
+use Rattle.day.specs.Day.{Day, P, N, width, flightCount, rateOf, hold, land, valid}
 use Rattle.day.proofs.Flights.{there}
 use Rattle.day.proofs.Valid.{valid-means}
 use Rattle.growth.specs.Growth.{growthCost}
@@ -18,14 +17,15 @@ use Rattle.growth.proofs.Laws.{growth-low}
 use Rattle.growth_plan.specs.Growing.{growingTotal}
 use Rattle.growth_plan.specs.Loop.{CanSum, Summed}
 
--- a legal plan of a day of at most 6 periods can be summed
-pub can-sum : (a : ℕ) (d : Day) (h : List ℕ) → a ≤ 40 → P d ≤ 6 → valid d ≡ true → Legal d h → CanSum a (d .flights) h
-can-sum a d h g p v legal = record {
+-- a row of landings up to the closing period can be summed, on a day of at most 6 periods
+pub can-sum : (a : ℕ) (d : Day) (h : List ℕ) → a ≤ 40 → P d ≤ 6 → valid d ≡ true → length h ≡ N d → ((i : ℕ) → i < N d → land d h i ≤ P d + 1)
+    → CanSum a (d .flights) h
+can-sum a d h g p v each to = record {
   grows = g;
-  each = legal .each;
+  each = each;
   few = valid-means v .flights-to;
   rates = λ i l. valid-means v .flight i l .rate-to;
-  short = λ i l. omega (arith, legal .window i l .closing, valid-means v .flight i l .due-from);
+  short = λ i l. omega (arith, to i l, valid-means v .flight i l .due-from);
 }
 
 -- no sum of so many flights is greater

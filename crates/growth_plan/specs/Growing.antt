@@ -12,7 +12,7 @@ use Rattle.growth.specs.Growth.{growthFits, growthCost}
 use Rattle.quick_plan.specs.declared.NextCost.the-variants.{Growing}
 use Rattle.quick_plan.specs.NextCost.{nextCost}
 use Rattle.quick_plan.specs.Quick.{quickBy}
-use Rattle.quick_plan.specs.Calls.{quickCheck, onQuick}
+use Rattle.quick_plan.specs.Calls.{quickCheck, onQuick, ifRoom}
 
 -- what one more period of hold costs, with a growth of a tenths
 abbrev pub growing : (a : ℕ) → Day → ℕ → ℕ → ℕ
@@ -31,9 +31,9 @@ pub record CheapestGrowing (a : ℕ) (d : Day) (holds : List ℕ) : Type 0 where
   pub legal : Legal d holds
   pub least : (other : List ℕ) → Legal d other → growingTotal a (d .flights) holds ≤ growingTotal a (d .flights) other
 
--- the call: refusals 6, 7, 8 and then 14, "if a or the number of periods is out of range"; they leave the row as it was
+-- the call: refusals 6, 7, 8, then 14, "if a or the number of periods is out of range", and 9 (#108); they leave the row as it was
 unfoldable pub growthPlan : (a : ℕ) → Day → List ℕ → Outcome
 growthPlan a d holds =
     onQuick (quickCheck d holds) holds
     (cond (not (growthFits a (P d))) (outcome BadGrowth holds)
-    (outcome (Planned (growingTotal a (d .flights) (growingQuick a d))) (growingQuick a d)))
+    (ifRoom d (growing a d) holds (outcome (Planned (growingTotal a (d .flights) (growingQuick a d))) (growingQuick a d))))

@@ -10,6 +10,8 @@ use quick_plan::NextCost;
 use quick_plan::QuickCheck;
 use quick_plan::check_quick;
 use quick_plan::plan_to;
+use stretch::ShortStretch;
+use stretch::find_short;
 ghost use mathlib.Core.Path.{_≡_};
 ghost use Rattle.day.specs.Day.{lent};
 ghost use Rattle.growth.specs.Growth.{growthFits};
@@ -39,19 +41,30 @@ fn growth_fits(growth: usize, periods: usize) -> bool
 }
 
 // Fills the hold row with the growing plan for a growth in tenths, and answers its total in millionths. Refusals, in this order: 6, 7 and 8
-// as the quick plan; 14, a growth or a number of periods out of range. They leave the row as it was.
-pub fn growth_plan(capacities: &[u32], flights: &[u32], growth: u32, holds: &mut [u32]) -> Answer
-    ensures { λ r. ⌜ r ≡ growthPlan growth (lent (capacities .entry) (flights .entry)) (now (holds .entry)) .answer ⌝ }
-    ensures { λ _. ⌜ now (holds .exit) ≡ growthPlan growth (lent (capacities .entry) (flights .entry)) (now (holds .entry)) .holds ⌝ }
+// as the quick plan; 14, a growth or a number of periods out of range; 9, more flights left than the closing period takes. They leave the
+// row as it was.
+pub fn growth_plan(
+    capacities: &[u32],
+    flights: &[u32],
+    closing: u32,
+    growth: u32,
+    holds: &mut [u32],
+) -> Answer
+    ensures { λ r. ⌜ r ≡ growthPlan growth (lent (capacities .entry) (flights .entry) closing) (now (holds .entry)) .answer ⌝ }
+    ensures { λ _. ⌜ now (holds .exit) ≡ growthPlan growth (lent (capacities .entry) (flights .entry) closing) (now (holds .entry)) .holds ⌝ }
 {
-    let found = check_quick(capacities, flights, holds);
-    match found {
-        QuickCheck::Refused(refusal) => refusal,
-        QuickCheck::Applies => {
-            let tenths = wide(growth);
-            if !growth_fits(tenths, capacities.len()) {
-                return Answer::BadGrowth;
-            }
+    let found = check_quick(capacities, flights, closing, holds);
+    if let QuickCheck::Refused(refusal) = found {
+        return refusal;
+    }
+    let tenths = wide(growth);
+    if !growth_fits(tenths, capacities.len()) {
+        return Answer::BadGrowth;
+    }
+    let short = find_short(capacities, flights, closing);
+    match short {
+        ShortStretch::Found { first, last } => Answer::NoPlan { first, last },
+        ShortStretch::NoneShort => {
             let next = NextCost::Growing { growth: tenths };
             plan_to(next, capacities, flights, holds, capacities.len());
             Answer::Planned {

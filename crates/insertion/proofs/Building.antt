@@ -18,9 +18,9 @@ use Rattle.assignment.proofs.Saving.{price-le}
 use Rattle.assignment.proofs.Chains.{chained-start}
 use Rattle.assignment.proofs.Closed.{Tied, priced, lands-open, opened-total}
 use Rattle.assignment.proofs.Permuted.{Stands, permuted-stands, permuted-sound, permuted-total}
-use Rattle.day.specs.Day.{Day, P, N, mostFlights, periodRow, ofPeriod, due, capacity, cost as cost-of, Window, hold, land, total}
+use Rattle.day.specs.Day.{Day, P, N, mostFlights, periodRow, unlimited, ofPeriod, due, capacity, counted, cost as cost-of, Window, hold, land, total}
 use Rattle.day.specs.Instance.{instance, last-to}
-use Rattle.day.proofs.Costs.{period-out, takes-in, takes-closing}
+use Rattle.day.proofs.Costs.{period-out, takes-in, takes-closing, counted-open}
 use Rattle.day.proofs.Valid.{valid-flights}
 use Rattle.day.proofs.Instance.{cost-le, window-in, in-window, total-instance}
 use Rattle.day.proofs.Prices.{sound-saves, sound-smallest}
@@ -57,13 +57,14 @@ module _ {d : Day} {holds prices : List ℕ} (c : CanInsert d holds prices) wher
   pub building-order : CanOrder (P d) (d .flights) (replicate mostFlights 0)
   building-order = record { valid = valid-flights (c .valid); row = omega (arith, c .valid .flights-to, length-replicate {A = ℕ} mostFlights 0) }
 
-  pub building-start : {places prices₀ : List ℕ} → length places ≡ length (replicate {A = ℕ} mostFlights 0) → DueOrder (d .flights) places
-      → length prices₀ ≡ length prices → Cleared prices₀
+  pub building-start : d .closing ≡ unlimited → {places prices₀ : List ℕ} → length places ≡ length (replicate {A = ℕ} mostFlights 0)
+      → DueOrder (d .flights) places → length prices₀ ≡ length prices → Cleared prices₀
       → Building d places holds prices₀ (replicate periodRow 0) (replicate chainRow 0) (replicate periodRow far) (replicate periodRow 0) 0 0
-  building-start {places} row o same none = record {
+  building-start no-line {places} row o same none = record {
     places-row = row ∙ length-replicate {A = ℕ} mostFlights 0;
     placed = record {
       table = record { valid = c .valid; row = o .row; permuted = o .permuted };
+      no-line = no-line;
       falling = λ s t le _ b. o .falling s t le b;
       none-short = c .none-short;
       upto = omega arith;
@@ -142,7 +143,7 @@ module _ {d : Day} {places holds prices loads links dist via : List ℕ} {cost n
             arith,
             ap (λ o. room-in d (land d holds o)) (h .is),
             lands-open (sound .accepted .legal) (h .at) (h .in-row),
-            takes-in (d .capacities) (land d holds i) in-day,
+            takes-in (d .capacities) (d .closing) (land d holds i) in-day,
           );
     }
 
@@ -150,9 +151,9 @@ module _ {d : Day} {places holds prices loads links dist via : List ℕ} {cost n
       -- a closed period of a window is one of 1 .. P
       in-day : {i k : ℕ} → Window d i k → i < N d → room-in d k ≡ 0 → (1 ≤ k) × (k ≤ P d) × (capacity d k ≡ 0)
       in-day {i} {k} w l none =
-          let open-end : k ≢ P d + 1 = λ e. omega (arith, ap (room-in d) e, takes-closing (d .capacities)) in
+          let open-end : k ≢ P d + 1 = λ e. omega (arith, ap (room-in d) e, takes-closing (d .capacities) (d .closing), s .placed .no-line) in
           let to : k ≤ P d = omega (arith, w .closing) in
-          omega (arith, w .from, s .placed .table .valid .flight i l .due-from, to, takes-in (d .capacities) k to)
+          omega (arith, w .from, s .placed .table .valid .flight i l .due-from, to, takes-in (d .capacities) (d .closing) k to)
 
       held : (i : ℕ) → land d holds i - due d i ≡ hold holds i
       held i = omega arith
@@ -173,7 +174,7 @@ module _ {d : Day} {places holds prices loads links dist via : List ℕ} {cost n
         | inl e ↦ inl (rw e refl)
         | inr e ↦ elim (lt? (P d) k) [
           | inl past ↦ inl (period-out prices₂ k (omega (arith, same-row, s .placed .prices-row)))
-          | inr in-row ↦ elim (c .least k (omega arith) in-row (omega (arith, takes-in (d .capacities) k in-row)) .low) [
+          | inr in-row ↦ elim (c .least k (omega arith) in-row (omega (arith, takes-in (d .capacities) (d .closing) k in-row)) .low) [
             | inl free ↦ inl free
             | inr a ↦ inr (tied in-row a (at-place (a .by) (a .who)))
           ]
@@ -193,7 +194,7 @@ module _ {d : Day} {places holds prices loads links dist via : List ℕ} {cost n
 
       all-priced : Sound whole (landing (d .flights) places holds) (ofPeriod prices₂)
       all-priced = priced whole dear sound (λ k some. elim (lt? (P d) k) [
-        | inr in-row ↦ c .same k (omega (arith, takes-in (d .capacities) k in-row))
+        | inr in-row ↦ c .same k (omega (arith, takes-in (d .capacities) (d .closing) k in-row))
         | inl past ↦
             period-out prices₂ k (omega (arith, same-row, s .placed .prices-row)) ∙ sym (period-out prices k (omega (arith, s .placed .prices-row)))
       ]) high low
@@ -204,7 +205,8 @@ module _ {d : Day} {places holds prices loads links dist via : List ℕ} {cost n
 
       pub building-end : Planned d holds prices₂ cost
       building-end =
-          let rows = same-row ∙ s .placed .prices-row in
+          let all-counted = counted-open (P d) (d .closing) (omega (arith, s .placed .no-line)) in
+          let rows : length prices₂ ≡ counted d = omega (arith, same-row, s .placed .prices-row, all-counted) in
           record {
             is-total = total-same;
             smallest = sound-smallest (s .placed .table .valid) holds prices₂ (s .placed .holds-row) rows in-table-order;

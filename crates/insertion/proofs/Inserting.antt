@@ -1,6 +1,6 @@
 -- The steps of `insert`.
 -- Assumes nothing.
-use mathlib.Core.Path.{_≡_, refl, ap, _∙_}
+use mathlib.Core.Path.{_≡_, refl, sym, ap, _∙_}
 use mathlib.Core.Logic.{_⊎_, inl, inr, _≢_}
 use mathlib.Core.List.{List}
 use Prim.Native.Nat.{ℕ, suc, _+_, _-_, _*_, _≤_, _<_}
@@ -23,9 +23,9 @@ use Rattle.assignment.proofs.Closed.{open-cost, shut-cost, opened-short, lands-
 use Rattle.assignment.proofs.Permuted.{permuted-short, reordered-sound, reordered-total}
 use Rattle.assignment.proofs.Restricted.{Rising, until-near, restrict, widen, widen-short}
 use Rattle.assignment.proofs.Rows.{set-moved}
-use Rattle.day.specs.Day.{Day, width, P, N, mostFlights, periodRow, ofPeriod, takes, due, cost, last}
+use Rattle.day.specs.Day.{Day, width, P, N, mostFlights, periodRow, ofPeriod, unlimited, takesOf, takes, due, cost, lastOf, last}
 use Rattle.day.specs.Instance.{instance, last-to}
-use Rattle.day.proofs.Costs.{takes-closing, due-latest, cost-grows}
+use Rattle.day.proofs.Costs.{takes-closing, counted-from, due-latest, cost-grows}
 use Rattle.day.proofs.Instance.{cost-le, instance-short}
 use Rattle.path.specs.Path.{far, away, dear, begun, scope, landing, Table, Scene, Searched, CanSearchSome, SearchedAll}
 use Rattle.path.proofs.Rows.{as-read}
@@ -36,7 +36,7 @@ use Rattle.insertion.proofs.Steps.{added-chained, added-loads}
 -- ---- the numbers of a day
 
 due-last : (d : Day) (i : ℕ) → due d i ≤ P d → due d i ≤ last d i
-unfolding last
+unfolding lastOf
 due-last d i l = omega (arith, due-latest d i l)
 
 -- a restriction changes no cost
@@ -86,6 +86,10 @@ module _ {d : Day} {places holds prices : List ℕ} {n : ℕ} (s : Placed d plac
   placed-low : (k : ℕ) → ofPeriod prices k ≤ 250880000
   placed-low k = omega (arith, placed-total, price-le (s .sound) k)
 
+  -- what a period takes without a closing line is what it takes on this day
+  without-line : (k : ℕ) → takesOf (d .capacities) unlimited k ≡ takes d k
+  without-line k = ap (λ c. takesOf (d .capacities) c k) (sym (s .no-line))
+
   module _ {loads links dist₀ via₀ : List ℕ} (kept : Kept d places holds loads links dist₀ via₀ n)
       (l : n < N d) where
     pub insert-room : (n < length places) × (n < mostFlights)
@@ -109,7 +113,7 @@ module _ {d : Day} {places holds prices : List ℕ} {n : ℕ} (s : Placed d plac
               to = omega (arith, first-at, f .due-to);
               closing = omega (
                 arith,
-                takes-closing (d .capacities),
+                takes-closing (d .capacities) unlimited,
                 kept .loads-are (P d + 1) (omega (arith, s .table .valid .periods-to)),
                 count-le n (landing (d .flights) places holds) (P d + 1),
                 insert-room,
@@ -120,8 +124,8 @@ module _ {d : Day} {places holds prices : List ℕ} {n : ℕ} (s : Placed d plac
           pub insert-within : target < periodRow
           insert-within = omega (arith, room .to, s .table .valid .periods-to)
 
-          free : count n (landing (d .flights) places holds) target < takes (d .capacities) target
-          free = omega (arith, room .free, kept .loads-are target insert-within)
+          free : count n (landing (d .flights) places holds) target < takes d target
+          free = omega (arith, room .free, without-line target, kept .loads-are target insert-within)
 
           pub insert-scene : Scene (scope d places n target) (landing (d .flights) places holds) (ofPeriod prices) target
           insert-scene =
@@ -146,10 +150,12 @@ module _ {d : Day} {places holds prices : List ℕ} {n : ℕ} (s : Placed d plac
                 full = λ k a b. omega (
                   arith,
                   room .full k (omega (arith, first-at)) b,
+                  without-line k,
                   kept .loads-are k (omega (arith, insert-within)),
                 );
                 free = free;
-                none-short = λ a b from stretch less short. s .none-short a b (instance-short d a b (omega (arith, room .to)) from stretch
+                none-short = λ a b from stretch less short. s .none-short a b (instance-short d a b from stretch
+                    (omega (arith, room .to, counted-from (P d) (d .closing)))
                     (permuted-short (instance d) (s .table .permuted) l
                     (opened-short (ordered (instance d) (el places) (suc n)) dear (widen-short (begun d places (suc n)) target less short))));
               }
@@ -321,6 +327,7 @@ module _ {d : Day} {places holds prices : List ℕ} {n : ℕ} (s : Placed d plac
                 insert-end {added} e = record {
                   placed = record {
                     table = record { valid = s .table .valid; row = w .once .row; permuted = w .once .permuted };
+                    no-line = s .no-line;
                     falling = falling;
                     none-short = s .none-short;
                     upto = omega arith;

@@ -23,7 +23,7 @@ use Rattle.assignment.proofs.Chains.{chained-add}
 use Rattle.assignment.proofs.Insertion.{going-step}
 use Rattle.assignment.proofs.Permuted.{permuted-other, permuted-same, swapped}
 use Rattle.assignment.proofs.Rows.{set-moved}
-use Rattle.day.specs.Day.{mostFlights, periodRow, width, column, flightCount, ofPeriod, takes, hold}
+use Rattle.day.specs.Day.{mostFlights, periodRow, width, column, flightCount, ofPeriod, unlimited, takesOf, hold}
 use Rattle.day.proofs.Costs.{period-out, period-moved}
 use Rattle.path.specs.Path.{far, away, landing, Chained}
 use Rattle.path.proofs.Rows.{away-moved, as-read}
@@ -86,7 +86,7 @@ pub record Passing (capacities loads : List ℕ) (first k : ℕ) : Type 0 where
   pub can : CanFind capacities loads first
   pub from : first ≤ k
   pub to : k ≤ length capacities + 1
-  pub full : (j : ℕ) → first ≤ j → j < k → takes capacities j ≤ el loads j
+  pub full : (j : ℕ) → first ≤ j → j < k → takesOf capacities unlimited j ≤ el loads j
 
 pub passing-start : {capacities loads : List ℕ} {first : ℕ} → CanFind capacities loads first → Passing capacities loads first first
 passing-start c = record { can = c; from = omega arith; to = c .to; full = λ j a b. absurd (omega arith) }
@@ -95,7 +95,7 @@ module _ {capacities loads : List ℕ} {first k : ℕ} (s : Passing capacities l
   pub passing-room : (k < length loads) × (k < periodRow)
   passing-room = omega (arith, s .can .few, s .can .rows, s .to)
 
-  module _ {r : ℕ} (e : r ≡ takes capacities k) where
+  module _ {r : ℕ} (e : r ≡ takesOf capacities unlimited k) where
     pub passing-found : getD loads k 0 < r → FirstRoom capacities loads first k
     passing-found less = record { from = s .from; to = s .to; full = s .full; free = omega arith }
 
@@ -103,7 +103,7 @@ module _ {capacities loads : List ℕ} {first k : ℕ} (s : Passing capacities l
       -- the closing period has room
       pub passing-in : k ≤ length capacities
       passing-in = elim (eq? k (length capacities + 1)) [
-        | inl closing ↦ absurd (omega (arith, s .can .closing, ap (takes capacities) closing, ap (el loads) closing))
+        | inl closing ↦ absurd (omega (arith, s .can .closing, ap (takesOf capacities unlimited) closing, ap (el loads) closing))
         | inr other ↦ omega (arith, s .to)
       ]
 

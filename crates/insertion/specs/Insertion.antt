@@ -11,15 +11,17 @@ use Rattle.assignment.specs.Rows.{el}
 use Rattle.assignment.specs.Moves.{Moved, put}
 use Rattle.assignment.specs.Orders.{Permuted}
 use Rattle.assignment.specs.Insertion.{Sound, Going}
-use Rattle.day.specs.Day.{Day, P, N, mostPeriods, mostFlights, periodRow, width, flightCount, ofPeriod, due, total, takes, dueOf}
+use Rattle.day.specs.Day.{Day, P, N, mostPeriods, mostFlights, periodRow, width, flightCount, ofPeriod, due, total, unlimited, takesOf, dueOf}
 use Rattle.day.specs.Plan.{Smallest, PricesSave, Short}
 use Rattle.day.specs.Valid.{Valid}
 use Rattle.path.specs.Path.{far, away, begun, landing, Table, Chained}
 
 -- the flights at the first n places are placed: the hold row has their holds, the price row their prices; the others follow, due falling,
--- and their holds may be any numbers
+-- and their holds may be any numbers. The day has no closing line: the insertion plans without, and the full plan's proof shows that this is
+-- enough
 pub record Placed (d : Day) (places holds prices : List ℕ) (n : ℕ) : Type 0 where
   pub table : Table d places
+  pub no-line : d .closing ≡ unlimited
   pub falling : (s t : ℕ) → s ≤ t → n ≤ t → t < N d → due d (el places t) ≤ due d (el places s)
   pub none-short : (a b : ℕ) → Short d a b → ⊥
   pub upto : n ≤ N d
@@ -63,14 +65,14 @@ pub record CanFind (capacities loads : List ℕ) (first : ℕ) : Type 0 where
   pub rows : length loads ≡ periodRow
   pub from : 1 ≤ first
   pub to : first ≤ length capacities + 1
-  pub closing : el loads (length capacities + 1) < takes capacities (length capacities + 1)
+  pub closing : el loads (length capacities + 1) < takesOf capacities unlimited (length capacities + 1)
 
--- k is the first period from `first` on that has room; the closing period always has
+-- k is the first period from `first` on that has room; the closing period, which takes everyone without a closing line, always has
 pub record FirstRoom (capacities loads : List ℕ) (first k : ℕ) : Type 0 where
   pub from : first ≤ k
   pub to : k ≤ length capacities + 1
-  pub full : (j : ℕ) → first ≤ j → j < k → takes capacities j ≤ el loads j
-  pub free : el loads k < takes capacities k
+  pub full : (j : ℕ) → first ≤ j → j < k → takesOf capacities unlimited j ≤ el loads j
+  pub free : el loads k < takesOf capacities unlimited k
 
 -- ---- the walk back
 

@@ -3,15 +3,17 @@
 // flights: those that are placed stand in its front, and a place keeps its period while flights change places. What is kept from one
 // insertion to the next beside the plan is how many flights land in each period, the chains of their places, and the rows of the search,
 // in which all is far again after each.
+// The day is planned without a closing line, so that the closing period always has room; the full plan's proof shows that this is enough.
 ghost use mathlib.Core.Path.{_≡_};
 ghost use Prim.Native.Nat.{_+_, _-_, _*_, _<_, _≤_};
 ghost use lib.ListN.{length, set};
-ghost use Rattle.day.specs.Day.{lent, mostFlights, periodRow, width, N, dueOf};
+ghost use Rattle.day.specs.Day.{lent, unlimited, mostFlights, periodRow, width, N, dueOf};
 ghost use Rattle.assignment.specs.Rows.{el};
 ghost use Rattle.insertion.specs.Insertion.{Added, CanFind, FirstRoom, CanWalk, Walked, CanRaise, Raised, CanForget, Forgotten, Placed, Kept, Inserted, Cleared, CanInsert, Planned};
 use closed_prices::price_closed;
 use day::FLIGHTS;
 use day::PERIOD_ROW;
+use day::UNLIMITED;
 use day::capacity_of;
 use day::due_of;
 use day::land_of;
@@ -32,14 +34,14 @@ fn add_place(loads: &mut [usize], links: &mut [usize], n: usize, k: usize)
     links[k] = n + 1;
 }
 
-// The first period from `first` on that has room; the closing period always has.
+// The first period from `first` on that has room; the closing period, which takes everyone here, always has.
 fn first_with_room(capacities: &[u32], loads: &[usize], first: usize) -> usize
     requires { ⌜ CanFind (now capacities) (now loads) first ⌝ }
     ensures { λ k. ⌜ FirstRoom (now (capacities .entry)) (now (loads .entry)) first k ⌝ }
 {
     let mut k = first;
     loop {
-        if loads[k] < capacity_of(capacities, k) {
+        if loads[k] < capacity_of(capacities, UNLIMITED, k) {
             return k;
         }
         k += 1;
@@ -135,11 +137,11 @@ fn insert(
     via: &mut [usize],
     n: usize,
 ) -> usize
-    requires { ⌜ Placed (lent capacities flights) (now places) (now holds) (now prices) n ⌝ }
-    requires { ⌜ Kept (lent capacities flights) (now places) (now holds) (now loads) (now links) (now dist) (now via) n ⌝ }
-    requires { ⌜ n < N (lent capacities flights) ⌝ }
-    ensures { λ r. ⌜ Inserted (lent (capacities .entry) (flights .entry)) (now (places .entry)) (now (places .exit)) (now (holds .entry)) (now (holds .exit)) (now (prices .exit)) n r ⌝ }
-    ensures { λ _. ⌜ Kept (lent (capacities .entry) (flights .entry)) (now (places .exit)) (now (holds .exit)) (now (loads .exit)) (now (links .exit)) (now (dist .exit)) (now (via .exit)) (n + 1) ⌝ }
+    requires { ⌜ Placed (lent capacities flights unlimited) (now places) (now holds) (now prices) n ⌝ }
+    requires { ⌜ Kept (lent capacities flights unlimited) (now places) (now holds) (now loads) (now links) (now dist) (now via) n ⌝ }
+    requires { ⌜ n < N (lent capacities flights unlimited) ⌝ }
+    ensures { λ r. ⌜ Inserted (lent (capacities .entry) (flights .entry) unlimited) (now (places .entry)) (now (places .exit)) (now (holds .entry)) (now (holds .exit)) (now (prices .exit)) n r ⌝ }
+    ensures { λ _. ⌜ Kept (lent (capacities .entry) (flights .entry) unlimited) (now (places .exit)) (now (holds .exit)) (now (loads .exit)) (now (links .exit)) (now (dist .exit)) (now (via .exit)) (n + 1) ⌝ }
 {
     let first = due_of(flights, wide(places[n]));
     let target = first_with_room(capacities, loads, first);
@@ -173,15 +175,15 @@ fn clear(prices: &mut [u32])
     }
 }
 
-// Plans all flights of a day that has no short stretch; the total. Whatever the two rows have, they are filled.
+// Plans all flights of a day without a closing line that has no short stretch; the total. Whatever the two rows have, they are filled.
 pub fn insert_all(
     capacities: &[u32],
     flights: &[u32],
     holds: &mut [u32],
     prices: &mut [u32],
 ) -> usize
-    requires { ⌜ CanInsert (lent capacities flights) (now holds) (now prices) ⌝ }
-    ensures { λ r. ⌜ Planned (lent (capacities .entry) (flights .entry)) (now (holds .exit)) (now (prices .exit)) r ⌝ }
+    requires { ⌜ CanInsert (lent capacities flights unlimited) (now holds) (now prices) ⌝ }
+    ensures { λ r. ⌜ Planned (lent (capacities .entry) (flights .entry) unlimited) (now (holds .exit)) (now (prices .exit)) r ⌝ }
 {
     let mut places = [0; FLIGHTS];
     order_flights(capacities.len(), flights, &mut places);

@@ -16,9 +16,10 @@ use Rattle.assignment.specs.Sum.{gate, sum, count}
 use Rattle.assignment.proofs.Tests.{lt?, eq?, gate-eq, gate-ne}
 use Rattle.assignment.proofs.Rows.{blank-at}
 use Rattle.assignment.proofs.Sums.{count-suc, count-zero, count-le}
-use Rattle.day.specs.Day.{Day, day, P, N, periodRow, mostFlights, column, flightCount, flightAt, takes, latest, land, hold, holdCost, totalOf, total, valid, width}
-use Rattle.day.specs.Plan.{tooLong, overCapacity, breaks, firstBreak}
-use Rattle.day.proofs.Costs.{takes-in, takes-closing, cost-most}
+use Rattle.day.specs.declared.Flight.{Flight}
+use Rattle.day.specs.Day.{Day, day, P, N, periodRow, mostFlights, column, flightCount, flightAt, unlimited, takesOf, countedOf, latest, land, hold, holdCost, totalOf, total, valid, width}
+use Rattle.day.specs.Plan.{tooLongOf, tooLong, overCapacity, breaks, firstBreak}
+use Rattle.day.proofs.Costs.{takes-closing, counted-from, uncounted, cost-most}
 use Rattle.day.proofs.Tests.{first-at, first-none}
 use Rattle.day.specs.Valid.{Valid}
 use Rattle.day.proofs.Valid.{valid-means}
@@ -36,10 +37,14 @@ or-false true b e = (e, false-now e)
 
 -- a hold that is not too long lands by the closing period, within its limit
 pub not-long : (d : Day) (i k : ℕ) → tooLong d i k ≡ false → (k ≤ P d + 1) × (k ≤ latest d i)
-unfolding tooLong
+unfolding tooLongOf
 not-long d i k e =
     let t = or-false (ltb (P d + 1) k) (ltb (latest d i) k) e in
     (ltb-false (P d + 1) k (t .0), ltb-false (latest d i) k (t .1))
+
+-- what is found of the flight as it was read
+pub long-of : (p k : ℕ) {f g : Flight} {r b : Bool} → r ≡ tooLongOf p f k → f ≡ g → r ≡ b → tooLongOf p g k ≡ b
+long-of p k found same is = ap (λ f. tooLongOf p f k) (sym same) ∙ sym found ∙ is
 
 module _ {d : Day} {h loads : List ℕ} {i : ℕ} (s : Walked d h loads i) where
   v : Valid d
@@ -54,6 +59,9 @@ module _ {d : Day} {h loads : List ℕ} {i : ℕ} (s : Walked d h loads i) where
     walk-long e = sym (first-at (N d) (breaks d h) i (omega (arith, s .each)) (s .none) (rw (← at-k, e)))
 
     module _ (short : tooLong d i k ≡ false) where
+      pub walk-by : k ≤ P d + 1
+      walk-by = not-long d i k short .0
+
       pub walk-in : k < periodRow
       walk-in = omega (arith, not-long d i k short, v .periods-to)
 
@@ -63,11 +71,11 @@ module _ {d : Day} {h loads : List ℕ} {i : ℕ} (s : Walked d h loads i) where
       here : getD loads k 0 + 1 ≡ count (suc i) (land d h) (land d h i)
       here = rw (← at-k) (omega (arith, s .counted k walk-in, count-suc i (land d h) k, gate-eq (land d h i) k 1 (sym at-k)))
 
-      pub walk-over : overCapacity (d .capacities) k (getD loads k 0 + 1) ≡ true → i ≡ firstBreak d h
+      pub walk-over : overCapacity (d .capacities) (d .closing) k (getD loads k 0 + 1) ≡ true → i ≡ firstBreak d h
       unfolding firstBreak breaks
       walk-over e = sym (first-at (N d) (breaks d h) i (omega (arith, s .each)) (s .none) (rw (← here, ← at-k, short, e)))
 
-      pub walk-next : overCapacity (d .capacities) k (getD loads k 0 + 1) ≡ false → Walked d h (set loads k (getD loads k 0 + 1)) (i + 1)
+      pub walk-next : overCapacity (d .capacities) (d .closing) k (getD loads k 0 + 1) ≡ false → Walked d h (set loads k (getD loads k 0 + 1)) (i + 1)
       unfolding breaks
       walk-next e = record {
         good = s .good;
@@ -108,14 +116,22 @@ module _ {d : Day} {h loads : List ℕ} {i : ℕ} (s : Walked d h loads i) where
       let e : i ≡ N d = omega (arith, s .each, s .upto) in
       e ∙ sym (first-none (N d) (breaks d h) (λ j b. s .none j (omega arith)))
 
--- a landing by the closing period is over capacity exactly where the period takes fewer; the closing period takes more than there are flights
-pub over-taken : (capacities : List ℕ) (k m : ℕ) → k ≤ length capacities + 1 → m ≤ mostFlights + 1 → ltb (takes capacities k) m ≡ overCapacity capacities k m
+-- a landing by the closing period is over capacity exactly where the period takes fewer; a closing period without a line takes more than
+-- there are flights
+pub over-taken : (capacities : List ℕ) (closing k m : ℕ) → k ≤ length capacities + 1 → m ≤ mostFlights + 1
+    → ltb (takesOf capacities closing k) m ≡ overCapacity capacities closing k m
 unfolding overCapacity
-over-taken capacities k m by few = elim (lt? (length capacities) k) [
+over-taken capacities closing k m by few = elim (lt? (countedOf (length capacities) closing) k) [
   | inl past ↦
-      let closing : k ≡ length capacities + 1 = omega arith in
-      le-ltb (takes capacities k) m (omega (arith, ap (takes capacities) closing, takes-closing capacities)) ∙ rw (lt-leb k (length capacities) past)
-  | inr in-day ↦ rw (takes-in capacities k in-day, le-leb k (length capacities) in-day)
+      let last : k ≡ length capacities + 1 = omega (arith, counted-from (length capacities) closing) in
+      le-ltb (takesOf capacities closing k) m (omega (
+        arith,
+        ap (takesOf capacities closing) last,
+        takes-closing capacities closing,
+        uncounted (length capacities) closing (omega arith),
+      ))
+      ∙ rw (lt-leb k (countedOf (length capacities) closing) past)
+  | inr in-day ↦ rw (le-leb k (countedOf (length capacities) closing) in-day)
 ]
 
 -- ---- costs
@@ -138,7 +154,7 @@ module _ {f h : List ℕ} {s i : ℕ} (m : Summed f h s i) where
     cost-fits =
         let low : i < flightCount f = omega (arith, m .can .each) in
         let p = mul-le-mul {n₁ = column 2 f i} {m₁ = hold h i} {n₂ = 10000} {m₂ = 4294967296} (m .can .rates i low) (omega arith) in
-        omega (arith, cost-is, cost-most (day [] f) i (hold h i), m .can .jumps i low)
+        omega (arith, cost-is, cost-most (day [] f unlimited) i (hold h i), m .can .jumps i low)
 
     pub sum-next : Summed f h (s + c) (i + 1)
     unfolding sum

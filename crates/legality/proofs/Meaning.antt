@@ -12,8 +12,8 @@ use borrow.Author.Tests.{le-ltb, le-leb, lt-leb, ltb-false}
 use Rattle.assignment.specs.Sum.{gate, sum, count}
 use Rattle.assignment.proofs.Tests.{lt?, eq?, gate-ne}
 use Rattle.assignment.proofs.Sums.{count-suc, count-zero, sum-grow}
-use Rattle.day.specs.Day.{Day, P, N, capacity, latest, Window, land}
-use Rattle.day.specs.Plan.{Legal, tooLong, overCapacity, breaks, firstBreak}
+use Rattle.day.specs.Day.{Day, P, N, takes, counted, latest, Window, land}
+use Rattle.day.specs.Plan.{Legal, tooLongOf, tooLong, overCapacity, breaks, firstBreak}
 use Rattle.day.proofs.Tests.{first-none, none-passes}
 use Rattle.day.specs.Valid.{Valid}
 use Rattle.legality.proofs.Laws.{or-false, not-long}
@@ -26,14 +26,14 @@ count-grow i n x k l =
 
 module _ (d : Day) (h : List ℕ) where
   -- a flight that does not break the row leaves its period within its capacity
-  within : (i : ℕ) → breaks d h i ≡ false → land d h i ≤ P d → count (suc i) (land d h) (land d h i) ≤ capacity d (land d h i)
+  within : (i : ℕ) → breaks d h i ≡ false → land d h i ≤ counted d → count (suc i) (land d h) (land d h i) ≤ takes d (land d h i)
   unfolding breaks overCapacity
   within i e l =
-      let t = or-false (tooLong d i (land d h i)) (overCapacity (d .capacities) (land d h i) (count (suc i) (land d h) (land d h i))) e .1 in
-      ltb-false (capacity d (land d h i)) (count (suc i) (land d h) (land d h i)) (rw (le-leb (land d h i) (P d) l) at t)
+      let t = or-false (tooLong d i (land d h i)) (overCapacity (d .capacities) (d .closing) (land d h i) (count (suc i) (land d h) (land d h i))) e .1 in
+      ltb-false (takes d (land d h i)) (count (suc i) (land d h) (land d h i)) (rw (le-leb (land d h i) (counted d) l) at t)
 
   -- so no period is over it, flight by flight
-  pub upto : (n : ℕ) → ((i : ℕ) → i < n → breaks d h i ≡ false) → (k : ℕ) → k ≤ P d → count n (land d h) k ≤ capacity d k
+  pub upto : (n : ℕ) → ((i : ℕ) → i < n → breaks d h i ≡ false) → (k : ℕ) → k ≤ counted d → count n (land d h) k ≤ takes d k
   upto zero none k l = omega (arith, count-zero (land d h) k)
   upto (suc n) none k l = elim (eq? (land d h n) k) [
     | inl e ↦ rw e at (within n (none n (omega arith)) (rw e l))
@@ -59,20 +59,20 @@ module _ (d : Day) (h : List ℕ) where
       }
 
   legal-none : Valid d → Legal d h → firstBreak d h ≡ N d
-  unfolding firstBreak breaks tooLong overCapacity
+  unfolding firstBreak breaks tooLongOf overCapacity
   legal-none v legal = first-none (N d) (breaks d h) (λ i l. fine i l)
     where
-      fits : (i : ℕ) → i < N d → land d h i ≤ P d → count (suc i) (land d h) (land d h i) ≤ capacity d (land d h i)
+      fits : (i : ℕ) → i < N d → land d h i ≤ counted d → count (suc i) (land d h) (land d h i) ≤ takes d (land d h i)
       fits i l b = omega (
         arith,
         legal .room (land d h i) (omega (arith, v .flight i l .due-from)) b,
         count-grow (suc i) (N d) (land d h) (land d h i) l,
       )
 
-      over : (i : ℕ) → i < N d → overCapacity (d .capacities) (land d h i) (count (suc i) (land d h) (land d h i)) ≡ false
-      over i l = elim (lt? (P d) (land d h i)) [
-        | inl past ↦ rw (lt-leb (land d h i) (P d) past)
-        | inr in-day ↦ rw (le-leb (land d h i) (P d) in-day) (le-ltb _ _ (fits i l in-day))
+      over : (i : ℕ) → i < N d → overCapacity (d .capacities) (d .closing) (land d h i) (count (suc i) (land d h) (land d h i)) ≡ false
+      over i l = elim (lt? (counted d) (land d h i)) [
+        | inl past ↦ rw (lt-leb (land d h i) (counted d) past)
+        | inr in-day ↦ rw (le-leb (land d h i) (counted d) in-day) (le-ltb _ _ (fits i l in-day))
       ]
 
       fine : (i : ℕ) → i < N d → breaks d h i ≡ false

@@ -4,10 +4,11 @@ ghost use mathlib.Core.Bool.{true};
 ghost use Prim.Native.Nat.{_+_, _*_, _<_, _≤_};
 ghost use lib.ListN.{length};
 ghost use Rattle.day.specs.Day.{lent, mostPeriods, mostFlights, width, N, totalOf, valid};
-ghost use Rattle.day.specs.Plan.{tooLong, overCapacity, firstBreak};
+ghost use Rattle.day.specs.Plan.{tooLongOf, overCapacity, firstBreak};
 ghost use Rattle.legality.specs.Check.{planCheck};
 ghost use Rattle.legality.specs.Loop.{Walked, CanSum};
 use answers::Answer;
+use day::Flight;
 use day::PERIOD_ROW;
 use day::capacity_of;
 use day::cost_of;
@@ -24,39 +25,44 @@ pub enum PlanCheck {
     Refused(Answer),
 }
 
-// A landing of the flight at table place i in period k is after the closing period or over its limit.
-pub fn is_too_long(capacities: &[u32], flights: &[u32], i: usize, k: usize) -> bool
-    requires { ⌜ ((i + 1) * width ≤ length (now flights)) × (length (now capacities) ≤ mostPeriods) ⌝ }
-    ensures { λ r. ⌜ r ≡ tooLong (lent (capacities .entry) (flights .entry)) i k ⌝ }
+// A landing of a flight in period k is after the closing period or over its limit, on a day of so many periods.
+pub fn is_too_long(periods: usize, f: Flight, k: usize) -> bool
+    requires { ⌜ periods ≤ mostPeriods ⌝ }
+    ensures { λ r. ⌜ r ≡ tooLongOf periods f k ⌝ }
 {
-    let periods = capacities.len();
     if periods + 1 < k {
         return true;
     }
-    latest_of(periods, flight_at(flights, i)) < k
+    latest_of(periods, f) < k
 }
 
-// The m-th landing in period k is over its capacity. No day has the landings that would fill the closing period.
-fn is_over(capacities: &[u32], k: usize, m: usize) -> bool
+// The m-th landing in period k is over its capacity. No day has the landings that would fill a closing period without a line.
+fn is_over(capacities: &[u32], closing: u32, k: usize, m: usize) -> bool
     requires { ⌜ (length (now capacities) ≤ mostPeriods) × (k ≤ length (now capacities) + 1) × (m ≤ mostFlights + 1) ⌝ }
-    ensures { λ r. ⌜ r ≡ overCapacity (now (capacities .entry)) k m ⌝ }
+    ensures { λ r. ⌜ r ≡ overCapacity (now (capacities .entry)) closing k m ⌝ }
 {
-    capacity_of(capacities, k) < m
+    capacity_of(capacities, closing, k) < m
 }
 
 // The walk of refusal 10, with a row in which landings are counted by period on the way.
-fn walk(capacities: &[u32], flights: &[u32], holds: &[u32], loads: &mut [usize]) -> usize
-    requires { ⌜ Walked (lent capacities flights) (now holds) (now loads) 0 ⌝ }
-    ensures { λ r. ⌜ r ≡ firstBreak (lent (capacities .entry) (flights .entry)) (now (holds .entry)) ⌝ }
+fn walk(
+    capacities: &[u32],
+    flights: &[u32],
+    closing: u32,
+    holds: &[u32],
+    loads: &mut [usize],
+) -> usize
+    requires { ⌜ Walked (lent capacities flights closing) (now holds) (now loads) 0 ⌝ }
+    ensures { λ r. ⌜ r ≡ firstBreak (lent (capacities .entry) (flights .entry) closing) (now (holds .entry)) ⌝ }
 {
     let mut place = 0;
     while place < holds.len() {
         let k = land_of(flights, holds, place);
-        if is_too_long(capacities, flights, place, k) {
+        if is_too_long(capacities.len(), flight_at(flights, place), k) {
             return place;
         }
         let load = loads[k] + 1;
-        if is_over(capacities, k, load) {
+        if is_over(capacities, closing, k, load) {
             return place;
         }
         loads[k] = load;
@@ -66,13 +72,13 @@ fn walk(capacities: &[u32], flights: &[u32], holds: &[u32], loads: &mut [usize])
 }
 
 // The first flight that breaks a row of N holds, or N.
-fn first_break(capacities: &[u32], flights: &[u32], holds: &[u32]) -> usize
-    requires { ⌜ valid (lent capacities flights) ≡ true ⌝ }
-    requires { ⌜ length (now holds) ≡ N (lent capacities flights) ⌝ }
-    ensures { λ r. ⌜ r ≡ firstBreak (lent (capacities .entry) (flights .entry)) (now (holds .entry)) ⌝ }
+fn first_break(capacities: &[u32], flights: &[u32], closing: u32, holds: &[u32]) -> usize
+    requires { ⌜ valid (lent capacities flights closing) ≡ true ⌝ }
+    requires { ⌜ length (now holds) ≡ N (lent capacities flights closing) ⌝ }
+    ensures { λ r. ⌜ r ≡ firstBreak (lent (capacities .entry) (flights .entry) closing) (now (holds .entry)) ⌝ }
 {
     let mut loads = [0; PERIOD_ROW];
-    walk(capacities, flights, holds, &mut loads)
+    walk(capacities, flights, closing, holds, &mut loads)
 }
 
 // The plan's total.
@@ -90,17 +96,17 @@ pub fn total_of(flights: &[u32], holds: &[u32]) -> usize
 }
 
 // What is found of a day and a hold row, whatever they hold.
-pub fn check_plan(capacities: &[u32], flights: &[u32], holds: &[u32]) -> PlanCheck
-    ensures { λ r. ⌜ r ≡ planCheck (lent (capacities .entry) (flights .entry)) (now (holds .entry)) ⌝ }
+pub fn check_plan(capacities: &[u32], flights: &[u32], closing: u32, holds: &[u32]) -> PlanCheck
+    ensures { λ r. ⌜ r ≡ planCheck (lent (capacities .entry) (flights .entry) closing) (now (holds .entry)) ⌝ }
 {
-    if !is_valid(capacities, flights) {
+    if !is_valid(capacities, flights, closing) {
         return PlanCheck::Refused(Answer::BadDay);
     }
     let n = flight_count(flights);
     if holds.len() != n {
         return PlanCheck::Refused(Answer::BadLength { needed: n });
     }
-    let place = first_break(capacities, flights, holds);
+    let place = first_break(capacities, flights, closing, holds);
     if place != n {
         return PlanCheck::Refused(Answer::NotLegal { place });
     }

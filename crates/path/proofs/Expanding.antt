@@ -18,7 +18,7 @@ use Rattle.assignment.proofs.Closed.{open-cost, shut-cost}
 use Rattle.assignment.proofs.Restricted.{until-near}
 use Rattle.assignment.proofs.Rows.{set-moved}
 use Rattle.day.specs.declared.Flight.{Flight}
-use Rattle.day.specs.Day.{Day, P, N, day, mostFlights, periodRow, width, ofPeriod, due, holdCost, latestOf, cost, flightAt, last}
+use Rattle.day.specs.Day.{Day, P, N, day, mostFlights, periodRow, width, ofPeriod, due, holdCost, latestOf, cost, flightAt, lastOf, last}
 use Rattle.day.specs.Instance.{instance}
 use Rattle.day.proofs.Costs.{takes-in}
 use Rattle.day.proofs.Flights.{due-read}
@@ -52,7 +52,7 @@ module _ (d : Day) {f : Flight} (i : ℕ) (f-is : f ≡ flightAt (d .flights) i)
 
   -- the window, up to the target
   pub window-to : (target : ℕ) → target ≤ P d + 1 → 1 ≤ due d i → due d i ≤ target → offersTo f target ≡ until target (due d i) (last d i)
-  unfolding last
+  unfolding lastOf
   window-to target within pos l =
       latest-near f (P d) target (omega arith) within ∙ rw f-is (omega (arith, until-near (last d i) l))
 
@@ -281,8 +281,8 @@ module _ {d : Day} {x : ℕ → ℕ} {places links prices list dist₀ dist via�
 pub record ExpandingAll (flights places links prices list dist₀ dist via₀ via : List ℕ) (left target k from price next : ℕ) : Type 0 where
   pub some : CanExpandSome flights places links prices list dist₀ via₀ left target k
   pub price-is : price ≡ ofPeriod prices k
-  pub each : (capacities : List ℕ) (x : ℕ → ℕ) (n : ℕ) → CanExpand (day capacities flights) x places links prices list dist₀ via₀ n left target k
-      → Expanding (day capacities flights) x places links prices list n left target dist₀ dist via₀ via k from next
+  pub each : (capacities : List ℕ) (closing : ℕ) (x : ℕ → ℕ) (n : ℕ) → CanExpand (day capacities flights closing) x places links prices list dist₀ via₀ n left target k
+      → Expanding (day capacities flights closing) x places links prices list n left target dist₀ dist via₀ via k from next
 
 module _ {flights places links prices list dist via : List ℕ} {left target k : ℕ} (c : CanExpandSome flights places links prices list dist via left target k) where
   pub expand-room : (k < length dist) × (k < length links) × (k < periodRow)
@@ -290,19 +290,19 @@ module _ {flights places links prices list dist via : List ℕ} {left target k :
 
   pub expanding-start : {q : ℕ} → q ≡ ofPeriod prices k
       → ExpandingAll flights places links prices list dist dist via via left target k (getD dist k 0) q (getD links k 0)
-  expanding-start e = record { some = c; price-is = e; each = λ capacities x n can. starting can }
+  expanding-start e = record { some = c; price-is = e; each = λ capacities closing x n can. starting can }
 
 module _ {flights places links prices list dist₀ dist via₀ via : List ℕ} {left target k from price next : ℕ}
     (s : ExpandingAll flights places links prices list dist₀ dist via₀ via left target k from price next) where
   -- with the day and the plan that there are
-  abbrev one : Expanding (day (s .some .capacities) flights) (s .some .x) places links prices list (s .some .n) left target dist₀ dist via₀ via k from next
-  one = s .each (s .some .capacities) (s .some .x) (s .some .n) (s .some .can)
+  abbrev one : Expanding (day (s .some .capacities) flights (s .some .closing)) (s .some .x) places links prices list (s .some .n) left target dist₀ dist via₀ via k from next
+  one = s .each (s .some .capacities) (s .some .closing) (s .some .x) (s .some .n) (s .some .can)
 
   pub expanding-sizes : (length dist ≡ length dist₀) × (length via ≡ length via₀)
   expanding-sizes = (one .same-d, one .same-v)
 
   pub expanding-end : next ≤ 0 → ExpandedAll flights places links prices list dist₀ dist via₀ via left target k
-  expanding-end l capacities x n can = ending (s .each capacities x n can) l
+  expanding-end l capacities closing x n can = ending (s .each capacities closing x n can) l
 
   module _ (l : 0 < next) where
     pub expanding-room : (next - 1 < length places) × (periodRow + (next - 1) < length links) × (next - 1 < mostFlights)
@@ -332,7 +332,7 @@ module _ {flights places links prices list dist₀ dist via₀ via : List ℕ} {
           expanding-offered sd sv h = record {
             some = s .some;
             price-is = s .price-is;
-            each = λ capacities x n can. stepped (s .each capacities x n can) l i-is f-is u-is b-is (s .price-is) refl refl refl h sd sv;
+            each = λ capacities closing x n can. stepped (s .each capacities closing x n can) l i-is f-is u-is b-is (s .price-is) refl refl refl h sd sv;
           }
 
 -- ---- find_path
@@ -396,7 +396,7 @@ module _ {d : Day} {x : ℕ → ℕ} {places links prices dist via : List ℕ} {
 
       module _ {list : List ℕ} (queue : List ℕ) {all : ℕ} (row : length list ≡ periodRow) (queue-row : length queue ≡ periodRow) (h : Filled (d .capacities) list first target all) where
         lined-first : (dist₁ : List ℕ) → Lined (room-in d) dist₁ none-yet list queue all (due d (el places n)) target 0 0 0
-        lined-first dist₁ = rw first-at at (lined-start dist₁ none-yet queue row queue-row fresh (λ k b. takes-in (d .capacities) k (omega (arith, c .ready .scene .within))) h)
+        lined-first dist₁ = rw first-at at (lined-start dist₁ none-yet queue row queue-row fresh (λ k b. takes-in (d .capacities) (d .closing) k (omega (arith, c .ready .scene .within))) h)
 
         free-list : (y : ℕ) → y ≤ all → 0 < room-in d (el list y)
         free-list = lined-some (lined-first dist) (omega (arith, c .ready .scene .free))
@@ -631,12 +631,12 @@ module _ {d : Day} {places links prices list queue dist via : List ℕ} {n all l
       finding-in = omega (arith, reached plan l k-is .1, reached plan l k-is .0)
 
       pub finding-expand : CanExpandSome (d .flights) places links prices list dist via left target k
-      finding-expand = record { capacities = d .capacities; x = s .x; n = n; can = next-expand plan l k-is }
+      finding-expand = record { capacities = d .capacities; closing = d .closing; x = s .x; n = n; can = next-expand plan l k-is }
 
       module _ {dist₂ via₂ : List ℕ} (h : ExpandedAll (d .flights) places links prices list dist dist₂ via via₂ left target k) where
         each-plan : (x : ℕ → ℕ) (ready : Ready d x places links prices n target)
             → Expanded (scope d places n target) x (ofPeriod prices) target dist dist₂ via via₂ k
-        each-plan x ready = h (d .capacities) x n (next-expand (s .each x ready) l k-is)
+        each-plan x ready = h (d .capacities) (d .closing) x n (next-expand (s .each x ready) l k-is)
 
         pub finding-level : (k < length dist₂) × (target < length dist₂) × (target < periodRow)
         finding-level = level-room plan l k-is (each-plan (s .x) (s .ready))

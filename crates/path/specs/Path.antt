@@ -307,15 +307,16 @@ pub record Expanded (d : Instance) (x p : ℕ → ℕ) (target : ℕ) (dist dist
 -- there is a day with these flights, and a plan of some of them
 pub record CanExpandSome (flights places links prices list dist via : List ℕ) (left target k : ℕ) : Type 0 where
   pub capacities : List ℕ
+  pub closing : ℕ
   pub x : ℕ → ℕ
   pub n : ℕ
-  pub can : CanExpand (day capacities flights) x places links prices list dist via n left target k
+  pub can : CanExpand (day capacities flights closing) x places links prices list dist via n left target k
 
 -- whatever the day and the plan are
 abbrev pub ExpandedAll : (flights places links prices list dist dist₂ via via₂ : List ℕ) (left target k : ℕ) → Type 0
 ExpandedAll flights places links prices list dist dist₂ via via₂ left target k =
-    (capacities : List ℕ) (x : ℕ → ℕ) (n : ℕ) → CanExpand (day capacities flights) x places links prices list dist via n left target k
-    → Expanded (scope (day capacities flights) places n target) x (ofPeriod prices) target dist dist₂ via via₂ k
+    (capacities : List ℕ) (closing : ℕ) (x : ℕ → ℕ) (n : ℕ) → CanExpand (day capacities flights closing) x places links prices list dist via n left target k
+    → Expanded (scope (day capacities flights closing) places n target) x (ofPeriod prices) target dist dist₂ via via₂ k
 
 -- all is far
 pub record CanSearch (d : Day) (x : ℕ → ℕ) (places links prices dist via : List ℕ) (n target : ℕ) : Type 0 where

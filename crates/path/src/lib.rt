@@ -3,7 +3,7 @@ ghost use mathlib.Core.Path.{_≡_};
 ghost use Prim.Native.Nat.{_+_, _<_};
 ghost use lib.ListN.{length};
 ghost use Rattle.assignment.specs.Rows.{el};
-ghost use Rattle.day.specs.Day.{lent, periodRow};
+ghost use Rattle.day.specs.Day.{lent, unlimited, periodRow};
 ghost use Rattle.path.specs.Path.{away, CanList, Filled, Removed, CanNear, NearestIn, CanLevel, Levelled, NextLevel, Nearer, FirstFrom, CanOffer, Offers, CanExpandSome, ExpandedAll, CanSearchSome, SearchedAll};
 use day::FLIGHTS;
 use day::Flight;
@@ -259,8 +259,8 @@ pub fn find_path(
     n: usize,
     target: usize,
 )
-    requires { ⌜ CanSearchSome (lent capacities flights) (now places) (now links) (now prices) (now dist) (now via) n target ⌝ }
-    ensures { λ _. ⌜ SearchedAll (lent (capacities .entry) (flights .entry)) (now (places .entry)) (now (links .entry)) (now (prices .entry)) (now (dist .entry)) (now (dist .exit)) (now (via .entry)) (now (via .exit)) n target ⌝ }
+    requires { ⌜ CanSearchSome (lent capacities flights unlimited) (now places) (now links) (now prices) (now dist) (now via) n target ⌝ }
+    ensures { λ _. ⌜ SearchedAll (lent (capacities .entry) (flights .entry) unlimited) (now (places .entry)) (now (links .entry)) (now (prices .entry)) (now (dist .entry)) (now (dist .exit)) (now (via .entry)) (now (via .exit)) n target ⌝ }
 {
     let mut list = [0u8; PERIOD_ROW];
     let mut queue = [0u8; PERIOD_ROW];

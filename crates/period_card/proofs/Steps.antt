@@ -9,14 +9,17 @@ use lib.ListN.{length, take, length-take}
 use lib.Bits.{bitOr}
 use lib.Count.{ones}
 use borrow.Author.Tests.{lt-ltb, le-ltb, le-leb, lt-leb}
+use Rattle.assignment.specs.Sum.{gate}
+use Rattle.assignment.proofs.Sums.{sum-ext}
 use Rattle.answers.specs.declared.Answer.the-variants.{Done, BadDay, JumpOrLimit, NoSuchPeriod}
 use Rattle.day.specs.Day.{Day, P, N, width, valid, mostPeriods, mostFlights}
 use Rattle.day.specs.Plan.{firstJumpOrLimit}
 use Rattle.day.proofs.Valid.{valid-means}
 use Rattle.quick_plan.specs.Quick.{eligible, rates}
-use Rattle.quick_plan.specs.Loop.{waiting, rowTo}
+use Rattle.quick_plan.specs.Loop.{withoutLine, waiting, rowTo}
 use Rattle.day.proofs.Flights.{there}
 use Rattle.quick_plan.proofs.Rows.{row-eligible, rowTo-length}
+use Rattle.quick_plan.proofs.Same.{eligible-any}
 use Rattle.period_card.specs.PeriodCard.{word, marks, size, card, refused, periodCard}
 use Rattle.period_card.specs.declared.Marks.{Marks}
 use Rattle.period_card.specs.declared.Card.{Card}
@@ -93,6 +96,16 @@ card-is d {h = h} {j = j} v a b eh es =
 
     who : (i : ℕ) → i < N d → waiting d (rowTo d (rates d) (j - 1)) j i ≡ eligible d (rates d) j i
     who i l = rw up at (row-eligible d (rates d) v (j - 1) (omega arith) i l)
+
+-- the closing line changes nothing on it
+pub card-any : (d : Day) {j : ℕ} → j ≤ P d → card (withoutLine d) j ≡ card d j
+unfolding card size
+card-any d {j = j} l =
+    let same = eligible-any d (rates d) j l in
+    rw (
+      marks-ext (eligible (withoutLine d) (rates d) j) (eligible d (rates d) j) (N d) same,
+      sum-ext (N d) (λ i. gate (eligible (withoutLine d) (rates d) j i) 1) (λ i. gate (eligible d (rates d) j i) 1) (λ i b. ap (λ t. gate t 1) (same i b)),
+    )
 
 -- ---- the call
 

@@ -14,7 +14,7 @@ ghost use Prim.Native.Nat.{_^_, _<_, _≤_};
 ghost use lib.Bits.{bitOr};
 ghost use lib.ListN.{length};
 ghost use Rattle.day.specs.Day.{lent, N, valid};
-ghost use Rattle.quick_plan.specs.Loop.{waiting};
+ghost use Rattle.quick_plan.specs.Loop.{lentRows, waiting};
 ghost use Rattle.period_card.specs.PeriodCard.{marks, refused, card, periodCard};
 
 // A set of table places: the flight at place i is bit i mod 64 of word i/64.
@@ -40,8 +40,8 @@ fn mark(word: u64, i: usize) -> u64
 
 // Who waits in period j.
 fn marks_of(capacities: &[u32], flights: &[u32], holds: &[u32], j: usize) -> Marks
-    requires { ⌜ (valid (lent capacities flights) ≡ true) × (length (now holds) ≡ N (lent capacities flights)) ⌝ }
-    ensures { λ r. ⌜ r ≡ marks (waiting (lent (capacities .entry) (flights .entry)) (now (holds .entry)) j) (length (now (holds .entry))) ⌝ }
+    requires { ⌜ (valid (lentRows capacities flights) ≡ true) × (length (now holds) ≡ N (lentRows capacities flights)) ⌝ }
+    ensures { λ r. ⌜ r ≡ marks (waiting (lentRows (capacities .entry) (flights .entry)) (now (holds .entry)) j) (length (now (holds .entry))) ⌝ }
 {
     let mut low: u64 = 0;
     let mut high: u64 = 0;
@@ -62,9 +62,9 @@ fn marks_of(capacities: &[u32], flights: &[u32], holds: &[u32], j: usize) -> Mar
 
 // The card of period j, with a row to plan the periods before it in.
 fn card_in(capacities: &[u32], flights: &[u32], row: &mut [u32], n: usize, j: usize) -> Card
-    requires { ⌜ (valid (lent capacities flights) ≡ true) × (n ≡ N (lent capacities flights)) × (1 ≤ j) × (j ≤ length (now capacities)) ⌝ }
+    requires { ⌜ (valid (lentRows capacities flights) ≡ true) × (n ≡ N (lentRows capacities flights)) × (1 ≤ j) × (j ≤ length (now capacities)) ⌝ }
     requires { ⌜ n ≤ length (now row) ⌝ }
-    ensures { λ r. ⌜ r ≡ card (lent (capacities .entry) (flights .entry)) j ⌝ }
+    ensures { λ r. ⌜ r ≡ card (lentRows (capacities .entry) (flights .entry)) j ⌝ }
 {
     let part = &mut row[0..n];
     plan_to(NextCost::Rate, capacities, flights, part, j - 1);
@@ -89,11 +89,12 @@ fn refusal(answer: Answer) -> Card
     }
 }
 
-// The card of a period. Refusals, in this order: 6, a bad day; 8, the first flight with a jump or a limit; 11, no such period.
-pub fn period_card(capacities: &[u32], flights: &[u32], period: u32) -> Card
-    ensures { λ r. ⌜ r ≡ periodCard (lent (capacities .entry) (flights .entry)) period ⌝ }
+// The card of a period, whatever the closing period takes. Refusals, in this order: 6, a bad day; 8, the first flight with a jump or a limit;
+// 11, no such period.
+pub fn period_card(capacities: &[u32], flights: &[u32], closing: u32, period: u32) -> Card
+    ensures { λ r. ⌜ r ≡ periodCard (lent (capacities .entry) (flights .entry) closing) period ⌝ }
 {
-    if !is_valid(capacities, flights) {
+    if !is_valid(capacities, flights, closing) {
         return refusal(Answer::BadDay);
     }
     let n = flight_count(flights);

@@ -1,18 +1,19 @@
 -- The call: its refusals in their order, the rows that the text is read into, and the plan copied.
 -- Assumes nothing.
-use Prim.Native.Nat.{ℕ, _≤_, _-_}
+use Prim.Native.Nat.{ℕ, _≤_, _<_, _-_}
 use native.Mathlib.Omega.{arith}
 use mathlib.Core.Path.{_≡_, refl, sym, ap, _∙_}
 use mathlib.Core.Bool.{true, false}
 use mathlib.Core.List.{List, _++_, append-nil}
 use lib.ListN.{length, take, drop, length-append}
-use lib.Seq.{take-at, take-append-seam, drop-length, length-take-le, take-length}
+use lib.Seq.{take-at, drop-length, length-take-le, getD-take}
 use borrow.Author.Tests.{eq-eqb, ne-eqb}
 use Rattle.answers.specs.declared.Answer.{Answer}
 use Rattle.answers.specs.declared.Answer.the-variants.{Planned, BadDay, BadLength, BadPlanText}
-use Rattle.day.specs.Day.{Day, P, N, valid}
+use Rattle.day.specs.Day.{Day, P, N, mostPeriods, valid}
+use Rattle.day.proofs.Costs.{period-in}
 use Rattle.day.proofs.Valid.{valid-means}
-use Rattle.completion.specs.Loop.{Partial}
+use Rattle.completion.specs.Loop.{AllPlaces, Partial}
 use Rattle.completion.proofs.Completion.{partial-start}
 use Rattle.plan_reader.specs.PlanReading.{TextRead, accepted, refused, ReadPlan}
 use Rattle.plan_reader.specs.Loop.{RowsRead, LargeRows}
@@ -46,22 +47,19 @@ module _ {d : Day} {h row left : List ℕ} (r : LargeRows d h row left) where
   pub row-holds : length h ≤ length row
   row-holds = omega (arith, valid-means (r .good) .flights-to, r .each, r .row-long)
 
-  pub left-holds : P d ≤ length left
-  left-holds = omega (arith, valid-means (r .good) .periods-to, r .left-long)
+  pub left-holds : (P d ≤ mostPeriods) × (P d < length left)
+  left-holds = let to = valid-means (r .good) .periods-to in (to, omega (arith, to, r .left-long))
 
-  -- the capacities are copied to the front of a row
-  module _ {copied : List ℕ} (is : copied ≡ take (P d) (d .capacities) ++ drop (P d) left) where
-    all : take (P d) (d .capacities) ≡ d .capacities
-    all = take-length (d .capacities)
-
-    pub copied-holds : P d ≤ length copied
-    copied-holds = omega (arith, ap length is, length-append (take (P d) (d .capacities)) (drop (P d) left), ap length all)
-
-    pub in-starts : Partial d (take (length h - 0) row) (take (P d - 0) copied) 0
-    in-starts =
-        let z : length h - 0 ≡ length h = omega arith in
-        let y : P d - 0 ≡ P d = omega arith in
-        partial-start (r .good) (rw z (length-take-le (length h) row row-holds) ∙ r .each) (rw (y, is, all) (take-append-seam (d .capacities) (drop (P d) left)))
+  -- the places of the whole day stand in the front of a row
+  pub in-starts : {places : List ℕ} {n : ℕ} → AllPlaces (d .capacities) (d .closing) places n
+      → Partial d (take (length h - 0) row) (take (n - 0) places) 0
+  in-starts {places} {n} all =
+      let z : length h - 0 ≡ length h = omega arith in
+      let y : n - 0 ≡ n = omega arith in
+      rw y (partial-start (r .good) (rw z (length-take-le (length h) row row-holds) ∙ r .each) (length-take-le n places (all .there) ∙ all .counted-is)
+      (λ k a b.
+      let to : k ≤ n = omega (arith, all .counted-is) in
+      period-in (take n places) k (omega arith) ∙ getD-take n places (k - 1) 0 (omega arith) ∙ sym (period-in places k (omega arith)) ∙ all .each k a to))
 
   -- the plan is copied to a row of its length
   module _ {s part : List ℕ} (post : List ℕ) {t : ℕ} (w : RowsRead d s part (Whole t)) where

@@ -117,4 +117,4 @@ pub record LargeRows (d : Day) (holds row left : List ℕ) : Type 0 where
   pub good : valid d ≡ true
   pub each : length holds ≡ N d
   pub row-long : length row ≡ mostFlights
-  pub left-long : length left ≡ mostPeriods
+  pub left-long : length left ≡ mostPeriods + 1

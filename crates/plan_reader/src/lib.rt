@@ -11,6 +11,7 @@ ghost use Rattle.plan_reader.specs.PlanReading.{TextRead, ReadPlan};
 ghost use Rattle.plan_reader.specs.Loop.{Shows, HoldRead, frontLines, Read, LinesRead, BehindMost, CanEnd, EndRead, RowsRead, LargeRows};
 use answers::Answer;
 use completion::Most;
+use completion::all_places;
 use completion::most_completed;
 use completion::take_landing;
 use day::FLIGHTS;
@@ -94,12 +95,13 @@ fn hold_at(text: &[u8], at: usize, flights: &[u32], i: usize) -> Number
 fn read_lines(
     capacities: &[u32],
     flights: &[u32],
+    closing: u32,
     text: &[u8],
     holds: &mut [u32],
     left: &mut [u32],
 ) -> Front
-    requires { ⌜ Read (lent capacities flights) (now text) (now holds) (now left) 0 (length planNames) ⌝ }
-    ensures { λ r. ⌜ LinesRead (lent (capacities .entry) (flights .entry)) (now (text .entry)) (now (holds .exit)) (now (left .exit)) r ⌝ }
+    requires { ⌜ Read (lent capacities flights closing) (now text) (now holds) (now left) 0 (length planNames) ⌝ }
+    ensures { λ r. ⌜ LinesRead (lent (capacities .entry) (flights .entry) closing) (now (text .entry)) (now (holds .exit)) (now (left .exit)) r ⌝ }
 {
     let n = flight_count(flights);
     let mut at = PLAN_NAMES_LEN;
@@ -110,7 +112,7 @@ fn read_lines(
             return Front { flights: i, at };
         };
         holds[i] = hold;
-        if !take_landing(capacities, flights, holds, i, left) {
+        if !take_landing(capacities, flights, closing, holds, i, left) {
             return Front { flights: i, at };
         }
         i += 1;
@@ -132,14 +134,15 @@ fn place_behind(flights: &[u32], holds: &[u32], m: usize) -> usize
 fn first_wrong(
     capacities: &[u32],
     flights: &[u32],
+    closing: u32,
     holds: &[u32],
     i: usize,
     left: &mut [u32],
 ) -> usize
-    requires { ⌜ Partial (lent capacities flights) (now holds) (now left) i ⌝ }
-    ensures { λ r. ⌜ BehindMost (lent (capacities .entry) (flights .entry)) (now (holds .entry)) i r ⌝ }
+    requires { ⌜ Partial (lent capacities flights closing) (now holds) (now left) i ⌝ }
+    ensures { λ r. ⌜ BehindMost (lent (capacities .entry) (flights .entry) closing) (now (holds .entry)) i r ⌝ }
 {
-    let most = most_completed(capacities, flights, holds, i, left);
+    let most = most_completed(capacities, flights, closing, holds, i, left);
     match most {
         Most::NoPlan => 0,
         Most::Flights(m) => place_behind(flights, holds, m),
@@ -182,26 +185,27 @@ fn read_end(flights: &[u32], text: &[u8], holds: &[u32], at: usize) -> End
     End::Whole { total }
 }
 
-// Reads a text into rows of ours: holds for the day's flights, and the capacities that they leave.
+// Reads a text into rows of ours: holds for the day's flights, and the places that they leave.
 fn read_rows(
     capacities: &[u32],
     flights: &[u32],
+    closing: u32,
     text: &[u8],
     holds: &mut [u32],
     left: &mut [u32],
 ) -> End
-    requires { ⌜ Partial (lent capacities flights) (now holds) (now left) 0 ⌝ }
-    ensures { λ r. ⌜ RowsRead (lent (capacities .entry) (flights .entry)) (now (text .entry)) (now (holds .exit)) r ⌝ }
+    requires { ⌜ Partial (lent capacities flights closing) (now holds) (now left) 0 ⌝ }
+    ensures { λ r. ⌜ RowsRead (lent (capacities .entry) (flights .entry) closing) (now (text .entry)) (now (holds .exit)) r ⌝ }
 {
     if !names_here(text) {
         return End::Wrong { line: 0 };
     }
-    let front = read_lines(capacities, flights, text, holds, left);
+    let front = read_lines(capacities, flights, closing, text, holds, left);
     let i = front.flights;
     let at = front.at;
     if i < flight_count(flights) {
         return End::Wrong {
-            line: first_wrong(capacities, flights, holds, i, left),
+            line: first_wrong(capacities, flights, closing, holds, i, left),
         };
     }
     read_end(flights, text, holds, at)
@@ -211,18 +215,25 @@ fn read_rows(
 fn read_in(
     capacities: &[u32],
     flights: &[u32],
+    closing: u32,
     text: &[u8],
     holds: &mut [u32],
     row: &mut [u32],
     left: &mut [u32],
 ) -> Answer
-    requires { ⌜ LargeRows (lent capacities flights) (now holds) (now row) (now left) ⌝ }
-    ensures { λ r. ⌜ TextRead (lent (capacities .entry) (flights .entry)) (now (text .entry)) r (now (holds .entry)) (now (holds .exit)) ⌝ }
+    requires { ⌜ LargeRows (lent capacities flights closing) (now holds) (now row) (now left) ⌝ }
+    ensures { λ r. ⌜ TextRead (lent (capacities .entry) (flights .entry) closing) (now (text .entry)) r (now (holds .entry)) (now (holds .exit)) ⌝ }
 {
     let n = holds.len();
-    let p = capacities.len();
-    copy_front(capacities, left, p);
-    let end = read_rows(capacities, flights, text, &mut row[0..n], &mut left[0..p]);
+    let counted = all_places(capacities, closing, left);
+    let end = read_rows(
+        capacities,
+        flights,
+        closing,
+        text,
+        &mut row[0..n],
+        &mut left[0..counted],
+    );
     match end {
         End::Wrong { line } => Answer::BadPlanText { line },
         End::Whole { total } => {
@@ -234,10 +245,16 @@ fn read_in(
 
 // Fills the hold row with the legal plan whose text this is, and answers its total, for a day, a text and a row of any content and length.
 // Refusals, in this order: 6; 7; 15 with the first line with which no legal plan's text goes on. They leave the row as it was.
-pub fn read_plan(capacities: &[u32], flights: &[u32], text: &[u8], holds: &mut [u32]) -> Answer
-    ensures { λ r. ⌜ ReadPlan (lent (capacities .entry) (flights .entry)) (now (text .entry)) r (now (holds .entry)) (now (holds .exit)) ⌝ }
+pub fn read_plan(
+    capacities: &[u32],
+    flights: &[u32],
+    closing: u32,
+    text: &[u8],
+    holds: &mut [u32],
+) -> Answer
+    ensures { λ r. ⌜ ReadPlan (lent (capacities .entry) (flights .entry) closing) (now (text .entry)) r (now (holds .entry)) (now (holds .exit)) ⌝ }
 {
-    if !is_valid(capacities, flights) {
+    if !is_valid(capacities, flights, closing) {
         return Answer::BadDay;
     }
     let n = flight_count(flights);
@@ -245,6 +262,14 @@ pub fn read_plan(capacities: &[u32], flights: &[u32], text: &[u8], holds: &mut [
         return Answer::BadLength { needed: n };
     }
     let mut row = [0u32; FLIGHTS];
-    let mut left = [0u32; PERIODS];
-    read_in(capacities, flights, text, holds, &mut row, &mut left)
+    let mut left = [0u32; PERIODS + 1];
+    read_in(
+        capacities,
+        flights,
+        closing,
+        text,
+        holds,
+        &mut row,
+        &mut left,
+    )
 }

@@ -159,14 +159,15 @@ fn write_legal(
 pub fn write_plan(
     capacities: &[u32],
     flights: &[u32],
+    closing: u32,
     holds: &[u32],
     text: &mut [u8],
     place: usize,
 ) -> Answer
-    ensures { λ r. ⌜ r ≡ planTextAnswer (lent (capacities .entry) (flights .entry)) (now (holds .entry)) (now (text .entry)) place ⌝ }
-    ensures { λ _. ⌜ now (text .exit) ≡ planTextAfter (lent (capacities .entry) (flights .entry)) (now (holds .entry)) (now (text .entry)) place ⌝ }
+    ensures { λ r. ⌜ r ≡ planTextAnswer (lent (capacities .entry) (flights .entry) closing) (now (holds .entry)) (now (text .entry)) place ⌝ }
+    ensures { λ _. ⌜ now (text .exit) ≡ planTextAfter (lent (capacities .entry) (flights .entry) closing) (now (holds .entry)) (now (text .entry)) place ⌝ }
 {
-    let found = check_plan(capacities, flights, holds);
+    let found = check_plan(capacities, flights, closing, holds);
     match found {
         PlanCheck::Refused(refusal) => refusal,
         PlanCheck::Legal { total } => write_legal(flights, holds, total, text, place),

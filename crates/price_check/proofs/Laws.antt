@@ -12,11 +12,12 @@ use Rattle.assignment.specs.Sum.{count}
 use Rattle.assignment.proofs.Tests.{eq?, gate-eq, gate-ne}
 use Rattle.assignment.proofs.Sums.{count-suc, count-zero}
 use Rattle.day.specs.declared.Flight.{Flight}
-use Rattle.day.specs.Day.{Day, P, N, column, flightAt, holdCost, latestOf, due, ofPeriod, capacity, cost, latest, hold, landOf, land, landings, valid, width}
+use Rattle.day.specs.Day.{Day, day, unlimited, P, N, column, flightAt, holdCost, latestOf, due, ofPeriod, takes, counted, cost, latest, hold, landOf, land, landings, valid, width}
 use Rattle.day.specs.Plan.{Legal, Cheapest, Accepted}
 use Rattle.day.proofs.Flights.{due-read}
 use Rattle.day.proofs.Instance.{hold-le, cost-le, accepted-is-cheapest}
 use Rattle.day.specs.Valid.{Valid}
+use Rattle.day.proofs.Curfew.{same-window, window-same}
 use Rattle.day.proofs.Valid.{valid-means}
 use Rattle.answers.specs.declared.Answer.{Answer}
 use Rattle.legality.specs.Check.{planCheck}
@@ -78,12 +79,12 @@ module _ {d : Day} {h p : List ℕ} {k : ℕ} where
   pub unsold-free : UnsoldTo d h p k → {x : ℕ} → x ≡ ofPeriod p k → x ≡ 0 → UnsoldTo d h p (k + 1)
   unsold-free upto e none = unsold-more upto (record { free = λ _. sym e ∙ none })
 
-  pub unsold-full : UnsoldTo d h p k → {n c : ℕ} → length h ≡ N d → n ≡ count (length h) (land d h) k → c ≡ capacity d k → c ≤ n → UnsoldTo d h p (k + 1)
+  pub unsold-full : UnsoldTo d h p k → {n c : ℕ} → length h ≡ N d → n ≡ count (length h) (land d h) k → c ≡ takes d k → c ≤ n → UnsoldTo d h p (k + 1)
   unsold-full upto each e f full = unsold-more upto (record { free = λ less. absurd (omega (arith, all-counted d h k each e)) })
 
-  pub unsold-not : 1 ≤ k → k ≤ P d → {x n c : ℕ} → x ≡ ofPeriod p k → (x ≡ 0 → ⊥) → length h ≡ N d → n ≡ count (length h) (land d h) k
-      → c ≡ capacity d k → n < c
-      → ((j : ℕ) → 1 ≤ j → j ≤ P d → Unsold d h p j) → ⊥
+  pub unsold-not : 1 ≤ k → k ≤ counted d → {x n c : ℕ} → x ≡ ofPeriod p k → (x ≡ 0 → ⊥) → length h ≡ N d → n ≡ count (length h) (land d h) k
+      → c ≡ takes d k → n < c
+      → ((j : ℕ) → 1 ≤ j → j ≤ counted d → Unsold d h p j) → ⊥
   unsold-not a b e some each f g less said = some (e ∙ said k a b .free (omega (arith, all-counted d h k each f)))
 
 -- ---- least cost and price
@@ -175,26 +176,37 @@ module _ (d : Day) (h p : List ℕ) where
   pub no-plan : (((valid d ≡ true) × Legal d h) → ⊥) → Outcome false
   no-plan n = refuse (λ s. n (s .0, s .1 .legal))
 
-  pub no-length : (length p ≡ P d → ⊥) → Outcome false
+  pub no-length : (length p ≡ counted d → ⊥) → Outcome false
   no-length n = refuse (λ s. n (s .1 .each))
 
-  pub no-unsold : (((k : ℕ) → 1 ≤ k → k ≤ P d → Unsold d h p k) → ⊥) → Outcome false
+  pub no-unsold : (((k : ℕ) → 1 ≤ k → k ≤ counted d → Unsold d h p k) → ⊥) → Outcome false
   no-unsold n = refuse (λ s. n (λ k a b. record { free = s .1 .unsold k a b }))
 
-  pub by-best : (valid d ≡ true) × Legal d h → length p ≡ P d → ((k : ℕ) → 1 ≤ k → k ≤ P d → Unsold d h p k) → {r : Bool}
-      → Decides r ((i : ℕ) → i < length h → Best d h p i) → Outcome r
+-- how many may land in the closing period changes nothing of what a flight pays
+best-with : (c f : List ℕ) (closing : ℕ) {h p : List ℕ} {i : ℕ} → Best (day c f unlimited) h p i → Best (day c f closing) h p i
+best-with c f closing best = record { least = λ k w. best .least k (same-window c f closing unlimited (omega arith) w) }
+
+module _ (c f : List ℕ) (closing : ℕ) (h p : List ℕ) where
+  abbrev d : Day
+  d = day c f closing
+
+  pub by-best : (valid d ≡ true) × Legal d h → length p ≡ counted d → ((k : ℕ) → 1 ≤ k → k ≤ counted d → Unsold d h p k) → {r : Bool}
+      → Decides r ((i : ℕ) → i < length h → Best (day c f unlimited) h p i) → Outcome d h p r
   by-best legal each unsold {r} best = (
-    record { yes = λ e. (legal .0, accept (best .yes e)); no = λ e s. best .no e (λ i b. record { least = λ k win. s .1 .least i k (omega (arith, legal .1 .each)) win }) },
+    record { yes = λ e. (legal .0, accept (best .yes e)); no = λ e s. best .no e (λ i b. refuse-with i b (s .1)) },
     λ e. accepted-is-cheapest (valid-means (legal .0)) (accept (best .yes e)),
   )
     where
-      accept : ((i : ℕ) → i < length h → Best d h p i) → Accepted d h p
+      accept : ((i : ℕ) → i < length h → Best (day c f unlimited) h p i) → Accepted d h p
       accept all = record {
         legal = legal .1;
         each = each;
         unsold = λ k a b. unsold k a b .free;
-        least = λ i k b win. all i (omega (arith, legal .1 .each)) .least k win;
+        least = λ i k b win. best-with c f closing (all i (omega (arith, legal .1 .each))) .least k win;
       }
+
+      refuse-with : (i : ℕ) → i < length h → Accepted d h p → Best (day c f unlimited) h p i
+      refuse-with i b said = record { least = λ k win. said .least i k (omega (arith, legal .1 .each)) (window-same c f closing unlimited (omega arith) win) }
 
 -- ---- the check of the holds
 

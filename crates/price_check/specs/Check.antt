@@ -3,11 +3,11 @@
 use mathlib.Core.Path.{_≡_}
 use mathlib.Core.List.{List}
 use Prim.Native.Nat.{ℕ, _+_, _-_, _≤_, _<_}
-use Rattle.day.specs.Day.{Day, due, ofPeriod, capacity, cost, Window, hold, land, landings}
+use Rattle.day.specs.Day.{Day, due, ofPeriod, takes, cost, Window, hold, land, landings}
 
--- "a period 1 to P that isn't full has price 0"
+-- "a period 1 to P that isn't full has price 0", and the closing period where its landings are counted (#108)
 pub record Unsold (d : Day) (holds prices : List ℕ) (k : ℕ) : Type 0 where
-  pub free : landings d holds k < capacity d k → ofPeriod prices k ≡ 0
+  pub free : landings d holds k < takes d k → ofPeriod prices k ≡ 0
 
 -- "each flight's cost plus the price of its landing period is least"
 abbrev pub Least : Day → (holds prices : List ℕ) → (i k : ℕ) → Type 0

@@ -3,11 +3,13 @@ ghost use mathlib.Core.Path.{_≡_};
 ghost use mathlib.Core.Bool.{true, false};
 ghost use Prim.Native.Nat.{ℕ, _*_, _<_, _≤_};
 ghost use lib.ListN.{length};
-ghost use Rattle.day.specs.Day.{lent, N, width, landOf, valid};
+ghost use Rattle.day.specs.Day.{lent, unlimited, N, counted, width, landOf, valid};
 ghost use Rattle.assignment.specs.Sum.{count};
 ghost use Rattle.day.specs.Plan.{Legal, Cheapest, Accepted};
 ghost use Rattle.answers.specs.Decides.{Decides};
 ghost use Rattle.price_check.specs.Check.{Unsold, Best};
+use day::capacity_of;
+use day::counted_of;
 use day::flight_at;
 use day::hold_cost;
 use day::land_of;
@@ -34,18 +36,25 @@ fn landings_of(flights: &[u32], holds: &[u32], k: usize) -> usize
     count
 }
 
-// Every period of 1 to P that isn't full has price 0.
-fn are_unsold(capacities: &[u32], flights: &[u32], holds: &[u32], prices: &[u32]) -> bool
-    requires { ⌜ valid (lent capacities flights) ≡ true ⌝ }
-    requires { ⌜ length (now holds) ≡ N (lent capacities flights) ⌝ }
-    ensures { λ r. ⌜ Decides r ((k : ℕ) → 1 ≤ k → k ≤ length (now (capacities .entry)) → Unsold (lent (capacities .entry) (flights .entry)) (now (holds .entry)) (now (prices .entry)) k) ⌝ }
+// Every period that is counted and isn't full has price 0.
+fn are_unsold(
+    capacities: &[u32],
+    flights: &[u32],
+    closing: u32,
+    holds: &[u32],
+    prices: &[u32],
+) -> bool
+    requires { ⌜ valid (lent capacities flights closing) ≡ true ⌝ }
+    requires { ⌜ length (now holds) ≡ N (lent capacities flights closing) ⌝ }
+    ensures { λ r. ⌜ Decides r ((k : ℕ) → 1 ≤ k → k ≤ counted (lent (capacities .entry) (flights .entry) closing) → Unsold (lent (capacities .entry) (flights .entry) closing) (now (holds .entry)) (now (prices .entry)) k) ⌝ }
 {
+    let last = counted_of(capacities.len(), closing);
     let mut k = 1;
-    while k <= capacities.len() {
+    while k <= last {
         let period = k;
         k += 1;
         if of_period(prices, period) != 0 {
-            if landings_of(flights, holds, period) < of_period(capacities, period) {
+            if landings_of(flights, holds, period) < capacity_of(capacities, closing, period) {
                 return false;
             }
         }
@@ -53,11 +62,12 @@ fn are_unsold(capacities: &[u32], flights: &[u32], holds: &[u32], prices: &[u32]
     true
 }
 
-// The flight at table place i lands where its cost and the price together are least.
+// The flight at table place i lands where its cost and the price together are least. How many may land in the closing period does not
+// matter here: its window, its cost and the prices are the same on the day without a closing line.
 fn is_best(capacities: &[u32], flights: &[u32], holds: &[u32], prices: &[u32], i: usize) -> bool
-    requires { ⌜ (valid (lent capacities flights) ≡ true) × Legal (lent capacities flights) (now holds) ⌝ }
+    requires { ⌜ (valid (lent capacities flights unlimited) ≡ true) × Legal (lent capacities flights unlimited) (now holds) ⌝ }
     requires { ⌜ i < length (now holds) ⌝ }
-    ensures { λ r. ⌜ Decides r (Best (lent (capacities .entry) (flights .entry)) (now (holds .entry)) (now (prices .entry)) i) ⌝ }
+    ensures { λ r. ⌜ Decides r (Best (lent (capacities .entry) (flights .entry) unlimited) (now (holds .entry)) (now (prices .entry)) i) ⌝ }
 {
     let flight = flight_at(flights, i);
     let due = wide(flight.due);
@@ -78,8 +88,8 @@ fn is_best(capacities: &[u32], flights: &[u32], holds: &[u32], prices: &[u32], i
 }
 
 fn are_best(capacities: &[u32], flights: &[u32], holds: &[u32], prices: &[u32]) -> bool
-    requires { ⌜ (valid (lent capacities flights) ≡ true) × Legal (lent capacities flights) (now holds) ⌝ }
-    ensures { λ r. ⌜ Decides r ((i : ℕ) → i < length (now (holds .entry)) → Best (lent (capacities .entry) (flights .entry)) (now (holds .entry)) (now (prices .entry)) i) ⌝ }
+    requires { ⌜ (valid (lent capacities flights unlimited) ≡ true) × Legal (lent capacities flights unlimited) (now holds) ⌝ }
+    ensures { λ r. ⌜ Decides r ((i : ℕ) → i < length (now (holds .entry)) → Best (lent (capacities .entry) (flights .entry) unlimited) (now (holds .entry)) (now (prices .entry)) i) ⌝ }
 {
     let mut i = 0;
     while i < holds.len() {
@@ -92,10 +102,10 @@ fn are_best(capacities: &[u32], flights: &[u32], holds: &[u32], prices: &[u32]) 
 }
 
 // The holds are legal for a valid day.
-fn is_legal(capacities: &[u32], flights: &[u32], holds: &[u32]) -> bool
-    ensures { λ r. ⌜ Decides r ((valid (lent (capacities .entry) (flights .entry)) ≡ true) × Legal (lent (capacities .entry) (flights .entry)) (now (holds .entry))) ⌝ }
+fn is_legal(capacities: &[u32], flights: &[u32], closing: u32, holds: &[u32]) -> bool
+    ensures { λ r. ⌜ Decides r ((valid (lent (capacities .entry) (flights .entry) closing) ≡ true) × Legal (lent (capacities .entry) (flights .entry) closing) (now (holds .entry))) ⌝ }
 {
-    let found = check_plan(capacities, flights, holds);
+    let found = check_plan(capacities, flights, closing, holds);
     match found {
         PlanCheck::Legal { total } => true,
         PlanCheck::Refused(refusal) => false,
@@ -103,17 +113,23 @@ fn is_legal(capacities: &[u32], flights: &[u32], holds: &[u32]) -> bool
 }
 
 // Yes exactly if the day is valid and the prices are accepted. A yes means that no legal plan is cheaper.
-pub fn price_check(capacities: &[u32], flights: &[u32], holds: &[u32], prices: &[u32]) -> bool
-    ensures exact { λ r. ⌜ Decides r ((valid (lent (capacities .entry) (flights .entry)) ≡ true) × Accepted (lent (capacities .entry) (flights .entry)) (now (holds .entry)) (now (prices .entry))) ⌝ }
-    ensures cheapest { λ r. ⌜ (r ≡ true → Cheapest (lent (capacities .entry) (flights .entry)) (now (holds .entry))) ⌝ }
+pub fn price_check(
+    capacities: &[u32],
+    flights: &[u32],
+    closing: u32,
+    holds: &[u32],
+    prices: &[u32],
+) -> bool
+    ensures exact { λ r. ⌜ Decides r ((valid (lent (capacities .entry) (flights .entry) closing) ≡ true) × Accepted (lent (capacities .entry) (flights .entry) closing) (now (holds .entry)) (now (prices .entry))) ⌝ }
+    ensures cheapest { λ r. ⌜ (r ≡ true → Cheapest (lent (capacities .entry) (flights .entry) closing) (now (holds .entry))) ⌝ }
 {
-    if !is_legal(capacities, flights, holds) {
+    if !is_legal(capacities, flights, closing, holds) {
         return false;
     }
-    if prices.len() != capacities.len() {
+    if prices.len() != counted_of(capacities.len(), closing) {
         return false;
     }
-    if !are_unsold(capacities, flights, holds, prices) {
+    if !are_unsold(capacities, flights, closing, holds, prices) {
         return false;
     }
     are_best(capacities, flights, holds, prices)

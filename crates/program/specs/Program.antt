@@ -29,7 +29,7 @@ pub data PrintsDay (d : Day) (out : List ℕ) : Type 0 where
 
 -- what is printed for a sheet that was read, or refused
 abbrev pub PrintsReading : Reading → List ℕ → Type 0
-PrintsReading (read capacities flights) out = PrintsDay (day capacities (rowOf flights)) out
+PrintsReading (read capacities flights closing) out = PrintsDay (day capacities (rowOf flights) closing) out
 PrintsReading (refused a) out = out ≡ refusalOf a
 
 -- what is printed for the bytes of a sheet

@@ -1,9 +1,9 @@
 // What the program does between reading and writing: of the bytes of a day sheet, the text of its full plan or of its refusal.
 ghost use mathlib.Core.Path.{_≡_};
 ghost use mathlib.Core.Bool.{true};
-ghost use Prim.Native.Nat.{_*_, _≤_};
+ghost use Prim.Native.Nat.{_+_, _*_, _≤_};
 ghost use lib.ListN.{length, take};
-ghost use Rattle.day.specs.Day.{lent, mostPeriods, mostFlights, width, P, N, valid};
+ghost use Rattle.day.specs.Day.{lent, mostPeriods, mostFlights, width, counted, N, valid};
 ghost use Rattle.day.specs.Plan.{Legal};
 ghost use Rattle.plan_text.specs.PlanText.{planText};
 ghost use Rattle.program.specs.Program.{Front, refusalOf, PrintsDay, Prints, Answered};
@@ -12,9 +12,13 @@ use answers::code_of;
 use day::FLIGHT_ROW;
 use day::FLIGHTS;
 use day::PERIODS;
+use day::counted_of;
 
 // Every answer fits this many bytes.
 const ROOM: usize = 4096;
+
+// A price for each period and, with a closing line, one for the closing period.
+const PRICES: usize = PERIODS + 1;
 
 // Rows of zeros for a day and its plan. Their lengths are all that a caller needs to know.
 fn capacity_row() -> [u32; PERIODS]
@@ -35,6 +39,12 @@ fn hold_row() -> [u32; FLIGHTS]
     [0; FLIGHTS]
 }
 
+fn price_row() -> [u32; PRICES]
+    ensures { λ r. ⌜ mostPeriods + 1 ≡ length r ⌝ }
+{
+    [0; PRICES]
+}
+
 // The two lines of a refusal, at the front of the text; how many bytes.
 fn put_refusal(answer: Answer, text: &mut [u8]) -> usize
     requires { ⌜ 4096 ≤ length (now text) ⌝ }
@@ -49,30 +59,38 @@ fn put_refusal(answer: Answer, text: &mut [u8]) -> usize
 }
 
 // The text of a legal plan, at the front of the text; how many bytes.
-fn put_plan(capacities: &[u32], flights: &[u32], holds: &[u32], text: &mut [u8]) -> usize
-    requires { ⌜ (valid (lent capacities flights) ≡ true) × Legal (lent capacities flights) (now holds) × (4096 ≤ length (now text)) ⌝ }
+fn put_plan(
+    capacities: &[u32],
+    flights: &[u32],
+    closing: u32,
+    holds: &[u32],
+    text: &mut [u8],
+) -> usize
+    requires { ⌜ (valid (lent capacities flights closing) ≡ true) × Legal (lent capacities flights closing) (now holds) × (4096 ≤ length (now text)) ⌝ }
     ensures { λ r. ⌜ Front (now (text .exit)) r (planText (now (flights .entry)) (now (holds .entry))) ⌝ }
 {
-    let written = code_of(plan_text::write_plan(capacities, flights, holds, text, 0));
-    written.first as usize
+    let written = plan_text::write_plan(capacities, flights, closing, holds, text, 0);
+    let code = code_of(written);
+    code.first as usize
 }
 
 // The full plan of a valid day, or the stretch that leaves none, at the front of the text; how many bytes.
 fn plan_day(
     capacities: &[u32],
     flights: &[u32],
+    closing: u32,
     holds: &mut [u32],
     prices: &mut [u32],
     text: &mut [u8],
 ) -> usize
-    requires { ⌜ (valid (lent capacities flights) ≡ true) × (length (now holds) ≡ N (lent capacities flights)) × (length (now prices) ≡ P (lent capacities flights)) × (4096 ≤ length (now text)) ⌝ }
-    ensures { λ r. ⌜ (r ≤ length (now (text .exit))) × PrintsDay (lent (capacities .entry) (flights .entry)) (take r (now (text .exit))) ⌝ }
+    requires { ⌜ (valid (lent capacities flights closing) ≡ true) × (length (now holds) ≡ N (lent capacities flights closing)) × (length (now prices) ≡ counted (lent capacities flights closing)) × (4096 ≤ length (now text)) ⌝ }
+    ensures { λ r. ⌜ (r ≤ length (now (text .exit))) × PrintsDay (lent (capacities .entry) (flights .entry) closing) (take r (now (text .exit))) ⌝ }
 {
-    let planned = full_plan::full_plan(capacities, flights, holds, prices);
+    let planned = full_plan::full_plan(capacities, flights, closing, holds, prices);
     let code = code_of(planned);
     let number = code.number;
     if number == 0 {
-        return put_plan(capacities, flights, holds, text);
+        return put_plan(capacities, flights, closing, holds, text);
     }
     put_refusal(planned, text)
 }
@@ -85,20 +103,24 @@ fn answer_sheet(sheet: &[u8], text: &mut [u8]) -> usize
     let mut capacities = capacity_row();
     let mut flights = flight_row();
     let mut holds = hold_row();
-    let mut prices = capacity_row();
+    let mut prices = price_row();
     let read = sheet_reader::read_sheet(sheet, &mut capacities, &mut flights);
-    let code = code_of(read);
+    let answer = read.answer;
+    let code = code_of(answer);
     let number = code.number;
     if number != 0 {
-        return put_refusal(read, text);
+        return put_refusal(answer, text);
     }
     let periods = code.first as usize;
     let count = code.second as usize;
+    let closing = read.closing;
+    let priced = counted_of(periods, closing);
     plan_day(
         &capacities[0..periods],
         &flights[0..count * day::WIDTH],
+        closing,
         &mut holds[0..count],
-        &mut prices[0..periods],
+        &mut prices[0..priced],
         text,
     )
 }

@@ -2,12 +2,13 @@
 -- Assumes nothing.
 use mathlib.Core.Path.{_≡_, refl}
 use mathlib.Core.Bool.{Bool, true, false, not, _||_}
-use Prim.Native.Nat.{ℕ, _<_}
+use Prim.Native.Nat.{ℕ, _+_, _<_}
 use native.Mathlib.Omega.{arith}
 use lib.Dec.{ltb, eqb}
 use borrow.Author.Tests.{eqb-true, ltb-false, not-false}
-use Rattle.day.specs.Day.{Day, N, flightAt, jump, limit}
+use Rattle.day.specs.Day.{Day, P, N, flightAt, jump, limit, latest, lastOf, last}
 use Rattle.day.specs.Plan.{jumpOrLimit, firstJumpOrLimit}
+use Rattle.day.proofs.Costs.{latest-missing}
 use Rattle.day.proofs.Tests.{none-passes}
 
 -- neither of two tests passes
@@ -29,3 +30,11 @@ module _ (d : Day) (applies : firstJumpOrLimit (d .flights) ≡ N d) (i : ℕ) (
 
   pub no-limit : limit d i ≡ 255
   no-limit = eqb-true (limit d i) 255 (not-false (eqb (limit d i) 255) (plain .1))
+
+  -- so it may land in the closing period
+  pub latest-closing : latest d i ≡ P d + 1
+  latest-closing = latest-missing d i no-limit
+
+  pub last-closing : last d i ≡ P d + 1
+  unfolding lastOf
+  last-closing = omega (arith, latest-closing)

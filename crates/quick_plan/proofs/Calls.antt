@@ -11,16 +11,18 @@ use lib.Dec.{ltb, eqb}
 use borrow.Author.Tests.{eq-eqb, ne-eqb, eqb-true, lt-ltb, le-ltb, ltb-false}
 use Rattle.answers.specs.Answers.{Outcome, outcome}
 use Rattle.answers.specs.declared.Answer.{Answer}
-use Rattle.answers.specs.declared.Answer.the-variants.{Planned, BadDay, BadLength, JumpOrLimit}
+use Rattle.answers.specs.declared.Answer.the-variants.{Planned, BadDay, BadLength, JumpOrLimit, NoPlan}
 use Rattle.day.specs.Day.{Day, P, N, flightAt, valid, total}
-use Rattle.day.specs.Plan.{jumpOrLimit, firstJumpOrLimit}
+use Rattle.day.specs.Plan.{Short, Picked, jumpOrLimit, firstJumpOrLimit}
 use Rattle.day.proofs.Tests.{first-le}
 use Rattle.quick_plan.specs.declared.QuickCheck.{QuickCheck}
 use Rattle.quick_plan.specs.declared.QuickCheck.the-variants.{Applies, Refused}
-use Rattle.quick_plan.specs.Quick.{rates}
-use Rattle.quick_plan.specs.Loop.{rowTo}
+use Rattle.quick_plan.specs.Quick.{quickBy, rates, quick}
+use Rattle.quick_plan.specs.Loop.{withoutLine, rowTo}
 use Rattle.quick_plan.specs.Calls.{quickCheck, onQuick, quickPlan}
 use Rattle.quick_plan.proofs.Rows.{rowTo-quick}
+use Rattle.quick_plan.proofs.Same.{any-closing, valid-rows}
+use Rattle.quick_plan.proofs.Closing.{found-short, none-short}
 
 module _ (d : Day) (h : List ℕ) where
   pub bad-day : valid d ≡ false → Refused BadDay ≡ quickCheck d h
@@ -86,6 +88,22 @@ pub refused : (d : Day) (h : List ℕ) {answer : Answer} → quickCheck d h ≡ 
 unfolding quickPlan
 refused d h e = rw e
 
-pub planned : (d : Day) (h : List ℕ) → quickCheck d h ≡ Applies → {x : List ℕ} {t : ℕ} → x ≡ rowTo d (rates d) (P d) → t ≡ total d x → quickPlan d h ≡ outcome (Planned t) x
-unfolding quickPlan
-planned d h e made q = rw (e, q, made ∙ rowTo-quick d (rates d) (can-plan d h e .good))
+module _ (d : Day) where
+  -- the row made for all periods, whatever the closing number, is the plan
+  pub made-quick : (next : ℕ → ℕ → ℕ) → valid d ≡ true → {x : List ℕ} → x ≡ rowTo (withoutLine d) next (P d) → x ≡ quickBy d next
+  made-quick next good made = made ∙ rowTo-quick (withoutLine d) next (valid-rows d good) ∙ any-closing d next
+
+  module _ (h : List ℕ) (e : quickCheck d h ≡ Applies) where
+    abbrev plan : Outcome
+    plan = outcome (Planned (total d (quick d))) (quick d)
+
+    pub no-plan : {a b : ℕ} → Picked d a b → quickPlan d h ≡ outcome (NoPlan a b) h
+    unfolding quickPlan
+    no-plan p = rw e (let can = can-plan d h e in found-short d (can .good) (can .plain) (rates d) h plan p)
+
+    pub planned : ((a b : ℕ) → Short d a b → ⊥) → {x : List ℕ} {t : ℕ} → x ≡ rowTo (withoutLine d) (rates d) (P d) → t ≡ total d x
+        → quickPlan d h ≡ outcome (Planned t) x
+    unfolding quickPlan
+    planned none made q =
+        let can = can-plan d h e in
+        rw (e, q, made-quick (rates d) (can .good) made) (none-short d (can .good) (can .plain) (rates d) h plan none)

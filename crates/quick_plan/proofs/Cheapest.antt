@@ -1,5 +1,6 @@
--- No legal plan costs less than the quick plan. A plan costs the sum, over the periods, of the next costs of those that wait; and of those
--- whose next cost is t or more the quick plan never has more waiting than another legal plan.
+-- No legal plan leaves fewer flights for the closing period than the quick plan, and none costs less. A plan costs the sum, over the
+-- periods, of the next costs of those that wait; and of those whose next cost is t or more, as of all flights, the quick plan never has more
+-- waiting than another legal plan.
 -- Assumes nothing.
 use mathlib.Core.Path.{_≡_, refl, sym, ap, _∙_}
 use mathlib.Core.Logic.{inl, inr}
@@ -12,13 +13,13 @@ use lib.Dec.{T, leb, ltb, eqb, leb→le, le→leb}
 use borrow.Author.Tests.{lt-ltb, le-ltb, le-leb, lt-leb, eq-eqb, ne-eqb}
 use Rattle.assignment.specs.Sum.{gate, sum, count}
 use Rattle.assignment.proofs.Tests.{and-T, lt?, eq?}
-use Rattle.assignment.proofs.Sums.{sum-ext, sum-le, sum-add, sum-same, sum-swap, sum-member}
-use Rattle.day.specs.Day.{Day, P, N, due, rate, capacity, cost, hold, land, totalOf, total, valid}
-use Rattle.day.specs.Plan.{Legal, Cheapest, firstJumpOrLimit}
-use Rattle.day.proofs.Costs.{cost-plain}
+use Rattle.assignment.proofs.Sums.{sum-ext, sum-le, sum-add, sum-same, sum-swap, sum-member, count-le}
+use Rattle.day.specs.Day.{Day, unlimited, P, N, due, rate, capacity, cost, hold, land, landings, totalOf, total, valid}
+use Rattle.day.specs.Plan.{Legal, HasPlan, Cheapest, firstJumpOrLimit}
+use Rattle.day.proofs.Costs.{takes-in, takes-closing, counted-line, counted-from, cost-plain}
 use Rattle.day.proofs.Valid.{valid-means}
 use Rattle.quick_plan.specs.NextCost.{nextCost}
-use Rattle.quick_plan.specs.Quick.{ahead, eligible, operates, quickBy, rates, quick}
+use Rattle.quick_plan.specs.Quick.{ahead, eligible, operates, quickBy, leftOver, rates, quick}
 use Rattle.quick_plan.proofs.Applies.{no-jump}
 use Rattle.quick_plan.proofs.First.{ahead-cost, rest, crowd, crowd-none, Upwards, left-over}
 use Rattle.quick_plan.proofs.Plan.{due-by, end, end-from, end-to, eligible-end, operates-end, quick-land, quick-legal}
@@ -171,49 +172,26 @@ waits-sum d next l m h =
 
 -- ---- the quick plan against another
 
--- the report's regular costs (section 2.2.1): who goes before whom among flights that are due goes before in the next period too
-abbrev pub Regular : Day → (next : ℕ → ℕ → ℕ) → Type 0
-Regular d next = (j k i : ℕ) → j < P d → k < N d → i < N d → due d k ≤ j → due d i ≤ j → T (ahead d (next j) k i) → T (ahead d (next (suc j)) k i)
-
--- The proof on paper. Fix a period and a cost t, and look at the flights whose next cost in that period is t or more. Who goes before one
--- of them then is one of them; and who goes before whom was so in all periods up to it. So in the quick plan they never wait for others: as
--- many of them land in a period as it takes, or all. In any legal plan no more than that land. So the quick plan has the fewest of them
--- waiting after that period. A flight's next cost is the number of those t that it reaches, so the next costs of all who wait add up to the
--- least too; and a plan costs the sum of them over the periods.
-module _ (d : Day) (next : ℕ → ℕ → ℕ) (v : valid d ≡ true) (regular : Regular d next) (y : List ℕ) (legal : Legal d y) where
+-- The proof on paper. Let a set of flights be closed upwards in every period up to one: who goes before one of them is one of them. In the
+-- quick plan they never wait for others: as many of them land in a period as it takes, or all. In any legal plan no more than that land. So
+-- the quick plan has the fewest of them waiting after that period.
+module _ (d : Day) (next : ℕ → ℕ → ℕ) (v : valid d ≡ true) (y : List ℕ) (legal : Legal d y) where
   -- the landings of the quick plan
   abbrev lands-in : ℕ → ℕ
   lands-in = end d next v
 
-  -- who goes before whom in period j does so in every later one
-  stays-ahead : (g j k i : ℕ) → g + j ≤ P d → k < N d → i < N d → due d k ≤ j → due d i ≤ j → T (ahead d (next j) k i) → T (ahead d (next (g + j)) k i)
-  stays-ahead zero j k i p l m a b t = rw zero-add t
-  stays-ahead (suc g) j k i p l m a b t =
-      rw suc-add (regular (g + j) k i (omega arith) l m (omega arith) (omega arith) (stays-ahead g j k i (omega arith) l m a b t))
-
-  module _ (t last : ℕ) (in-day : last ≤ P d) where
-    -- the flights whose next cost in period `last` is t or more
-    high : ℕ → Bool
-    high i = leb t (next last i)
-
-    high-upwards : (j : ℕ) → j ≤ last → (e : ℕ → Bool) → ((i : ℕ) → i < N d → T (e i) → due d i ≤ j) → Upwards d (next j) high e
-    unfolding high
-    high-upwards j o e by k i l m s r a h =
-        let all : last - j + j ≡ last = omega arith in
-        let later = rw all at (stays-ahead (last - j) j k i (omega arith) l m (by k l s) (by i m r) a) in
-        le→leb t (next last k) (omega (arith, leb→le t (next last i) h, ahead-cost d (next last) k i later))
-
+  module _ (u : ℕ → Bool) (last : ℕ) (in-day : last ≤ P d) (closed : (j : ℕ) → j ≤ last → Upwards d (next j) u (eligible d next j)) where
     left-next : (j : ℕ) → j < last
-        → crowd d high (waits d lands-in (suc j)) ≤ crowd d high (waits-in d lands-in j) - capacity d (suc j)
+        → crowd d u (waits d lands-in (suc j)) ≤ crowd d u (waits-in d lands-in j) - capacity d (suc j)
     unfolding crowd operates
     left-next j p =
         omega (
           arith,
-          left-over d (next (suc j)) high (capacity d (suc j)) (eligible d next (suc j)) (high-upwards (suc j) p (eligible d next (suc j)) (due-by d next v (suc j))),
-          sum-ext (N d) (λ i. gate (high i && rest d (next (suc j)) (capacity d (suc j)) (eligible d next (suc j)) i) 1) (λ i. gate (high i && waits d lands-in (suc j) i) 1)
-              (λ i l. ap (λ x. gate (high i && x) 1) (still i l)),
-          sum-ext (N d) (λ i. gate (high i && eligible d next (suc j) i) 1) (λ i. gate (high i && waits-in d lands-in j i) 1)
-              (λ i l. ap (λ x. gate (high i && x) 1) (eligible-end d next v j i l (omega arith))),
+          left-over d (next (suc j)) u (capacity d (suc j)) (eligible d next (suc j)) (closed (suc j) p),
+          sum-ext (N d) (λ i. gate (u i && rest d (next (suc j)) (capacity d (suc j)) (eligible d next (suc j)) i) 1) (λ i. gate (u i && waits d lands-in (suc j) i) 1)
+              (λ i l. ap (λ x. gate (u i && x) 1) (still i l)),
+          sum-ext (N d) (λ i. gate (u i && eligible d next (suc j) i) 1) (λ i. gate (u i && waits-in d lands-in j i) 1)
+              (λ i l. ap (λ x. gate (u i && x) 1) (eligible-end d next v j i l (omega arith))),
         )
       where
         go : (x : Bool) (e : ℕ) → (x && ltb j e && not (eqb e (suc j))) ≡ (x && ltb (suc j) e)
@@ -230,18 +208,81 @@ module _ (d : Day) (next : ℕ → ℕ → ℕ) (v : valid d ≡ true) (regular 
         still i l = rw (operates-end d next v j i l (omega arith), eligible-end d next v j i l (omega arith)) (go (leb (due d i) (suc j)) (lands-in i))
 
     -- of them, the quick plan has no more waiting
-    fewer : (j : ℕ) → j ≤ last → crowd d high (waits d lands-in j) ≤ crowd d high (waits d (land d y) j)
-    fewer zero p = omega (arith, crowd-none d high (waits d lands-in 0) (λ i l h s. omega (arith, valid-means v .flight i l .due-from, leb→le (due d i) 0 (and-T (leb (due d i) 0) (ltb 0 (lands-in i)) s .0))))
+    fewer : (j : ℕ) → j ≤ last → crowd d u (waits d lands-in j) ≤ crowd d u (waits d (land d y) j)
+    fewer zero p = omega (arith, crowd-none d u (waits d lands-in 0) (λ i l h s. omega (arith, valid-means v .flight i l .due-from, leb→le (due d i) 0 (and-T (leb (due d i) 0) (ltb 0 (lands-in i)) s .0))))
     fewer (suc j) p =
         omega (
           arith,
           fewer j (omega arith),
           left-next j p,
-          crowd-arrive d lands-in high j (end-from d next v),
-          crowd-arrive d (land d y) high j (λ i l. omega arith),
-          crowd-depart d (land d y) high j,
-          legal .room (suc j) (omega arith) (omega arith),
+          crowd-arrive d lands-in u j (end-from d next v),
+          crowd-arrive d (land d y) u j (λ i l. omega arith),
+          crowd-depart d (land d y) u j,
+          legal .room (suc j) (omega arith) (omega (arith, counted-from (P d) (d .closing))),
+          takes-in (d .capacities) (d .closing) (suc j) (omega arith),
         )
+
+  -- everyone is such a set: no legal plan leaves fewer flights for the closing period
+  left-least : leftOver d next ≤ landings d y (P d + 1)
+  unfolding leftOver crowd count
+  left-least =
+      omega (
+        arith,
+        fewer (λ i. true) (P d) (omega arith) (λ j l k i _ _ _ _ _ t. t) (P d) (omega arith),
+        sum-ext (N d) (λ i. gate (eqb (land d (quickBy d next) i) (P d + 1)) 1) (λ i. gate (waits d lands-in (P d) i) 1)
+            (λ i l. rw (quick-land d next v i l) (standing i (lands-in i) l (end-to d next v i l))),
+        sum-ext (N d) (λ i. gate (eqb (land d y i) (P d + 1)) 1) (λ i. gate (waits d (land d y) (P d) i) 1)
+            (λ i l. standing i (land d y i) l (legal .window i l .closing)),
+      )
+    where
+      standing : (i k : ℕ) → i < N d → k ≤ P d + 1 → gate (eqb k (P d + 1)) 1 ≡ gate (leb (due d i) (P d) && ltb (P d) k) 1
+      standing i k l to = rw (le-leb (due d i) (P d) (valid-means v .flight i l .due-to)) (elim (eq? k (P d + 1)) [
+        | inl e ↦ rw (eq-eqb k (P d + 1) e, lt-ltb (P d) k (omega arith))
+        | inr o ↦ rw (ne-eqb k (P d + 1) o, le-ltb (P d) k (omega arith))
+      ])
+
+  -- so where there is a legal plan the closing period has room for those left
+  pub left-fits : leftOver d next ≤ d .closing
+  left-fits = elim (lt? (d .closing) unlimited) [
+    | inl line ↦ omega (
+      arith,
+      left-least,
+      legal .room (P d + 1) (omega arith) (omega (arith, counted-line (P d) (d .closing) line)),
+      takes-closing (d .capacities) (d .closing),
+    )
+    | inr none ↦ omega (arith, left-least, count-le (N d) (land d y) (P d + 1), valid-means v .flights-to)
+  ]
+
+-- the report's regular costs (section 2.2.1): who goes before whom among flights that are due goes before in the next period too
+abbrev pub Regular : Day → (next : ℕ → ℕ → ℕ) → Type 0
+Regular d next = (j k i : ℕ) → j < P d → k < N d → i < N d → due d k ≤ j → due d i ≤ j → T (ahead d (next j) k i) → T (ahead d (next (suc j)) k i)
+
+-- Where the costs are regular, fix a period and a cost t, and look at the flights whose next cost in that period is t or more. Who goes
+-- before one of them then is one of them; and who goes before whom was so in all periods up to it: they are such a set. A flight's next cost
+-- is the number of those t that it reaches, so the next costs of all who wait add up to the least too; and a plan costs the sum of them over
+-- the periods.
+module _ (d : Day) (next : ℕ → ℕ → ℕ) (v : valid d ≡ true) (regular : Regular d next) (y : List ℕ) (legal : Legal d y) where
+  -- who goes before whom in period j does so in every later one
+  stays-ahead : (g j k i : ℕ) → g + j ≤ P d → k < N d → i < N d → due d k ≤ j → due d i ≤ j → T (ahead d (next j) k i) → T (ahead d (next (g + j)) k i)
+  stays-ahead zero j k i p l m a b t = rw zero-add t
+  stays-ahead (suc g) j k i p l m a b t =
+      rw suc-add (regular (g + j) k i (omega arith) l m (omega arith) (omega arith) (stays-ahead g j k i (omega arith) l m a b t))
+
+  module _ (t last : ℕ) (in-day : last ≤ P d) where
+    -- the flights whose next cost in period `last` is t or more
+    high : ℕ → Bool
+    high i = leb t (next last i)
+
+    high-upwards : (j : ℕ) → j ≤ last → Upwards d (next j) high (eligible d next j)
+    unfolding high
+    high-upwards j o k i l m s r a h =
+        let all : last - j + j ≡ last = omega arith in
+        let by = due-by d next v j in
+        let later = rw all at (stays-ahead (last - j) j k i (omega arith) l m (by k l s) (by i m r) a) in
+        le→leb t (next last k) (omega (arith, leb→le t (next last i) h, ahead-cost d (next last) k i later))
+
+    fewer-high : crowd d high (waits d (end d next v) last) ≤ crowd d high (waits d (land d y) last)
+    fewer-high = fewer d next v y legal high last in-day high-upwards last (omega arith)
 
   spent-is : (h : List ℕ) → spent d next h ≡ sum (N d) (λ i. paid d next i (land d h i - due d i))
   unfolding spent
@@ -255,11 +296,11 @@ module _ (d : Day) (next : ℕ → ℕ → ℕ) (v : valid d ≡ true) (regular 
         arith,
         spent-is (quickBy d next),
         spent-is y,
-        sum-ext (N d) (λ i. paid d next i (land d (quickBy d next) i - due d i)) (λ i. paid d next i (lands-in i - due d i)) (λ i l. ap (λ x. paid d next i (x - due d i)) (quick-land d next v i l)),
-        waits-sum d next lands-in (P d + 1) (end-to d next v),
+        sum-ext (N d) (λ i. paid d next i (land d (quickBy d next) i - due d i)) (λ i. paid d next i (end d next v i - due d i)) (λ i l. ap (λ x. paid d next i (x - due d i)) (quick-land d next v i l)),
+        waits-sum d next (end d next v) (P d + 1) (end-to d next v),
         waits-sum d next (land d y) (P d + 1) (λ i l. legal .window i l .closing),
-        sum-le (P d + 1) (λ j. sum (N d) (λ i. gate (waits d lands-in j i) (next j i))) (λ j. sum (N d) (λ i. gate (waits d (land d y) j i) (next j i)))
-            (λ j l. crowds d (next j) (waits d lands-in j) (waits d (land d y) j) (λ t. fewer t j (omega arith) j (omega arith))),
+        sum-le (P d + 1) (λ j. sum (N d) (λ i. gate (waits d (end d next v) j i) (next j i))) (λ j. sum (N d) (λ i. gate (waits d (land d y) j i) (next j i)))
+            (λ j l. crowds d (next j) (waits d (end d next v) j) (waits d (land d y) j) (λ t. fewer-high t j (omega arith))),
       )
 
 -- ---- document 01's quick plan: the next cost is the rate
@@ -274,10 +315,10 @@ unfolding totalOf spent nextCost
 plain-total d applies h = sum-ext (N d) (λ i. cost d i (hold h i)) (λ i. sum (hold h i) (λ t. rate d i)) (λ i l.
     cost-plain d i (hold h i) (no-jump d applies i l) ∙ sym (sum-same (hold h i) (rate d i)))
 
--- the quick plan is legal, and no legal plan costs less
-pub quick-cheapest : (d : Day) → valid d ≡ true → firstJumpOrLimit (d .flights) ≡ N d → Cheapest d (quick d)
-quick-cheapest d v applies = record {
-  legal = quick-legal d (rates d) v applies;
+-- where there is a legal plan, the quick plan is legal, and no legal plan costs less
+pub quick-cheapest : (d : Day) → valid d ≡ true → firstJumpOrLimit (d .flights) ≡ N d → HasPlan d → Cheapest d (quick d)
+quick-cheapest d v applies some = record {
+  legal = quick-legal d (rates d) v applies (left-fits d (rates d) v (some .holds) (some .legal));
   least = λ y legal. omega (
     arith,
     plain-total d applies (quick d),
@@ -288,4 +329,4 @@ quick-cheapest d v applies = record {
 
 -- so it costs as much as any other cheapest plan
 pub same-total : (d : Day) → valid d ≡ true → firstJumpOrLimit (d .flights) ≡ N d → (holds : List ℕ) → Cheapest d holds → total d (quick d) ≡ total d holds
-same-total d v applies holds w = let q = quick-cheapest d v applies in omega (arith, q .least holds (w .legal), w .least (quick d) (q .legal))
+same-total d v applies holds w = let q = quick-cheapest d v applies (record { holds = holds; legal = w .legal }) in omega (arith, q .least holds (w .legal), w .least (quick d) (q .legal))

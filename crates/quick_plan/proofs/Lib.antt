@@ -4,6 +4,7 @@ pub mod First
 pub mod Meaning
 pub mod Plan
 pub mod Cheapest
+pub mod Closing
 pub mod Rows
 pub mod Steps
 pub mod Calls

@@ -1,4 +1,5 @@
--- Who is eligible, who operates, and where each flight lands; and that the quick plan is legal, whatever the next cost.
+-- Who is eligible, who operates, and where each flight lands; and that the quick plan is legal, whatever the next cost, where the
+-- closing period has room for those left.
 -- Assumes nothing.
 use mathlib.Core.Path.{_≡_, refl, sym, ap, _∙_}
 use mathlib.Core.Logic.{_⊎_, inl, inr}
@@ -12,12 +13,12 @@ use Rattle.assignment.specs.Sum.{gate, count}
 use Rattle.assignment.proofs.Rows.{row-at, row-length}
 use Rattle.assignment.proofs.Tests.{and-T, T-and, test, eq?, is-true as on, is-false as off, same-test as same, or-T, T-or-l, T-or-r}
 use Rattle.assignment.proofs.Sums.{sum-ext}
-use Rattle.day.specs.Day.{Day, P, N, due, capacity, latest, land, valid}
+use Rattle.day.specs.Day.{Day, P, N, due, capacity, takes, counted, land, valid}
 use Rattle.day.specs.Plan.{Legal, firstJumpOrLimit}
-use Rattle.day.proofs.Costs.{latest-missing}
+use Rattle.day.proofs.Costs.{takes-in, takes-closing, counted-to}
 use Rattle.day.proofs.Valid.{valid-means}
-use Rattle.quick_plan.specs.Quick.{eligible, operates, lands, quickBy}
-use Rattle.quick_plan.proofs.Applies.{no-limit}
+use Rattle.quick_plan.specs.Quick.{eligible, operates, lands, quickBy, leftOver}
+use Rattle.quick_plan.proofs.Applies.{latest-closing}
 use Rattle.quick_plan.proofs.First.{first-in, landed}
 
 module _ (d : Day) (next : ℕ → ℕ → ℕ) (v : valid d ≡ true) where
@@ -154,6 +155,9 @@ module _ (d : Day) (next : ℕ → ℕ → ℕ) (v : valid d ≡ true) where
   unfolding quickBy end
   quick-land i l = omega (arith, row-at (N d) (λ i. lands d next (P d) i - due d i) i 0 l, end-from i l)
 
+  pub quick-to : (i : ℕ) → i < N d → land d (quickBy d next) i ≤ P d + 1
+  quick-to i l = rw (quick-land i l) (end-to i l)
+
   quick-count : (k : ℕ) → k < P d → count (N d) (land d (quickBy d next)) (suc k) ≤ capacity d (suc k)
   unfolding count operates
   quick-count k p =
@@ -170,20 +174,23 @@ module _ (d : Day) (next : ℕ → ℕ → ℕ) (v : valid d ≡ true) where
 
   -- no flight is limited
   module _ (applies : firstJumpOrLimit (d .flights) ≡ N d) where
-    pub unlimited : (i : ℕ) → i < N d → latest d i ≡ P d + 1
-    unlimited i l = latest-missing d i (no-limit d applies i l)
-
-    pub quick-legal : Legal d (quickBy d next)
-    quick-legal = record {
+    pub quick-legal : leftOver d next ≤ d .closing → Legal d (quickBy d next)
+    unfolding leftOver
+    quick-legal few = record {
       each = quick-length;
       window = λ i l. record {
         from = omega arith;
-        closing = rw (quick-land i l) (end-to i l);
-        limited = rw (quick-land i l, unlimited i l) (end-to i l);
+        closing = quick-to i l;
+        limited = rw (latest-closing d applies i l) (quick-to i l);
       };
       room = room;
     }
       where
-        room : (k : ℕ) → 1 ≤ k → k ≤ P d → count (N d) (land d (quickBy d next)) k ≤ capacity d k
+        room : (k : ℕ) → 1 ≤ k → k ≤ counted d → count (N d) (land d (quickBy d next)) k ≤ takes d k
         room zero a b = absurd (omega arith)
-        room (suc k) a b = quick-count k b
+        room (suc k) a b = elim (eq? (suc k) (P d + 1)) [
+          | inl e ↦ rw e (omega (arith, takes-closing (d .capacities) (d .closing)))
+          | inr o ↦
+              let in-day : k < P d = omega (arith, counted-to (P d) (d .closing)) in
+              omega (arith, quick-count k in-day, takes-in (d .capacities) (d .closing) (suc k) in-day)
+        ]

@@ -18,7 +18,7 @@ use Rattle.assignment.proofs.Sums.{sum-ext}
 use Rattle.day.specs.Day.{Day, P, N, due, capacity, land, valid}
 use Rattle.day.proofs.Valid.{valid-means}
 use Rattle.quick_plan.specs.Quick.{ahead, goingBefore, highest, eligible, operates, lands, quickBy}
-use Rattle.quick_plan.specs.Loop.{closing, waiting, top, put, landAll, rowTo}
+use Rattle.quick_plan.specs.Loop.{atClosing, waiting, top, put, landAll, rowTo}
 use Rattle.quick_plan.proofs.First.{without, Found, found, first-step, first-in, first-none}
 use Rattle.quick_plan.proofs.Plan.{eligible-is, lands-by}
 
@@ -108,7 +108,7 @@ module _ (d : Day) (costs : ℕ → ℕ) (j : ℕ) (p : j ≤ P d) where
 module _ (d : Day) (next : ℕ → ℕ → ℕ) (v : valid d ≡ true) where
   pub rowTo-length : (j : ℕ) → j ≤ P d → length (rowTo d next j) ≡ N d
   unfolding rowTo
-  rowTo-length zero p = row-length (N d) (closing d)
+  rowTo-length zero p = row-length (N d) (atClosing d)
   rowTo-length (suc j) p = landAll-length d (next (suc j)) (suc j) p (capacity d (suc j)) (rowTo d next j) ∙ rowTo-length j (omega arith)
 
   standing : (j k : ℕ) → k < N d → getD (rowTo d next j) k 0 ≡ lands d next j k - due d k → land d (rowTo d next j) k ≡ lands d next j k
@@ -121,7 +121,7 @@ module _ (d : Day) (next : ℕ → ℕ → ℕ) (v : valid d ≡ true) where
 
   pub rowTo-at : (j : ℕ) → j ≤ P d → (i : ℕ) → i < N d → getD (rowTo d next j) i 0 ≡ lands d next j i - due d i
   unfolding rowTo lands operates
-  rowTo-at zero p i l = row-at (N d) (closing d) i 0 l
+  rowTo-at zero p i l = row-at (N d) (atClosing d) i 0 l
   rowTo-at (suc j) p i l =
       landAll-at d (next (suc j)) (suc j) p (capacity d (suc j)) (rowTo d next j) (rowTo-length j (omega arith)) i l
       ∙ rw (first-ext d (next (suc j)) (capacity d (suc j)) (waiting d (rowTo d next j) (suc j)) (eligible d next (suc j)) (waiting-is j (omega arith) (rowTo-at j (omega arith))) i l, rowTo-at j (omega arith) i l)

@@ -1,7 +1,8 @@
--- Days with the same capacities, as many flights, the same dues and the same order of the flights have the same quick plan.
+-- Days with the same capacities, as many flights, the same dues and the same order of the flights have the same quick plan, whatever their
+-- closing numbers.
 -- Assumes nothing.
 use mathlib.Core.Path.{_≡_, refl, ap, _∙_}
-use mathlib.Core.Bool.{Bool, _&&_}
+use mathlib.Core.Bool.{Bool, true, _&&_}
 use mathlib.Core.List.{List}
 use Prim.Native.Nat.{ℕ, zero, suc, _-_, _≤_, _<_}
 use native.Mathlib.Omega.{arith}
@@ -9,8 +10,10 @@ use Rattle.assignment.specs.Sum.{gate, sum}
 use Rattle.assignment.specs.Rows.{row}
 use Rattle.assignment.proofs.Sums.{sum-ext}
 use Rattle.assignment.proofs.Rows.{row-ext}
-use Rattle.day.specs.Day.{Day, day, P, N, due, capacity}
+use Rattle.day.specs.Day.{Day, day, unlimited, P, N, due, capacity, valid}
+use Rattle.day.proofs.Valid.{valid-means, means-valid}
 use Rattle.quick_plan.specs.Quick.{ahead, goingBefore, highest, eligible, operates, lands, quickBy}
+use Rattle.quick_plan.specs.Loop.{withoutLine}
 
 -- what the quick plan reads of a day besides the capacities
 pub record SameOrder (d e : Day) (next other : ℕ → ℕ → ℕ) : Type 0 where
@@ -18,12 +21,13 @@ pub record SameOrder (d e : Day) (next other : ℕ → ℕ → ℕ) : Type 0 whe
   pub dues : (i : ℕ) → i < N d → due d i ≡ due e i
   pub order : (j k i : ℕ) → j ≤ P d → k < N d → i < N d → ahead d (next j) k i ≡ ahead e (other j) k i
 
-module _ (capacities flights others : List ℕ) (next other : ℕ → ℕ → ℕ) (same : SameOrder (day capacities flights) (day capacities others) next other) where
+module _ (capacities flights others : List ℕ) (closing closing₂ : ℕ) (next other : ℕ → ℕ → ℕ)
+    (same : SameOrder (day capacities flights closing) (day capacities others closing₂) next other) where
   abbrev d : Day
-  d = day capacities flights
+  d = day capacities flights closing
 
   abbrev e : Day
-  e = day capacities others
+  e = day capacities others closing₂
 
   before-same : (j : ℕ) → j ≤ P d → (s t : ℕ → Bool) → ((k : ℕ) → k < N d → s k ≡ t k) → (i : ℕ) → i < N d
       → goingBefore d (next j) s i ≡ goingBefore e (other j) t i
@@ -55,3 +59,29 @@ module _ (capacities flights others : List ℕ) (next other : ℕ → ℕ → �
   quick-same =
       row-ext (N d) (λ i. lands d next (P d) i - due d i) (λ i. lands e other (P e) i - due e i) (λ i l. rw (lands-same (P d) (omega arith) i l, same .dues i l))
       ∙ ap (λ n. row n (λ i. lands e other (P e) i - due e i)) (same .count)
+
+-- so the closing line changes neither who is eligible nor the plan
+module _ (d : Day) (next : ℕ → ℕ → ℕ) where
+  same-rows : SameOrder (withoutLine d) d next next
+  same-rows = record { count = refl; dues = λ i l. refl; order = λ j k i p a b. refl }
+
+  pub any-closing : quickBy (withoutLine d) next ≡ quickBy d next
+  any-closing = quick-same (d .capacities) (d .flights) (d .flights) unlimited (d .closing) next next same-rows
+
+  pub eligible-any : (j : ℕ) → j ≤ P d → (i : ℕ) → i < N d → eligible (withoutLine d) next j i ≡ eligible d next j i
+  eligible-any = eligible-same (d .capacities) (d .flights) (d .flights) unlimited (d .closing) next next same-rows
+
+-- and a valid day is valid without it
+pub valid-rows : (d : Day) → valid d ≡ true → valid (withoutLine d) ≡ true
+valid-rows d v =
+    let w = valid-means v in
+    means-valid (record {
+      periods-from = w .periods-from;
+      periods-to = w .periods-to;
+      whole = w .whole;
+      flights-to = w .flights-to;
+      closing-to = omega arith;
+      capacity-to = w .capacity-to;
+      flight = w .flight;
+      distinct = w .distinct;
+    })

@@ -20,7 +20,7 @@ use Rattle.day.proofs.Valid.{valid-means}
 use Rattle.assignment.specs.Rows.{row}
 use Rattle.assignment.proofs.Tests.{eq?}
 use Rattle.quick_plan.specs.Quick.{before, aheadOf, ahead}
-use Rattle.quick_plan.specs.Loop.{DueBy, closing, pick, bestTo, waiting, top, put, landAll, rowTo}
+use Rattle.quick_plan.specs.Loop.{DueBy, atClosing, pick, bestTo, waiting, top, put, landAll, rowTo}
 use Rattle.quick_plan.proofs.First.{Found, found}
 use Rattle.quick_plan.proofs.Rows.{top-found, waits-due, land-none, land-one}
 
@@ -209,7 +209,7 @@ pub record Started (d : Day) (h₀ h : List ℕ) (i : ℕ) : Type 0 where
   pub rows : length h₀ ≡ N d
   pub within : i ≤ length h
   pub same-length : length h ≡ length h₀
-  pub front : take i h ≡ row i (closing d)
+  pub front : take i h ≡ row i (atClosing d)
 
 pub started-none : {d : Day} {h : List ℕ} → valid d ≡ true → length h ≡ N d → Started d h h 0
 unfolding row
@@ -232,13 +232,13 @@ module _ {d : Day} {h₀ h : List ℕ} {i : ℕ} (s : Started d h₀ h i) where
     rows = s .rows;
     within = simp length-set (omega arith);
     same-length = length-set h i _ ∙ s .same-length;
-    front = rw (add-one, ed) (take-suc-set h i (closing d i) l ∙ ap (λ x. x ++ (closing d i ∷ [])) (s .front));
+    front = rw (add-one, ed) (take-suc-set h i (atClosing d i) l ∙ ap (λ x. x ++ (atClosing d i ∷ [])) (s .front));
   }
 
-  pub started-end : length h ≤ i → h ≡ row (N d) (closing d)
+  pub started-end : length h ≤ i → h ≡ row (N d) (atClosing d)
   started-end g =
       let q : i ≡ N d = omega (arith, s .within, s .same-length, s .rows) in
-      sym (take-all i h (omega arith)) ∙ s .front ∙ ap (λ n. row n (closing d)) q
+      sym (take-all i h (omega arith)) ∙ s .front ∙ ap (λ n. row n (atClosing d)) q
 
 -- ---- the periods
 
@@ -248,7 +248,7 @@ pub record Planned (d : Day) (next : ℕ → ℕ → ℕ) (h : List ℕ) (j : �
   pub rows : length h ≡ N d
   pub so-far : h ≡ rowTo d next j
 
-pub planned-start : {d : Day} (next : ℕ → ℕ → ℕ) {h : List ℕ} → valid d ≡ true → length h ≡ N d → h ≡ row (N d) (closing d) → Planned d next h 0
+pub planned-start : {d : Day} (next : ℕ → ℕ → ℕ) {h : List ℕ} → valid d ≡ true → length h ≡ N d → h ≡ row (N d) (atClosing d) → Planned d next h 0
 unfolding rowTo
 planned-start next v q e = record { is-valid = v; rows = q; so-far = e }
 

@@ -6,9 +6,18 @@ use mathlib.Core.List.{List}
 use Prim.Native.Nat.{ℕ, zero, suc, _+_, _-_, _*_, _≤_}
 use lib.ListN.{length, set}
 use lib.Dec.{leb, eqb}
-use Rattle.day.specs.Day.{Day, P, N, width, dueOf, due, capacity, land}
+use denote.Ref.{RefT}
+use Rattle.day.specs.Day.{Day, day, lent, unlimited, P, N, width, dueOf, due, capacity, land}
 use Rattle.assignment.specs.Rows.{row}
 use Rattle.quick_plan.specs.Quick.{ahead}
+
+-- the day without its closing line: how the flights land period by period does not depend on it
+abbrev pub withoutLine : Day → Day
+withoutLine d = day (d .capacities) (d .flights) unlimited
+
+-- such a day, in two lent rows
+abbrev pub lentRows : (capacities flights : RefT (List ℕ)) → Day
+lentRows capacities flights = lent capacities flights unlimited
 
 -- flight i stands in the row, and is due by period j
 pub record DueBy (flights : List ℕ) (j i : ℕ) : Type 0 where
@@ -26,8 +35,8 @@ bestTo d costs e none zero = none
 bestTo d costs e none (suc k) = pick d costs e none k (bestTo d costs e none k)
 
 -- the hold with which flight i stands at the closing period
-abbrev pub closing : Day → ℕ → ℕ
-closing d i = P d + 1 - due d i
+abbrev pub atClosing : Day → ℕ → ℕ
+atClosing d i = P d + 1 - due d i
 
 -- flight i is due by period j and stands at the closing period yet
 unfoldable pub waiting : Day → List ℕ → ℕ → ℕ → Bool
@@ -48,5 +57,5 @@ landAll d costs j (suc m) holds = cond (eqb (top d costs j holds) (N d)) holds (
 
 -- the row after the periods 1 to j: at first every flight stands at the closing period
 unfoldable pub rowTo : Day → (ℕ → ℕ → ℕ) → ℕ → List ℕ
-rowTo d next zero = row (N d) (closing d)
+rowTo d next zero = row (N d) (atClosing d)
 rowTo d next (suc j) = landAll d (next (suc j)) (suc j) (capacity d (suc j)) (rowTo d next j)

@@ -8,7 +8,7 @@ use Prim.Native.Nat.{ℕ, zero, suc, _+_, _-_}
 use lib.Dec.{ltb, eqb}
 use Rattle.assignment.specs.Sum.{gate, sum}
 use Rattle.assignment.specs.Rows.{row}
-use Rattle.day.specs.Day.{Day, P, N, dueOf, due, capacity}
+use Rattle.day.specs.Day.{Day, P, N, dueOf, due, capacity, landings}
 use Rattle.quick_plan.specs.declared.NextCost.the-variants.{Rate}
 use Rattle.quick_plan.specs.NextCost.{nextCost}
 
@@ -57,6 +57,10 @@ lands d next (suc j) i = cond (operates d next (suc j) i) (suc j) (lands d next 
 -- the holds, in table order
 unfoldable pub quickBy : Day → (next : ℕ → ℕ → ℕ) → List ℕ
 quickBy d next = row (N d) (λ i. lands d next (P d) i - due d i)
+
+-- "Those left land in P+1.": how many they are
+unfoldable pub leftOver : Day → (next : ℕ → ℕ → ℕ) → ℕ
+leftOver d next = landings d (quickBy d next) (P d + 1)
 
 -- document 01's quick plan: "The capacity's number of highest rates land"
 abbrev pub rates : Day → ℕ → ℕ → ℕ

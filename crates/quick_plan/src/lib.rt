@@ -14,6 +14,8 @@ use growth::FactorTable;
 use growth::factor_table;
 use growth::further_cost;
 use legality::total_of;
+use stretch::ShortStretch;
+use stretch::find_short;
 ghost use mathlib.Core.Path.{_≡_};
 ghost use mathlib.Core.Bool.{true};
 ghost use Prim.Native.Nat.{_+_, _*_, _<_, _≤_};
@@ -24,7 +26,7 @@ ghost use Rattle.day.specs.Plan.{jumpOrLimit, firstJumpOrLimit};
 ghost use Rattle.growth.specs.Growth.{HoldsFactors};
 ghost use Rattle.quick_plan.specs.NextCost.{nextCost, fits};
 ghost use Rattle.quick_plan.specs.Quick.{before};
-ghost use Rattle.quick_plan.specs.Loop.{DueBy, closing, waiting, top, landAll, rowTo};
+ghost use Rattle.quick_plan.specs.Loop.{lentRows, DueBy, atClosing, waiting, top, landAll, rowTo};
 ghost use Rattle.quick_plan.specs.Calls.{quickCheck, quickPlan};
 
 // What one more period of hold costs: the rate, or in millionths what grows with the hold.
@@ -72,7 +74,7 @@ fn goes_before(flights: &[u32], cost: usize, other: usize, k: usize, i: usize) -
 // Flight i is due by period j, and stands at the closing period yet.
 pub fn is_waiting(capacities: &[u32], flights: &[u32], holds: &[u32], j: usize, i: usize) -> bool
     requires { ⌜ ((i + 1) * width ≤ length (now flights)) × (i < length (now holds)) × (length (now capacities) ≤ mostPeriods) ⌝ }
-    ensures { λ r. ⌜ r ≡ waiting (lent (capacities .entry) (flights .entry)) (now (holds .entry)) j i ⌝ }
+    ensures { λ r. ⌜ r ≡ waiting (lentRows (capacities .entry) (flights .entry)) (now (holds .entry)) j i ⌝ }
 {
     let due = due_of(flights, i);
     if j < due {
@@ -91,8 +93,8 @@ fn first_waiting(
     holds: &[u32],
     j: usize,
 ) -> usize
-    requires { ⌜ (valid (lent capacities flights) ≡ true) × (length (now holds) ≡ N (lent capacities flights)) × HoldsFactors (now factors) × (fits next j ≡ true) ⌝ }
-    ensures { λ r. ⌜ r ≡ top (lent (capacities .entry) (flights .entry)) (nextCost next (now (flights .entry)) j) j (now (holds .entry)) ⌝ }
+    requires { ⌜ (valid (lentRows capacities flights) ≡ true) × (length (now holds) ≡ N (lentRows capacities flights)) × HoldsFactors (now factors) × (fits next j ≡ true) ⌝ }
+    ensures { λ r. ⌜ r ≡ top (lentRows (capacities .entry) (flights .entry)) (nextCost next (now (flights .entry)) j) j (now (holds .entry)) ⌝ }
 {
     let n = holds.len();
     let mut best = n;
@@ -121,8 +123,8 @@ fn land_period(
     holds: &mut [u32],
     j: usize,
 )
-    requires { ⌜ (valid (lent capacities flights) ≡ true) × (length (now holds) ≡ N (lent capacities flights)) × HoldsFactors (now factors) × (fits next j ≡ true) × (j ≤ length (now capacities)) ⌝ }
-    ensures { λ _. ⌜ now (holds .exit) ≡ landAll (lent (capacities .entry) (flights .entry)) (nextCost next (now (flights .entry)) j) j (capacity (lent (capacities .entry) (flights .entry)) j) (now (holds .entry)) ⌝ }
+    requires { ⌜ (valid (lentRows capacities flights) ≡ true) × (length (now holds) ≡ N (lentRows capacities flights)) × HoldsFactors (now factors) × (fits next j ≡ true) × (j ≤ length (now capacities)) ⌝ }
+    ensures { λ _. ⌜ now (holds .exit) ≡ landAll (lentRows (capacities .entry) (flights .entry)) (nextCost next (now (flights .entry)) j) j (capacity (lentRows (capacities .entry) (flights .entry)) j) (now (holds .entry)) ⌝ }
 {
     let n = holds.len();
     let mut left = of_period(capacities, j);
@@ -139,8 +141,8 @@ fn land_period(
 
 // Every flight at the closing period.
 fn start_row(capacities: &[u32], flights: &[u32], holds: &mut [u32])
-    requires { ⌜ (valid (lent capacities flights) ≡ true) × (length (now holds) ≡ N (lent capacities flights)) ⌝ }
-    ensures { λ _. ⌜ now (holds .exit) ≡ row (N (lent (capacities .entry) (flights .entry))) (closing (lent (capacities .entry) (flights .entry))) ⌝ }
+    requires { ⌜ (valid (lentRows capacities flights) ≡ true) × (length (now holds) ≡ N (lentRows capacities flights)) ⌝ }
+    ensures { λ _. ⌜ now (holds .exit) ≡ row (N (lentRows (capacities .entry) (flights .entry))) (atClosing (lentRows (capacities .entry) (flights .entry))) ⌝ }
 {
     let mut i = 0;
     while i < holds.len() {
@@ -152,9 +154,9 @@ fn start_row(capacities: &[u32], flights: &[u32], holds: &mut [u32])
 
 // The row after the periods 1 to stop.
 pub fn plan_to(next: NextCost, capacities: &[u32], flights: &[u32], holds: &mut [u32], stop: usize)
-    requires { ⌜ (valid (lent capacities flights) ≡ true) × (length (now holds) ≡ N (lent capacities flights)) ⌝ }
+    requires { ⌜ (valid (lentRows capacities flights) ≡ true) × (length (now holds) ≡ N (lentRows capacities flights)) ⌝ }
     requires { ⌜ (fits next (length (now capacities)) ≡ true) × (stop ≤ length (now capacities)) ⌝ }
-    ensures { λ _. ⌜ now (holds .exit) ≡ rowTo (lent (capacities .entry) (flights .entry)) (nextCost next (now (flights .entry))) stop ⌝ }
+    ensures { λ _. ⌜ now (holds .exit) ≡ rowTo (lentRows (capacities .entry) (flights .entry)) (nextCost next (now (flights .entry))) stop ⌝ }
 {
     let factors = factor_table();
     start_row(capacities, flights, holds);
@@ -189,10 +191,10 @@ pub fn first_jump_or_limit(flights: &[u32]) -> usize
 
 // What every quick plan tests first. Refusals, in this order: 6, a bad day; 7, a row that has not one entry for each flight; 8, the first
 // flight with a jump or a limit.
-pub fn check_quick(capacities: &[u32], flights: &[u32], holds: &[u32]) -> QuickCheck
-    ensures { λ r. ⌜ r ≡ quickCheck (lent (capacities .entry) (flights .entry)) (now (holds .entry)) ⌝ }
+pub fn check_quick(capacities: &[u32], flights: &[u32], closing: u32, holds: &[u32]) -> QuickCheck
+    ensures { λ r. ⌜ r ≡ quickCheck (lent (capacities .entry) (flights .entry) closing) (now (holds .entry)) ⌝ }
 {
-    if !is_valid(capacities, flights) {
+    if !is_valid(capacities, flights, closing) {
         return QuickCheck::Refused(Answer::BadDay);
     }
     let n = flight_count(flights);
@@ -206,15 +208,20 @@ pub fn check_quick(capacities: &[u32], flights: &[u32], holds: &[u32]) -> QuickC
     QuickCheck::Applies
 }
 
-// Fills the hold row with the quick plan and answers its total; or refuses, and leaves the row as it was.
-pub fn quick_plan(capacities: &[u32], flights: &[u32], holds: &mut [u32]) -> Answer
-    ensures { λ r. ⌜ r ≡ quickPlan (lent (capacities .entry) (flights .entry)) (now (holds .entry)) .answer ⌝ }
-    ensures { λ _. ⌜ now (holds .exit) ≡ quickPlan (lent (capacities .entry) (flights .entry)) (now (holds .entry)) .holds ⌝ }
+// Fills the hold row with the quick plan and answers its total; or refuses, and leaves the row as it was. The plan leaves more flights than
+// the closing period takes exactly where a stretch is short: then 9 is answered before anything is stored.
+pub fn quick_plan(capacities: &[u32], flights: &[u32], closing: u32, holds: &mut [u32]) -> Answer
+    ensures { λ r. ⌜ r ≡ quickPlan (lent (capacities .entry) (flights .entry) closing) (now (holds .entry)) .answer ⌝ }
+    ensures { λ _. ⌜ now (holds .exit) ≡ quickPlan (lent (capacities .entry) (flights .entry) closing) (now (holds .entry)) .holds ⌝ }
 {
-    let found = check_quick(capacities, flights, holds);
-    match found {
-        QuickCheck::Refused(refusal) => refusal,
-        QuickCheck::Applies => {
+    let found = check_quick(capacities, flights, closing, holds);
+    if let QuickCheck::Refused(refusal) = found {
+        return refusal;
+    }
+    let short = find_short(capacities, flights, closing);
+    match short {
+        ShortStretch::Found { first, last } => Answer::NoPlan { first, last },
+        ShortStretch::NoneShort => {
             plan_to(NextCost::Rate, capacities, flights, holds, capacities.len());
             Answer::Planned {
                 total: total_of(flights, holds),

@@ -1,4 +1,4 @@
--- The day check of the two rows and the test of the lists of capacities and flights are the same.
+-- The day check of the two rows and the closing number, and the test of the lists of capacities and flights and that number, are the same.
 -- Assumes nothing.
 use Prim.Native.Nat.{ℕ, zero, suc, _≤_, _<_, _*_}
 use native.Mathlib.Omega.{arith}
@@ -9,7 +9,7 @@ use lib.ListN.{length, getD, length-append}
 use lib.Dec.{leb, eqb}
 use borrow.Author.Tests.{le-leb, eq-eqb, not-true}
 use Rattle.day.specs.declared.Flight.{Flight}
-use Rattle.day.specs.Day.{Day, day, P, N, mostPeriods, mostFlights, column, flightAt, flightCount, all, inside, flightFits, inRange, isNew, valid, width}
+use Rattle.day.specs.Day.{Day, day, P, N, unlimited, mostPeriods, mostFlights, column, flightAt, flightCount, all, inside, flightFits, inRange, isNew, valid, width}
 use Rattle.day.specs.Flights.{firstFlights, flightsOf, rowOf}
 use Rattle.assignment.proofs.Tests.{and-true, true-and}
 use Rattle.day.proofs.Tests.{all-at, all-from}
@@ -25,7 +25,7 @@ tests : (d : Day) → valid d ≡ true → (all (N d) (inRange (P d) (d .flights
 unfolding valid
 tests d e =
     let numbers = and-true e in
-    let t = inside 1 mostPeriods (P d) && eqb (length (d .flights)) (N d * width) && leb (N d) mostFlights in
+    let t = inside 1 mostPeriods (P d) && eqb (length (d .flights)) (N d * width) && leb (N d) mostFlights && leb (d .closing) unlimited in
     let caps = all (P d) (λ k. leb (getD (d .capacities) k 0) 255) in
     (and-true {a = t && caps} (numbers .0) .1, numbers .1)
 
@@ -96,7 +96,7 @@ module _ (p : ℕ) (row : List ℕ) where
   all-new (suc n) h = let a = distinct-less [] (firstFlights n row) (flightAt row n) h in true-and (all-new n (a .0)) (new-at n ∙ rw (a .1))
 
 -- a day that passes the check
-pub valid-good : (d : Day) → valid d ≡ true → Good (d .capacities) (flightsOf d)
+pub valid-good : (d : Day) → valid d ≡ true → Good (d .capacities) (flightsOf d) (d .closing)
 unfolding flightsOf
 valid-good d e =
     let v = valid-means e in
@@ -105,6 +105,7 @@ valid-good d e =
       some-period = v .periods-from;
       periods = v .periods-to;
       flights = rw (length-flights (N d) (d .flights)) (v .flights-to);
+      closing-to = v .closing-to;
       caps-fit = caps-from (d .capacities) (v .capacity-to);
       flights-fit = first-fit (P d) (d .flights) (N d) (all-at (N d) _ (t .0));
       apart = first-new (P d) (d .flights) (N d) (all-at (N d) _ (t .1));
@@ -118,24 +119,25 @@ unfolding rowOf
 length-row [] = refl
 length-row (f ∷ fs) = simp length-append (omega (arith, length-row fs))
 
-pub count-row : (caps : List ℕ) (fs : List Flight) → N (day caps (rowOf fs)) ≡ length fs
+pub count-row : (caps : List ℕ) (fs : List Flight) (k : ℕ) → N (day caps (rowOf fs) k) ≡ length fs
 unfolding flightCount
-count-row caps fs = rw (length-row fs) (omega arith)
+count-row caps fs k = rw (length-row fs) (omega arith)
 
 pub flights-row : (fs : List Flight) → firstFlights (length fs) (rowOf fs) ≡ fs
 flights-row fs = rw append-nil at (rows-back fs [])
 
--- the day of lists that pass
-pub good-valid : (caps : List ℕ) (fs : List Flight) → Good caps fs → valid (day caps (rowOf fs)) ≡ true
+-- the day of lists and a number that pass
+pub good-valid : (caps : List ℕ) (fs : List Flight) (k : ℕ) → Good caps fs k → valid (day caps (rowOf fs) k) ≡ true
 unfolding valid
-good-valid caps fs g =
-    let n = count-row caps fs in
+good-valid caps fs k g =
+    let n = count-row caps fs k in
     rw (
       n,
       le-leb 1 (length caps) (g .some-period),
       le-leb (length caps) mostPeriods (g .periods),
       eq-eqb (length (rowOf fs)) (length fs * width) (length-row fs),
       le-leb (length fs) mostFlights (g .flights),
+      le-leb k unlimited (g .closing-to),
       all-from (length caps) (λ k. leb (getD caps k 0) 255) (caps-to caps (g .caps-fit)),
       all-fit (length caps) (rowOf fs) (length fs) (rw (flights-row fs) (g .flights-fit)),
       all-new (length caps) (rowOf fs) (length fs) (rw (flights-row fs) (g .apart)),

@@ -7,28 +7,30 @@ use mathlib.Core.Logic.{_⊎_, inl, inr}
 use mathlib.Core.Path.{_≡_, refl, ap, sym, _∙_}
 use mathlib.Core.List.{List, [], _∷_, _++_}
 use mathlib.Core.Bool.{Bool, true, false, cond, _||_}
-use lib.ListN.{length, getD, drop, List·getD-eq-default}
-use lib.Seq.{drop-cons}
+use lib.ListN.{length, getD, drop, take-append-drop, List·getD-eq-default}
+use lib.Seq.{drop-cons, drop-drop}
 use lib.Dec.{leb, eqb, lit<}
-use borrow.Author.Tests.{le-leb, lt-leb, leb-true, eq-eqb, ne-eqb, eqb-true}
+use borrow.Author.Tests.{le-leb, lt-leb, leb-true, eq-eqb, ne-eqb, eqb-true, lt-ltb, le-ltb}
 use Rattle.text.specs.Digits.{digits, ended, separated, line}
 use Rattle.text.specs.Reading.{field, Numbers, whole, upto, placeOf, separatedAt, rowAfter, Line, values, noLine, lastOf, lineAt}
+use Rattle.text.specs.Fixed.{startsWith}
 use Rattle.text.specs.declared.Number.{Number}
 use Rattle.text.specs.declared.Number.the-variants.{Value, Bad}
 use Rattle.text.specs.declared.Place.the-variants.{Behind, NoPlace}
 use Rattle.text.proofs.Digits.{first-digit, count-le}
+use Rattle.text.proofs.Fixed.{starts-is, starts-with}
 use Rattle.text.specs.Standing.{Stands, FieldsHere, LineHere}
 use Rattle.text.proofs.Reading.{within, join, parted, picked, at-place, there, field-read, field-write, open-up, end-no-digit, comma-no-digit}
 use Rattle.text.proofs.Lines.{separated-read, separated-write, line-read, line-write, all-read, none-read, row-read, line-row}
 use Rattle.day.specs.declared.Flight.{Flight}
-use Rattle.day.specs.Day.{mostPeriods, flightFits}
+use Rattle.day.specs.Day.{unlimited, mostPeriods, flightFits}
 use Rattle.assignment.proofs.Tests.{and-true}
 use Rattle.day.proofs.Valid.{inside-means}
 use Rattle.sheet.specs.declared.PeriodLine.the-variants.{Period, NoPeriod}
 use Rattle.sheet.specs.declared.FlightLine.the-variants.{Row, NoRow}
-use Rattle.sheet.specs.Text.{limitText, periodText, beforeLimit, flightText}
+use Rattle.sheet.specs.Text.{closingName, closingText, limitText, periodText, beforeLimit, flightText}
 use Rattle.sheet.specs.Good.{limitFits, Small}
-use Rattle.sheet.specs.Lines.{mostDigits, periodOf, periodLine, limitRead, withLimit, limitField, flightWith, rowWith, thenLate, thenLimit, flightLine}
+use Rattle.sheet.specs.Lines.{mostDigits, periodOf, periodLine, closingLine, limitRead, withLimit, limitField, flightWith, rowWith, thenLate, thenLimit, flightLine}
 
 -- the limit
 
@@ -233,6 +235,36 @@ flight-write s at f next h t =
     let b = limit-write s x (f .limit) (x + length (limitText (f .limit))) (h .limit) (rest .0) in
     let c = field-write {most = mostDigits} end-no-digit (record { short = omega (arith, h .late); stands = rest .1 }) in
     rw (a, b, c)
+
+-- the closing line
+
+-- fixed bytes in front
+pub names-front : (s w : List ℕ) (at : ℕ) → startsWith (drop at s) w ≡ true → drop at s ≡ w ++ drop (at + length w) s
+names-front s w at e = let t = starts-is (drop at s) w e in sym (take-append-drop (length w) (drop at s)) ∙ rw (t, drop-drop)
+
+pub text-line : (c : ℕ) → c < unlimited → closingText c ≡ closingName ++ ended 10 c
+unfolding closingText
+text-line c h = rw (lt-ltb c unlimited h)
+
+pub text-none : (c : ℕ) → unlimited ≤ c → closingText c ≡ []
+unfolding closingText
+text-none c h = rw (le-ltb c unlimited h)
+
+pub closing-read : (s : List ℕ) (at c next : ℕ) → startsWith (drop at s) closingName ≡ true → closingLine s at ≡ Value c next
+    → Stands (closingName ++ ended 10 c) s at next
+unfolding closingLine
+closing-read s at c next n e =
+    let a : Stands closingName s at (at + length closingName) = record { text = names-front s closingName at n; place = refl } in
+    join a (field-read (lit< tt) e .stands)
+
+pub closing-write : (s : List ℕ) (at c next : ℕ) → c < unlimited → Stands (closingName ++ ended 10 c) s at next
+    → (startsWith (drop at s) closingName ≡ true) × (closingLine s at ≡ Value c next)
+unfolding closingLine
+closing-write s at c next h t =
+    let p = parted {t = closingName} t in (
+      rw (p .0 .text) (starts-with closingName (drop (at + length closingName) s)),
+      field-write {most = mostDigits} end-no-digit (record { short = short c (omega arith); stands = p .1 }),
+    )
 
 -- one law for each way
 

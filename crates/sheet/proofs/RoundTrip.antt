@@ -1,4 +1,4 @@
--- The round trips of a day sheet, as theorems about the grammar and the text of a day.
+-- The round trips of a day sheet, its closing number included, as theorems about the grammar and the text of a day.
 -- Assumes nothing.
 use Prim.Native.Nat.{ℕ, _≤_, _*_}
 use native.Mathlib.Omega.{arith}
@@ -17,22 +17,23 @@ use Rattle.sheet.proofs.Grammar.{read-text, text-read, read-good, sheet
 use Rattle.sheet.proofs.Good.{valid-good, good-valid, row-whole, count-row, flights-row}
 
 -- a sheet that is read and written again has the same bytes
-pub read-then-written : (sheet capacities : List ℕ) (flights : List Flight) → readSheet sheet ≡ read capacities flights
-    → sheetOf (day capacities (rowOf flights)) ≡ sheet
+pub read-then-written : (sheet capacities : List ℕ) (flights : List Flight) (closing : ℕ) → readSheet sheet ≡ read capacities flights closing
+    → sheetOf (day capacities (rowOf flights) closing) ≡ sheet
 unfolding sheetOf flightsOf
-read-then-written sheet capacities flights e = rw (count-row capacities flights, flights-row flights) (read-text sheet capacities flights e)
+read-then-written sheet capacities flights closing e =
+    rw (count-row capacities flights closing, flights-row flights) (read-text sheet capacities flights closing e)
 
 -- and its day is valid
-pub read-is-valid : (sheet capacities : List ℕ) (flights : List Flight) → readSheet sheet ≡ read capacities flights
-    → valid (day capacities (rowOf flights)) ≡ true
-read-is-valid sheet capacities flights e = good-valid capacities flights (read-good sheet capacities flights e)
+pub read-is-valid : (sheet capacities : List ℕ) (flights : List Flight) (closing : ℕ) → readSheet sheet ≡ read capacities flights closing
+    → valid (day capacities (rowOf flights) closing) ≡ true
+read-is-valid sheet capacities flights closing e = good-valid capacities flights closing (read-good sheet capacities flights closing e)
 
--- a valid day, written and read again, is the same day: its capacities, its flights ..
-pub written-then-read : (d : Day) → valid d ≡ true → readSheet (sheetOf d) ≡ read (d .capacities) (flightsOf d)
+-- a valid day, written and read again, is the same day: its capacities, its flights, its closing number ..
+pub written-then-read : (d : Day) → valid d ≡ true → readSheet (sheetOf d) ≡ read (d .capacities) (flightsOf d) (d .closing)
 unfolding sheetOf
-written-then-read d e = text-read (d .capacities) (flightsOf d) (valid-good d e)
+written-then-read d e = text-read (d .capacities) (flightsOf d) (d .closing) (valid-good d e)
 
--- .. and the row of them
+-- .. and the row of its flights
 pub same-row : (d : Day) → valid d ≡ true → rowOf (flightsOf d) ≡ d .flights
 unfolding flightsOf
 same-row d e =
@@ -42,4 +43,4 @@ same-row d e =
 -- every written sheet of a valid day is short enough to be read
 pub sheet-is-short : (d : Day) → valid d ≡ true → length (sheetOf d) ≤ 8192
 unfolding sheetOf
-sheet-is-short d e = sheet-short (d .capacities) (flightsOf d) (valid-good d e)
+sheet-is-short d e = sheet-short (d .capacities) (flightsOf d) (d .closing) (valid-good d e)

@@ -1,4 +1,5 @@
--- A day within the table's ranges, as lists of capacities and flights. Only proofs cite it: sheet/proofs/Good has that it is the day check.
+-- A day within the table's ranges, as lists of capacities and flights and its closing number. Only proofs cite it: sheet/proofs/Good has
+-- that it is the day check.
 -- Assumes nothing.
 use Prim.Native.Nat.{ℕ, _≤_, _<_}
 use mathlib.Core.Path.{_≡_}
@@ -9,7 +10,7 @@ use lib.ListN.{length}
 use Rattle.text.specs.Digits.{digits}
 use Rattle.text.specs.Standing.{AllShort}
 use Rattle.day.specs.declared.Flight.{Flight}
-use Rattle.day.specs.Day.{mostPeriods, mostFlights, missing, flightFits}
+use Rattle.day.specs.Day.{unlimited, mostPeriods, mostFlights, missing, flightFits}
 use Rattle.sheet.specs.Text.{beforeLimit}
 use Rattle.sheet.specs.Lines.{mostDigits, used}
 
@@ -26,10 +27,11 @@ unfoldable pub flightsFit : ℕ → List Flight → Bool
 flightsFit p [] = true
 flightsFit p (f ∷ fs) = flightFits p f && flightsFit p fs
 
-pub record Good (caps : List ℕ) (fs : List Flight) : Type 0 where
+pub record Good (caps : List ℕ) (fs : List Flight) (closing : ℕ) : Type 0 where
   pub some-period : 0 < length caps
   pub periods : length caps ≤ mostPeriods
   pub flights : length fs ≤ mostFlights
+  pub closing-to : closing ≤ unlimited
   pub caps-fit : capsFit caps ≡ true
   pub flights-fit : flightsFit (length caps) fs ≡ true
   pub apart : distinct [] fs ≡ true

@@ -4,12 +4,13 @@ use Prim.Native.Nat.{ℕ, _+_}
 use mathlib.Core.List.{List, [], _∷_}
 use mathlib.Core.Bool.{Bool, false, cond, _||_}
 use lib.Dec.{leb, eqb}
-use lib.ListN.{getD}
+use lib.ListN.{length, getD}
 use Rattle.text.specs.Digits.{comma, lineEnd}
 use Rattle.text.specs.Reading.{field, Numbers, whole, upto, separatedAt, Line, values, noLine, lineAt}
 use Rattle.text.specs.declared.Number.{Number}
 use Rattle.text.specs.declared.Number.the-variants.{Value, Bad}
 use Rattle.day.specs.declared.Flight.{Flight}
+use Rattle.sheet.specs.Text.{closingName}
 use Rattle.sheet.specs.declared.PeriodLine.{PeriodLine}
 use Rattle.sheet.specs.declared.PeriodLine.the-variants.{Period, NoPeriod}
 use Rattle.sheet.specs.declared.FlightLine.{FlightLine}
@@ -26,6 +27,11 @@ periodOf noLine = NoPeriod
 -- a period line: its number, its capacity and the place behind it
 unfoldable pub periodLine : List ℕ → ℕ → PeriodLine
 periodLine s at = periodOf (lineAt 1 mostDigits s at)
+
+-- a line that begins "closing,": the number behind that and the place behind the line, or `Bad` where the line is not of the form
+-- `closing,c` (#108)
+unfoldable pub closingLine : List ℕ → ℕ → Number
+closingLine s at = field mostDigits lineEnd s (at + length closingName)
 
 -- a written limit as it is in memory: 256, which is in no range, for one above 96, since 255 in memory means missing
 unfoldable pub limitRead : ℕ → ℕ

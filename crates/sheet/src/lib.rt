@@ -30,3 +30,8 @@ pub const PERIOD_NAMES: [u8; PERIOD_NAMES_LEN] = *b"period,capacity\n";
 pub const FLIGHT_NAMES_LEN: usize = 38;
 
 pub const FLIGHT_NAMES: [u8; FLIGHT_NAMES_LEN] = *b"flight,due,rate,after,jump,limit,late\n";
+
+// What the closing line begins with.
+pub const CLOSING_NAME_LEN: usize = 8;
+
+pub const CLOSING_NAME: [u8; CLOSING_NAME_LEN] = *b"closing,";

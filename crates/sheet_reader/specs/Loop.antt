@@ -5,28 +5,33 @@ use mathlib.Core.Path.{_≡_}
 use mathlib.Core.List.{List, []}
 use lib.ListN.{length, take}
 use Rattle.answers.specs.declared.Answer.{Answer}
+use Rattle.sheet_reader.specs.declared.SheetRead.{SheetRead}
 use Rattle.sheet_reader.specs.declared.Periods.{Periods}
 use Rattle.sheet_reader.specs.declared.Periods.the-variants.{Upto, Stopped}
 use Rattle.sheet_reader.specs.declared.Listing.{Listing}
 use Rattle.sheet_reader.specs.declared.Listing.the-variants.{Listed, Halted}
 use Rattle.day.specs.Day.{mostPeriods, mostFlights, width}
 use Rattle.day.specs.Flights.{firstFlights}
-use Rattle.sheet.specs.Sheet.{Reading, read, refused, readPeriods, readFlights, answerOf, capacitiesAfter, flightsAfter}
+use Rattle.sheet.specs.Sheet.{Reading, read, refused, readPeriods, readFlights, answerOf, closingOf, capacitiesAfter, flightsAfter}
 use Rattle.sheet.specs.Text.{periodNames}
 
--- how the reading goes on after the period lines
+-- a refusal, and "0 in a refusal" for the closing number
+abbrev pub turnedDown : Answer → SheetRead
+turnedDown a = record { answer = a; closing = 0 }
+
+-- how the reading goes on behind the second names line
 abbrev pub goOn : Periods → List ℕ → List ℕ → Reading
-goOn (Upto p at) s capacities = readFlights mostFlights s at (take p capacities) []
+goOn (Upto p at closing) s capacities = readFlights mostFlights s at (take p capacities) closing []
 goOn (Stopped a) s capacities = refused a
 
 abbrev pub Ready : Periods → List ℕ → Type 0
-Ready (Upto p at) s = (p ≤ mostPeriods) × (at ≤ length s)
+Ready (Upto p at closing) s = (p ≤ mostPeriods) × (at ≤ length s)
 Ready (Stopped a) s = Unit {0}
 
 -- what the flight lines have given
-abbrev pub filled : Listing → List ℕ → List ℕ → Reading
-filled (Listed n) capacities row = read capacities (firstFlights n row)
-filled (Halted a) capacities row = refused a
+abbrev pub filled : Listing → List ℕ → ℕ → List ℕ → Reading
+filled (Listed n) capacities closing row = read capacities (firstFlights n row) closing
+filled (Halted a) capacities closing row = refused a
 
 abbrev pub Few : Listing → Type 0
 Few (Listed n) = n ≤ mostFlights
@@ -49,13 +54,15 @@ pub record FlightsRead (s : List ℕ) (start p : ℕ) (row : List ℕ) (n at : �
   pub inside : at ≤ length s
   pub periods : p ≤ mostPeriods
   pub room : length row ≡ mostFlights * width
-  pub so-far : (caps : List ℕ) → length caps ≡ p → readFlights mostFlights s start caps [] ≡ readFlights (mostFlights - n) s at caps (firstFlights n row)
+  pub so-far : (caps : List ℕ) (closing : ℕ) → length caps ≡ p
+      → readFlights mostFlights s start caps closing [] ≡ readFlights (mostFlights - n) s at caps closing (firstFlights n row)
 
 -- what is shown where the loop is left with a refusal
 abbrev pub NoFlights : List ℕ → ℕ → ℕ → List ℕ → Answer → Type 0
 NoFlights s start p row a =
-    (length row ≡ mostFlights * width) × (Unit {0} × ((caps : List ℕ) → length caps ≡ p → readFlights mostFlights s start caps [] ≡ refused a))
+    (length row ≡ mostFlights * width) × (Unit {0} × ((caps : List ℕ) (closing : ℕ) → length caps ≡ p → readFlights mostFlights s start caps closing [] ≡ refused a))
 
--- what is shown where the call ends in a refusal: the answer, and the rows as they were
-abbrev pub Refused : Reading → List ℕ → List ℕ → Answer → Type 0
-Refused R caps flights a = (a ≡ answerOf R) × ((caps ≡ capacitiesAfter R caps) × (flights ≡ flightsAfter R flights))
+-- what is shown where the call ends: its answer, the closing number, and the rows afterwards
+abbrev pub Outcome : Reading → List ℕ → List ℕ → SheetRead → List ℕ → List ℕ → Type 0
+Outcome R caps flights r caps′ flights′ =
+    (r .answer ≡ answerOf R) × ((r .closing ≡ closingOf R) × ((caps′ ≡ capacitiesAfter R caps) × (flights′ ≡ flightsAfter R flights)))

@@ -8,16 +8,17 @@ use mathlib.Core.List.{List, [], _∷_, _++_, append-assoc}
 use mathlib.Core.Bool.{true, false}
 use lib.ListN.{length, getD, take, drop, set, length-append, take-append-drop}
 use lib.Seq.{take-suc, length-take-le}
+use borrow.Author.Tests.{ltb-true, ltb-false}
 use Rattle.answers.specs.declared.Answer.the-variants.{Written, BadDay, BadLength}
 use Rattle.text.specs.Digits.{ended, separated}
 use Rattle.text.specs.Writing.{Put}
-use Rattle.text.proofs.Writing.{placed-zero, then, not-fits, it-fits}
+use Rattle.text.proofs.Writing.{placed-zero, put-none, then, not-fits, it-fits}
 use Rattle.day.specs.declared.Flight.{Flight}
-use Rattle.day.specs.Day.{Day, N, flightAt, valid}
+use Rattle.day.specs.Day.{Day, N, unlimited, hasLine, flightAt, valid}
 use Rattle.day.specs.Flights.{firstFlights, flightsOf}
-use Rattle.sheet.specs.Text.{periodNames, flightNames, limitText, periodText, beforeLimit, flightText, periodsText, flightsText, sheetText, sheetOf}
-use Rattle.sheet.proofs.Lines.{text-missing}
-use Rattle.sheet.proofs.Grammar.{periods-snoc, flights-snoc, length-top, length-names, flight-length}
+use Rattle.sheet.specs.Text.{periodNames, flightNames, closingName, closingText, limitText, periodText, beforeLimit, flightText, periodsText, flightsText, sheetText, sheetOf}
+use Rattle.sheet.proofs.Lines.{text-missing, text-line, text-none}
+use Rattle.sheet.proofs.Grammar.{periods-snoc, flights-snoc, length-top, length-names, length-closing, flight-length}
 use Rattle.sheet_writer.specs.Write.{writeAnswer, writeAfter}
 
 -- the limit's field
@@ -29,6 +30,21 @@ put-dash o l e h = rw (text-missing l e) (go o (rw (text-missing l e) at h))
     go [] h = absurd (omega arith)
     go (x ∷ []) h = absurd (omega arith)
     go (x ∷ y ∷ o) h = record { place = refl; bytes = sym (placed-zero (x ∷ y ∷ o) (45 ∷ 44 ∷ [])) }
+
+-- the closing line
+
+pub closing-length : (k : ℕ) → hasLine k ≡ true → length (closingText k) ≡ 8 + length (ended 10 k)
+closing-length k h = rw (text-line k (ltb-true k unlimited h), length-append, length-closing)
+
+pub closing-put : {o o1 o2 : List ℕ} {at a r : ℕ} (k : ℕ) → hasLine k ≡ true → at + length (closingText k) ≤ length o
+    → Put o at closingName a o1 → Put o1 a (ended 10 k) r o2 → Put o at (closingText k) r o2
+closing-put k h g p q = rw (text-line k (ltb-true k unlimited h)) (then (omega (arith, closing-length k h, length-closing)) p q)
+
+pub no-closing : (k : ℕ) → hasLine k ≡ false → closingText k ≡ []
+no-closing k h = text-none k (ltb-false k unlimited h)
+
+pub closing-none : (o : List ℕ) (at k : ℕ) → hasLine k ≡ false → at + length (closingText k) ≤ length o → Put o at (closingText k) at o
+closing-none o at k h g = rw (no-closing k h) (put-none o at (omega arith))
 
 -- one line
 
@@ -87,24 +103,26 @@ no-flights row = refl
 
 -- the whole
 
-length-sheet : (caps : List ℕ) (fs : List Flight) → length (sheetText caps fs) ≡ length (periodsText 1 caps) + length (flightsText fs) + 54
+length-sheet : (caps : List ℕ) (fs : List Flight) (k : ℕ)
+    → length (sheetText caps fs k) ≡ length (periodsText 1 caps) + length (flightsText fs) + length (closingText k) + 54
 unfolding sheetText
-length-sheet caps fs = simp length-append (omega (arith, length-top, length-names))
+length-sheet caps fs k = simp length-append (omega (arith, length-top, length-names))
 
-pub sheet-room : (caps : List ℕ) (fs : List Flight) {m : ℕ} → length (sheetText caps fs) ≤ m
-    → length periodNames + length (periodsText 1 caps) + length flightNames + length (flightsText fs) ≤ m
-sheet-room caps fs h = omega (arith, length-sheet caps fs, length-top, length-names)
+pub sheet-room : (caps : List ℕ) (fs : List Flight) (k : ℕ) {m : ℕ} → length (sheetText caps fs k) ≤ m
+    → length periodNames + length (periodsText 1 caps) + length (closingText k) + length flightNames + length (flightsText fs) ≤ m
+sheet-room caps fs k h = omega (arith, length-sheet caps fs k, length-top, length-names)
 
-pub sheet-put : {o o1 o2 o3 o4 : List ℕ} {a1 a2 a3 a4 : ℕ} (caps : List ℕ) (fs : List Flight) → length (sheetText caps fs) ≤ length o
-    → Put o 0 periodNames a1 o1 → Put o1 a1 (periodsText 1 caps) a2 o2 → Put o2 a2 flightNames a3 o3 → Put o3 a3 (flightsText fs) a4 o4
-    → Put o 0 (sheetText caps fs) a4 o4
+pub sheet-put : {o o1 o2 o3 o4 o5 : List ℕ} {a1 a2 a3 a4 a5 : ℕ} (caps : List ℕ) (fs : List Flight) (k : ℕ) → length (sheetText caps fs k) ≤ length o
+    → Put o 0 periodNames a1 o1 → Put o1 a1 (periodsText 1 caps) a2 o2 → Put o2 a2 (closingText k) a3 o3 → Put o3 a3 flightNames a4 o4
+    → Put o4 a4 (flightsText fs) a5 o5 → Put o 0 (sheetText caps fs k) a5 o5
 unfolding sheetText
-sheet-put {o} caps fs h d1 e2 e3 e4 =
-    let g = sheet-room caps fs h in
+sheet-put {o} caps fs k h d1 e2 e3 e4 e5 =
+    let g = sheet-room caps fs k h in
     let d2 = then (omega arith) d1 e2 in
     let d3 = then (simp length-append (omega arith)) d2 e3 in
     let d4 = then (simp length-append (omega arith)) d3 e4 in
-    simp append-assoc at d4
+    let d5 = then (simp length-append (omega arith)) d4 e5 in
+    simp append-assoc at d5
 
 -- the outcomes of the call
 module _ (d : Day) (buffer : List ℕ) (place : ℕ) where
@@ -125,11 +143,11 @@ module _ (d : Day) (buffer : List ℕ) (place : ℕ) where
         rw (v, z) (it-fits buffer (sheetOf d) place (rw z at h) (rw q at p))
 
 -- what the writer's lines sum up to
-pub needed-is : (d : Day) {p f : ℕ} → p ≡ length (periodsText 1 (d .capacities)) → f ≡ length (flightsText (firstFlights (N d) (d .flights)))
-    → p + f + 54 ≡ length (sheetOf d)
+pub needed-is : (d : Day) {p f k : ℕ} → p ≡ length (periodsText 1 (d .capacities)) → f ≡ length (flightsText (firstFlights (N d) (d .flights)))
+    → k ≡ length (closingText (d .closing)) → p + f + k + 54 ≡ length (sheetOf d)
 unfolding sheetOf flightsOf
-needed-is d e g = omega (arith, length-sheet (d .capacities) (firstFlights (N d) (d .flights)), e, g)
+needed-is d e g h = omega (arith, length-sheet (d .capacities) (firstFlights (N d) (d .flights)) (d .closing), e, g, h)
 
-pub text-of : (d : Day) (n : ℕ) → n ≡ N d → sheetText (d .capacities) (firstFlights n (d .flights)) ≡ sheetOf d
+pub text-of : (d : Day) (n : ℕ) → n ≡ N d → sheetText (d .capacities) (firstFlights n (d .flights)) (d .closing) ≡ sheetOf d
 unfolding sheetOf flightsOf
 text-of d n e = rw e

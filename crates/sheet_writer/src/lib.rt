@@ -3,17 +3,20 @@ ghost use mathlib.Core.Path.{_≡_};
 ghost use Prim.Native.Nat.{_+_, _*_, _≤_, _<_};
 ghost use lib.ListN.{length};
 ghost use Rattle.text.specs.Writing.{Put};
-ghost use Rattle.day.specs.Day.{lent, width, mostPeriods, mostFlights};
+ghost use Rattle.day.specs.Day.{lent, hasLine, width, mostPeriods, mostFlights};
 ghost use Rattle.day.specs.Flights.{firstFlights};
-ghost use Rattle.sheet.specs.Text.{periodNames, flightNames, limitText, periodText, beforeLimit, flightText, periodsText, flightsText, sheetText};
+ghost use Rattle.sheet.specs.Text.{periodNames, flightNames, closingName, closingText, limitText, periodText, beforeLimit, flightText, periodsText, flightsText, sheetText};
 ghost use Rattle.sheet_writer.specs.Write.{writeAnswer, writeAfter};
 use answers::Answer;
 use day::Flight;
 use day::MISSING;
+use day::UNLIMITED;
 use day::flight_at;
 use day::flight_count;
 use day::is_valid;
 use day::wide;
+use sheet::CLOSING_NAME;
+use sheet::CLOSING_NAME_LEN;
 use sheet::DASH;
 use sheet::FLIGHT_NAMES;
 use sheet::FLIGHT_NAMES_LEN;
@@ -187,33 +190,79 @@ fn put_flight_names(out: &mut [u8], at: usize) -> usize
     put_fixed_at(out, at, &FLIGHT_NAMES)
 }
 
+// Whether a closing line is there.
+fn has_line(closing: u32) -> bool
+    ensures { λ r. ⌜ r ≡ hasLine closing ⌝ }
+{
+    closing < UNLIMITED
+}
+
+// What the closing line begins with, from `at` on.
+fn put_closing_name(out: &mut [u8], at: usize) -> usize
+    requires { ⌜ at + length closingName ≤ length (now out) ⌝ }
+    ensures { λ r. ⌜ Put (now (out .entry)) at closingName r (now (out .exit)) ⌝ }
+{
+    put_fixed_at(out, at, &CLOSING_NAME)
+}
+
+// The closing line from `at` on, if there is one.
+fn put_closing(out: &mut [u8], at: usize, closing: u32) -> usize
+    requires { ⌜ at + length (closingText closing) ≤ length (now out) ⌝ }
+    ensures { λ r. ⌜ Put (now (out .entry)) at (closingText closing) r (now (out .exit)) ⌝ }
+{
+    if has_line(closing) {
+        let k = put_closing_name(out, at);
+        return put_number_at(out, k, wide(closing), LINE_END);
+    }
+    at
+}
+
+fn closing_len(closing: u32) -> usize
+    ensures { λ r. ⌜ (r ≡ length (closingText closing)) × (r ≤ 29) ⌝ }
+{
+    if has_line(closing) {
+        return CLOSING_NAME_LEN + number_len(wide(closing));
+    }
+    0
+}
+
 // The whole sheet, at the front of out.
-fn fill_sheet(out: &mut [u8], capacities: &[u32], flights: &[u32], n: usize) -> usize
-    requires { ⌜ (length (sheetText (now capacities) (firstFlights n (now flights))) ≤ length (now out)) × (length (now capacities) ≤ mostPeriods) × (n ≤ mostFlights) × (n * width ≤ length (now flights)) ⌝ }
-    ensures { λ r. ⌜ Put (now (out .entry)) 0 (sheetText (now (capacities .entry)) (firstFlights n (now (flights .entry)))) r (now (out .exit)) ⌝ }
+fn fill_sheet(out: &mut [u8], capacities: &[u32], flights: &[u32], n: usize, closing: u32) -> usize
+    requires { ⌜ (length (sheetText (now capacities) (firstFlights n (now flights)) closing) ≤ length (now out)) × (length (now capacities) ≤ mostPeriods) × (n ≤ mostFlights) × (n * width ≤ length (now flights)) ⌝ }
+    ensures { λ r. ⌜ Put (now (out .entry)) 0 (sheetText (now (capacities .entry)) (firstFlights n (now (flights .entry))) closing) r (now (out .exit)) ⌝ }
 {
     let a = put_period_names(out);
     let b = put_periods(out, a, capacities);
-    let c = put_flight_names(out, b);
-    put_flights(out, c, flights, n)
+    let c = put_closing(out, b, closing);
+    let d = put_flight_names(out, c);
+    put_flights(out, d, flights, n)
 }
 
 // Writes the sheet of a day into the buffer from the place on. The line writers get the part of it that starts there.
-pub fn write_sheet(capacities: &[u32], flights: &[u32], text: &mut [u8], place: usize) -> Answer
-    ensures { λ r. ⌜ r ≡ writeAnswer (lent (capacities .entry) (flights .entry)) (now (text .entry)) place ⌝ }
-    ensures { λ _. ⌜ now (text .exit) ≡ writeAfter (lent (capacities .entry) (flights .entry)) (now (text .entry)) place ⌝ }
+pub fn write_sheet(
+    capacities: &[u32],
+    flights: &[u32],
+    closing: u32,
+    text: &mut [u8],
+    place: usize,
+) -> Answer
+    ensures { λ r. ⌜ r ≡ writeAnswer (lent (capacities .entry) (flights .entry) closing) (now (text .entry)) place ⌝ }
+    ensures { λ _. ⌜ now (text .exit) ≡ writeAfter (lent (capacities .entry) (flights .entry) closing) (now (text .entry)) place ⌝ }
 {
-    if !is_valid(capacities, flights) {
+    if !is_valid(capacities, flights, closing) {
         return Answer::BadDay;
     }
     let n = flight_count(flights);
-    let needed = periods_len(capacities) + flights_len(flights, n) + NAMES_LEN;
+    let needed = periods_len(capacities)
+        + flights_len(flights, n)
+        + closing_len(closing)
+        + NAMES_LEN;
     if text.len() < place {
         return Answer::BadLength { needed };
     }
     if text.len() - place < needed {
         return Answer::BadLength { needed };
     }
-    fill_sheet(&mut text[place..], capacities, flights, n);
+    fill_sheet(&mut text[place..], capacities, flights, n, closing);
     Answer::Written { bytes: needed }
 }

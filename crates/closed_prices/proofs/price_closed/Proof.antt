@@ -1,13 +1,13 @@
 -- The closed periods looked at so far have their prices. Assumes nothing.
 use native.Mathlib.Omega.{arith}
 use Prim.Native.Nat.{_-_}
-use Rattle.day.specs.Day.{day}
+use Rattle.day.specs.Day.{day, unlimited}
 use Rattle.closed_prices.proofs.Pricing.{Closing, closing-start, closing-room, closing-pass, closing-pay, closing-small, closing-next, closing-end}
 use Rattle.closed_prices.proofs.price_closed.Statement.{statement}
 use Rattle.closed_prices.proofs.price_closed.Tie as tie
 
 abbrev Inv-loop : tie.InvT-loop
-Inv-loop capacities flights holds prices₀ periods at₀ prices at = Closing (day capacities flights) holds prices₀ prices at
+Inv-loop capacities flights holds prices₀ periods at₀ prices at = Closing (day capacities flights unlimited) holds prices₀ prices at
 
 abbrev μ-loop : tie.MeasureT-loop
 μ-loop capacities flights holds prices₀ periods at₀ prices at = periods - at

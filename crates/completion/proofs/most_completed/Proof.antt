@@ -10,10 +10,10 @@ use Rattle.completion.proofs.most_completed.Statement.{statement}
 use Rattle.completion.proofs.most_completed.Tie as tie
 
 abbrev Inv-loop : tie.InvT-loop
-Inv-loop capacities flights holds i left₀ m₀ left m = Tried (day capacities flights) holds left m i × (length left ≡ length left₀)
+Inv-loop capacities flights closing holds i left₀ m₀ left m = Tried (day capacities flights closing) holds left m i × (length left ≡ length left₀)
 
 abbrev μ-loop : tie.MeasureT-loop
-μ-loop capacities flights holds i left₀ m₀ left m = m
+μ-loop capacities flights closing holds i left₀ m₀ left m = m
 
 loop-holds : tie.Need-loop-holds Inv-loop μ-loop
 loop-holds c = (tried-start (c .before .before .before .before .pre), refl)
@@ -43,7 +43,7 @@ loop-again c =
     let at-rest = at-if2 .before .before in
     let at-loop = at-rest .before .before in (
       tried-back (at-loop .loop .inv .0) (at-rest .rest-has-plan .ensures) (not-true _ (at-if2 .before .if1 .taken)) (at-if2 .if2 .left) (at-give-back .give-back .ensures),
-      at-give-back .give-back .kept .1 .1 .1 .1 .0 ∙ at-loop .loop .inv .1,
+      at-give-back .give-back .kept .1 .1 .1 .1 .1 .0 ∙ at-loop .loop .inv .1,
     )
 
 same-length-2 : tie.Need-same-length-2 Inv-loop μ-loop

@@ -2,7 +2,7 @@
 -- Assumes nothing.
 use mathlib.Core.Path.{sym, ap, _∙_}
 use Prim.Native.Nat.{_*_}
-use Rattle.day.proofs.Valid.{valid-not-periods, valid-not-whole, valid-not-few, valid-made}
+use Rattle.day.proofs.Valid.{valid-not-periods, valid-not-whole, valid-not-few, valid-not-closing, valid-made}
 use borrow.Author.Tests.{not-true, not-false}
 use Rattle.day.specs.Day.{day, flightCount, width}
 use borrow.Author.Needs.{needs}
@@ -30,6 +30,16 @@ returns-3 : tie.Need-returns-3
 unfolding flightCount
 returns-3 c = valid-not-few _ (sym (c .before .before .before .is-inside .ensures) ∙ not-false _ (c .before .before .if1 .left)) (c .before .if2 .left ∙ ap (λ n. n * width) (c .before .before .before .before .flight-count .ensures)) (rw (c .before .before .before .before .flight-count .ensures) at (c .if3 .taken))
 
+returns-4 : tie.Need-returns-4
+unfolding flightCount
+returns-4 c =
+    let at-if3 = c .before in
+    let at-if2 = at-if3 .before in
+    let at-if1 = at-if2 .before in
+    let at-is-inside = at-if1 .before in
+    let n = at-is-inside .before .flight-count .ensures in
+    valid-not-closing _ (sym (at-is-inside .is-inside .ensures) ∙ not-false _ (at-if1 .if1 .left)) (at-if2 .if2 .left ∙ ap (λ m. m * width) n) (rw n at (at-if3 .if3 .left)) (c .if4 .taken)
+
 capacities-fit-requires : tie.Need-capacities-fit-requires
 capacities-fit-requires c κs = search needs
 
@@ -39,19 +49,20 @@ flights-fit-requires c κs = search needs
 both-requires : tie.Need-both-requires
 both-requires c κs = search needs
 
-returns-4 : tie.Need-returns-4
+returns-5 : tie.Need-returns-5
 unfolding flightCount
-returns-4 c =
-    let at-if3 = c .before .before .before in
+returns-5 c =
+    let at-if4 = c .before .before .before in
+    let at-if3 = at-if4 .before in
     let at-if2 = at-if3 .before in
     let at-if1 = at-if2 .before in
     let at-is-inside = at-if1 .before in
     let at-flight-count = at-is-inside .before in
     let at-start = at-flight-count .before .before .before in
     let a = at-start .args in
-    let d = day (a .capacities .now) (a .flights .now) in
+    let d = day (a .capacities .now) (a .flights .now) (a .closing) in
     let n = at-flight-count .flight-count .ensures in
-    valid-made d (sym (at-is-inside .is-inside .ensures) ∙ not-false _ (at-if1 .if1 .left)) n (at-if2 .if2 .left) (at-if3 .if3 .left) (c .before .before .capacities-fit .ensures) (c .before .flights-fit .ensures) (c .both .ensures)
+    valid-made d (sym (at-is-inside .is-inside .ensures) ∙ not-false _ (at-if1 .if1 .left)) n (at-if2 .if2 .left) (at-if3 .if3 .left) (at-if4 .if4 .left) (c .before .before .capacities-fit .ensures) (c .before .flights-fit .ensures) (c .both .ensures)
 
 pub is-valid-spec : {M : Type 1} → statement M
 is-valid-spec =
@@ -63,7 +74,8 @@ is-valid-spec =
     mul-if2
     returns-2
     returns-3
+    returns-4
     capacities-fit-requires
     flights-fit-requires
     both-requires
-    returns-4)
+    returns-5)

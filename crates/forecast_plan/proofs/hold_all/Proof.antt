@@ -4,7 +4,7 @@ use Prim.Native.Nat.{_-_}
 use native.Mathlib.Omega.{arith}
 use lib.ListN.{length, length-set}
 use borrow.Author.Needs.{needs}
-use Rattle.day.specs.Day.{day}
+use Rattle.day.specs.Day.{day, unlimited}
 use Rattle.forecast_plan.specs.Loop.{Placed}
 use Rattle.forecast_plan.proofs.Placing.{placed-flight, placed-ready, placed-lands, placed-due, placed-total, placed-cost-most, placed-turns, placed-next, placed-all}
 use Rattle.forecast_plan.proofs.hold_all.Statement.{statement}
@@ -12,7 +12,7 @@ use Rattle.forecast_plan.proofs.hold_all.Tie as tie
 
 abbrev Inv-loop : tie.InvT-loop
 Inv-loop capacities flights factor weights rows holds₀ held₀ waits₀ periods total₀ i₀ holds held waits total i =
-    Placed (day capacities flights) (record { count = length weights; airFactor = factor; weights = weights; rows = rows }) holds held waits total i
+    Placed (day capacities flights unlimited) (record { count = length weights; airFactor = factor; weights = weights; rows = rows }) holds held waits total i
 
 abbrev μ-loop : tie.MeasureT-loop
 μ-loop capacities flights factor weights rows holds₀ held₀ waits₀ periods total₀ i₀ holds held waits total i = length holds - i

@@ -4,7 +4,7 @@ use borrow.Author.Tests.{not-true, not-false}
 use mathlib.Core.Path.{sym, _∙_}
 use native.Mathlib.Omega.{arith}
 use Rattle.answers.proofs.Outcomes.{says}
-use Rattle.day.specs.Day.{lent}
+use Rattle.day.specs.Day.{lent, unlimited}
 use Rattle.forecast_plan.proofs.Calls.{terms-to, bad-holds, bad-weights, bad-rows, bad-forecasts, planned, entries-fit, all-fits}
 use borrow.Author.Needs.{needs}
 use Rattle.forecast_plan.proofs.plan_rows.Statement.{statement}
@@ -22,7 +22,7 @@ returns-2 c = says (bad-weights _ _ _ (c .before .before .flight-count .ensures)
 mul-entries : tie.Need-mul-entries
 mul-entries c =
     let at-start = c .before .before .before .before .before .before .before .before in
-    omega (arith, entries-fit (lent (at-start .args .capacities) (at-start .args .flights)) (at-start .args .count) (at-start .args .factor) (at-start .pre .0) (at-start .pre .1))
+    omega (arith, entries-fit (lent (at-start .args .capacities) (at-start .args .flights) unlimited) (at-start .args .count) (at-start .args .factor) (at-start .pre .0) (at-start .pre .1))
 
 returns-3 : tie.Need-returns-3
 returns-3 c =

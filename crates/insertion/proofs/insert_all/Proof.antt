@@ -4,13 +4,13 @@ use mathlib.Core.Path.{_≡_, refl, sym, _∙_}
 use Prim.Native.Nat.{_-_}
 use lib.ListN.{length}
 use borrow.Author.Needs.{needs}
-use Rattle.day.specs.Day.{day}
+use Rattle.day.specs.Day.{day, unlimited}
 use Rattle.insertion.proofs.Building.{Building, building-order, building-start, building-more, building-small, building-next, building-price, building-end}
 use Rattle.insertion.proofs.insert_all.Statement.{statement}
 use Rattle.insertion.proofs.insert_all.Tie as tie
 
 abbrev Inv-loop : tie.InvT-loop
-Inv-loop capacities flights holds₀ prices₀ places₀ loads₀ links₀ dist₀ via₀ total₀ n₀ holds prices places loads links dist via total n = Building (day capacities flights) places holds prices loads links dist via total n × (length holds ≡ length holds₀) × (length prices ≡ length prices₀)
+Inv-loop capacities flights holds₀ prices₀ places₀ loads₀ links₀ dist₀ via₀ total₀ n₀ holds prices places loads links dist via total n = Building (day capacities flights unlimited) places holds prices loads links dist via total n × (length holds ≡ length holds₀) × (length prices ≡ length prices₀)
 
 abbrev μ-loop : tie.MeasureT-loop
 μ-loop capacities flights holds₀ prices₀ places₀ loads₀ links₀ dist₀ via₀ total₀ n₀ holds prices places loads links dist via total n = length holds - n
@@ -30,7 +30,7 @@ loop-holds c =
     let at-order-flights = at-clear .before .before .before in
     let at-shared-slice-known = at-order-flights .before .before .before .before .before in
     let at-start = at-shared-slice-known .before in
-    (building-start (at-start .pre) (at-order-flights .order-flights .kept .1 .1 .0) (at-order-flights .order-flights .ensures) (at-clear .clear .kept .0) (at-clear .clear .ensures), refl, refl)
+    (building-start (at-start .pre) refl (at-order-flights .order-flights .kept .1 .1 .0) (at-order-flights .order-flights .ensures) (at-clear .clear .kept .0) (at-clear .clear .ensures), refl, refl)
 
 slice-aggregate-insert : tie.Need-slice-aggregate-insert Inv-loop μ-loop
 slice-aggregate-insert c = sym (c .before .before .loop .inv .0 .places-row)

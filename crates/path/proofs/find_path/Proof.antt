@@ -5,13 +5,13 @@ use mathlib.Core.Path.{sym, _∙_}
 use Prim.Native.Nat.{ℕ, _-_}
 use lib.ListN.{replicate, length-replicate}
 use borrow.Author.Needs.{needs}
-use Rattle.day.specs.Day.{day, periodRow}
+use Rattle.day.specs.Day.{day, unlimited, periodRow}
 use Rattle.path.proofs.Expanding.{FindingAll, find-room, find-stands, find-list, find-offer, find-near, finding-start, finding-whole, finding-sizes, finding-end, finding-place, finding-in, finding-expand, finding-level, finding-stop, finding-on, finding-again, finding-next}
 use Rattle.path.proofs.find_path.Statement.{statement}
 use Rattle.path.proofs.find_path.Tie as tie
 
 abbrev Inv-loop : tie.InvT-loop
-Inv-loop capacities flights places links prices dist₀ via₀ n target list₀ queue₀ all left₀ t₀ dist via list queue left t = FindingAll (day capacities flights) places links prices list queue dist via n all left target t
+Inv-loop capacities flights places links prices dist₀ via₀ n target list₀ queue₀ all left₀ t₀ dist via list queue left t = FindingAll (day capacities flights unlimited) places links prices list queue dist via n all left target t
 
 abbrev μ-loop : tie.MeasureT-loop
 μ-loop capacities flights places links prices dist₀ via₀ n target list₀ queue₀ all left₀ t₀ dist via list queue left t = all - t

@@ -4,13 +4,13 @@ use borrow.Author.Needs.{needs}
 use native.Mathlib.Omega.{arith}
 use lib.ListN.{length}
 use Prim.Native.Nat.{_-_}
-use Rattle.day.specs.Day.{day}
+use Rattle.day.specs.Day.{day, unlimited}
 use Rattle.period_card.proofs.Steps.{Marked, marked-start, marked-there, marked-small, marked-low, marked-high, marked-skip, marked-end}
 use Rattle.period_card.proofs.marks_of.Statement.{statement}
 use Rattle.period_card.proofs.marks_of.Tie as tie
 
 abbrev Inv-loop : tie.InvT-loop
-Inv-loop capacities flights holds j low₀ high₀ i₀ low high i = Marked (day capacities flights) holds j i low high
+Inv-loop capacities flights holds j low₀ high₀ i₀ low high i = Marked (day capacities flights unlimited) holds j i low high
 
 abbrev μ-loop : tie.MeasureT-loop
 μ-loop capacities flights holds j low₀ high₀ i₀ low high i = length holds - i

@@ -1,6 +1,7 @@
 -- Each way out is one case of the card.
 -- Assumes nothing.
-use Rattle.period_card.proofs.Steps.{bad-day, jump-or-limit, no-period-0, no-period-above, is-card, few-flights}
+use Rattle.period_card.proofs.Steps.{bad-day, jump-or-limit, no-period-0, no-period-above, is-card, few-flights, card-any}
+use Rattle.quick_plan.proofs.Same.{valid-rows}
 use Rattle.period_card.specs.PeriodCard.{card}
 use borrow.Author.Tests.{not-true, not-false}
 use mathlib.Core.Path.{sym, ap, _∙_}
@@ -67,7 +68,7 @@ card-in-requires c κs =
     let at-flight-count = at-first-jump-or-limit .before in
     let at-if1 = at-flight-count .before in
     let at-is-valid = at-if1 .before in
-    ((sym (at-is-valid .is-valid .ensures) ∙ not-false _ (at-if1 .if1 .left), at-flight-count .flight-count .ensures, omega arith, omega arith), few-flights _ (sym (at-is-valid .is-valid .ensures) ∙ not-false _ (at-if1 .if1 .left)) (at-flight-count .flight-count .ensures))
+    ((valid-rows _ (sym (at-is-valid .is-valid .ensures) ∙ not-false _ (at-if1 .if1 .left)), at-flight-count .flight-count .ensures, omega arith, omega arith), few-flights _ (sym (at-is-valid .is-valid .ensures) ∙ not-false _ (at-if1 .if1 .left)) (at-flight-count .flight-count .ensures))
 
 returns-5 : tie.Need-returns-5
 returns-5 c =
@@ -78,7 +79,7 @@ returns-5 c =
     let at-flight-count = at-first-jump-or-limit .before in
     let at-if1 = at-flight-count .before in
     let at-is-valid = at-if1 .before in
-    c .before .card-in .ensures ∙ ap (card _) (at-wide .wide .ensures) ∙ sym (is-card _ _ (sym (at-is-valid .is-valid .ensures) ∙ not-false _ (at-if1 .if1 .left)) (at-flight-count .flight-count .ensures) (at-first-jump-or-limit .first-jump-or-limit .ensures) (at-if2 .if2 .left) (omega (arith, at-wide .wide .ensures, at-if3 .if3 .left)) (omega (arith, at-wide .wide .ensures, at-if3 .if3 .left, c .before .before .before .if4 .left)))
+    c .before .card-in .ensures ∙ card-any _ (omega arith) ∙ ap (card _) (at-wide .wide .ensures) ∙ sym (is-card _ _ (sym (at-is-valid .is-valid .ensures) ∙ not-false _ (at-if1 .if1 .left)) (at-flight-count .flight-count .ensures) (at-first-jump-or-limit .first-jump-or-limit .ensures) (at-if2 .if2 .left) (omega (arith, at-wide .wide .ensures, at-if3 .if3 .left)) (omega (arith, at-wide .wide .ensures, at-if3 .if3 .left, c .before .before .before .if4 .left)))
 
 pub period-card-spec : {M : Type 1} → statement M
 period-card-spec =

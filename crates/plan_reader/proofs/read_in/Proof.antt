@@ -1,15 +1,15 @@
 -- The parts of the rows that are lent on, and the plan copied where it is whole.
 -- Assumes nothing.
 use native.Mathlib.Omega.{arith}
-use Rattle.plan_reader.proofs.Calls.{row-holds, left-holds, copied-holds, in-starts, call-refused, plan-holds, plan-copied}
+use Rattle.plan_reader.proofs.Calls.{row-holds, left-holds, in-starts, call-refused, plan-holds, plan-copied}
 use borrow.Author.Needs.{needs}
 use Rattle.plan_reader.proofs.read_in.Statement.{statement}
 use Rattle.plan_reader.proofs.read_in.Tie as tie
 
-copy-front-requires : tie.Need-copy-front-requires
-copy-front-requires c κs =
+all-places-requires : tie.Need-all-places-requires
+all-places-requires c κs =
     let at-start = c .before .before .before .before .before .before .before in
-    let p = at-start .pre in (omega arith, left-holds p)
+    left-holds (at-start .pre)
 
 sub-read-rows : tie.Need-sub-read-rows
 sub-read-rows c = search needs
@@ -30,13 +30,12 @@ part-read-rows-start-2 c = search needs
 
 part-read-rows-end-2 : tie.Need-part-read-rows-end-2
 part-read-rows-end-2 c =
-    let at-start = c .before .before .before .before .before .before .before .before .before .before .before in
-    let p = at-start .pre in copied-holds p (c .before .before .before .copy-front .ensures)
+    c .before .before .before .all-places .ensures .there
 
 read-rows-requires : tie.Need-read-rows-requires
 read-rows-requires c κs =
     let at-start = c .before .before .before .before .before .before .before .before .before .before .before .before in
-    let p = at-start .pre in in-starts p (c .before .before .before .before .copy-front .ensures)
+    let p = at-start .pre in in-starts p (c .before .before .before .before .all-places .ensures)
 
 enum-known-end : tie.Need-enum-known-end
 enum-known-end c = search needs
@@ -44,8 +43,8 @@ enum-known-end c = search needs
 enum-known-end-2 : tie.Need-enum-known-end-2
 enum-known-end-2 c = search needs
 
-copy-front-requires-2 : tie.Need-copy-front-requires-2
-copy-front-requires-2 c κs =
+copy-front-requires : tie.Need-copy-front-requires
+copy-front-requires c κs =
     let at-rows = c .before .before .before .before .before .before .before .before .before in
     let at-start = c .before .before .before .before .before .before .before .before .before .before .before .before .before .before .before .before .before .before .before .before .before .before in
     (plan-holds (at-start .pre) _ (rw (c .before .before .before .end2 .given .1) at (at-rows .read-rows .ensures)), omega arith)
@@ -59,7 +58,7 @@ same-length-2 c = search needs
 returns : tie.Need-returns
 returns c =
     let at-rows = c .before .before .before .before .before .before .before in
-    call-refused _ _ _ (at-rows .read-rows .last .1 .1 .1 .0) (rw (c .before .end .given .1) at (at-rows .read-rows .ensures))
+    call-refused _ _ _ (at-rows .read-rows .last .1 .1 .1 .1 .0) (rw (c .before .end .given .1) at (at-rows .read-rows .ensures))
 
 same-length-3 : tie.Need-same-length-3
 same-length-3 c = search needs
@@ -75,13 +74,13 @@ returns-2 c =
     let at-end = c .before .before .before .before .before .before in
     let at-rows = c .before .before .before .before .before .before .before .before .before .before .before .before in
     let at-start = c .before .before .before .before .before .before .before .before .before .before .before .before .before .before .before .before .before .before .before .before .before .before .before .before .before in
-    plan-copied (at-start .pre) _ (rw (at-end .end2 .given .1) at (at-rows .read-rows .ensures)) (c .before .before .copy-front2 .ensures)
+    plan-copied (at-start .pre) _ (rw (at-end .end2 .given .1) at (at-rows .read-rows .ensures)) (c .before .before .copy-front .ensures)
 
 pub read-in-spec : {M : Type 1} → statement M
 read-in-spec =
     tie.close
     (tie.spec
-    copy-front-requires
+    all-places-requires
     sub-read-rows
     part-read-rows-start
     part-read-rows-end
@@ -91,7 +90,7 @@ read-in-spec =
     read-rows-requires
     enum-known-end
     enum-known-end-2
-    copy-front-requires-2
+    copy-front-requires
     same-length
     same-length-2
     returns

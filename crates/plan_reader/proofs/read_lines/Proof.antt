@@ -16,10 +16,10 @@ use Rattle.plan_reader.proofs.read_lines.Statement.{statement}
 use Rattle.plan_reader.proofs.read_lines.Tie as tie
 
 abbrev Inv-loop : tie.InvT-loop
-Inv-loop capacities flights text holds₀ left₀ n at₀ i₀ holds left at i = Read (day capacities flights) text holds left i at × (n ≡ N (day capacities flights))
+Inv-loop capacities flights closing text holds₀ left₀ n at₀ i₀ holds left at i = Read (day capacities flights closing) text holds left i at × (n ≡ N (day capacities flights closing))
 
 abbrev μ-loop : tie.MeasureT-loop
-μ-loop capacities flights text holds₀ left₀ n at₀ i₀ holds left at i = n - i
+μ-loop capacities flights closing text holds₀ left₀ n at₀ i₀ holds left at i = n - i
 
 -- whether the landing was taken
 broken : (c : tie.Then1 Inv-loop μ-loop) → c .before .before .before .take-landing .result ≡ false

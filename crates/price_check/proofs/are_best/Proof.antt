@@ -6,14 +6,14 @@ use borrow.Author.Tests.{not-true, not-false}
 use Prim.Native.Nat.{ℕ, _≤_, _<_, _-_}
 use native.Mathlib.Omega.{arith}
 use lib.ListN.{length}
-use Rattle.day.specs.Day.{day}
+use Rattle.day.specs.Day.{day, unlimited}
 use Rattle.price_check.specs.Check.{Best}
 use Rattle.answers.proofs.Decides.{say-yes, say-no}
 use Rattle.price_check.proofs.are_best.Statement.{statement}
 use Rattle.price_check.proofs.are_best.Tie as tie
 
 abbrev Inv-loop : tie.InvT-loop
-Inv-loop capacities flights holds prices i₀ i = (i ≤ length holds) × ((j : ℕ) → j < i → Best (day capacities flights) holds prices j)
+Inv-loop capacities flights holds prices i₀ i = (i ≤ length holds) × ((j : ℕ) → j < i → Best (day capacities flights unlimited) holds prices j)
 
 abbrev μ-loop : tie.MeasureT-loop
 μ-loop capacities flights holds prices i₀ i = length holds - i

@@ -2,7 +2,7 @@
 use native.Mathlib.Omega.{arith}
 use Rattle.answers.proofs.Decides.{say-yes, say-no}
 use Rattle.price_check.proofs.Laws.{best-place, due-made, cost-made, here-made, latest-made, here-land, here-cost, there-made, Bests, best-fits, best-next, best-not, best-limit, best-end}
-use Rattle.day.specs.Day.{day, column, cost, latest, ofPeriod, hold, landOf}
+use Rattle.day.specs.Day.{day, unlimited, column, cost, latest, ofPeriod, hold, landOf}
 use lib.ListN.{length}
 use Prim.Native.Nat.{_+_, _-_}
 use mathlib.Core.Path.{_≡_}
@@ -12,7 +12,7 @@ use Rattle.price_check.proofs.is_best.Statement.{statement}
 use Rattle.price_check.proofs.is_best.Tie as tie
 
 abbrev Inv-loop : tie.InvT-loop
-Inv-loop capacities flights holds prices i flight due hold here latest k₀ k = Bests (day capacities flights) holds prices i k
+Inv-loop capacities flights holds prices i flight due hold here latest k₀ k = Bests (day capacities flights unlimited) holds prices i k
 
 abbrev μ-loop : tie.MeasureT-loop
 μ-loop capacities flights holds prices i flight due hold here latest k₀ k = length capacities + 2 - k
@@ -38,11 +38,11 @@ due-is : (s : Ready) → at-due s .wide .result ≡ column 1 (at-start (at-read 
 due-is s = due-made _ _ _ (at-read s .flight-at .ensures) (at-due s .wide .ensures)
 
 here-is : (s : Ready) → s .before .before .hold-cost .result + s .before .of-period .result
-    ≡ cost (day (at-start (at-read s) .args .capacities .now) (at-start (at-read s) .args .flights .now)) (at-start (at-read s) .args .i) (hold (at-start (at-read s) .args .holds .now) (at-start (at-read s) .args .i))
+    ≡ cost (day (at-start (at-read s) .args .capacities .now) (at-start (at-read s) .args .flights .now) unlimited) (at-start (at-read s) .args .i) (hold (at-start (at-read s) .args .holds .now) (at-start (at-read s) .args .i))
     + ofPeriod (at-start (at-read s) .args .prices .now) (landOf (at-start (at-read s) .args .flights .now) (at-start (at-read s) .args .holds .now) (at-start (at-read s) .args .i))
 here-is s = here-made _ _ _ (at-read s .flight-at .ensures) (at-start (at-read s) .args .holds .now) (at-start (at-read s) .args .prices .now) (at-due s .wide .ensures) (s .before .before .before .wide2 .ensures) (s .before .before .hold-cost .ensures) (s .before .of-period .ensures .0)
 
-latest-is : (s : Ready) → s .latest-of .result ≡ latest (day (at-start (at-read s) .args .capacities .now) (at-start (at-read s) .args .flights .now)) (at-start (at-read s) .args .i)
+latest-is : (s : Ready) → s .latest-of .result ≡ latest (day (at-start (at-read s) .args .capacities .now) (at-start (at-read s) .args .flights .now) unlimited) (at-start (at-read s) .args .i)
 latest-is s = latest-made _ _ _ (at-read s .flight-at .ensures) _ (s .latest-of .ensures)
 
 flight-at-requires : tie.Need-flight-at-requires Inv-loop μ-loop

@@ -21,7 +21,7 @@ returns c =
     let at-shared-slice-known = at-write-plan .before .before .before .before .before in
     let at-start = at-shared-slice-known .before in
     let a = at-start .args in
-    plan-front (a .text .now) (day (a .capacities .now) (a .flights .now)) (a .holds .now) (at-start .pre .0) (at-start .pre .1) (at-start .pre .2) (at-write-plan .write-plan .ensures .0) (at-write-plan .write-plan .ensures .1) (c .code-of .ensures)
+    plan-front (a .text .now) (day (a .capacities .now) (a .flights .now) (a .closing)) (a .holds .now) (at-start .pre .0) (at-start .pre .1) (at-start .pre .2) (at-write-plan .write-plan .ensures .0) (at-write-plan .write-plan .ensures .1) (c .code-of .ensures)
 
 pub put-plan-spec : {M : Type 1} → statement M
 put-plan-spec = tie.close (tie.spec write-plan-requires code-of-requires same-length returns)

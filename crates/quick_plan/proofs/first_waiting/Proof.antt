@@ -3,14 +3,14 @@
 use borrow.Author.Needs.{needs}
 use mathlib.Core.Logic.{inl, inr}
 use Prim.Native.Nat.{_-_}
-use Rattle.day.specs.Day.{day}
+use Rattle.day.specs.Day.{day, unlimited}
 use Rattle.quick_plan.specs.NextCost.{nextCost}
 use Rattle.quick_plan.proofs.Steps.{Scan, scan-start, scan-there, scan-periods, scan-due, best-there, scan-skip, scan-fresh, scan-better, scan-worse, scan-end}
 use Rattle.quick_plan.proofs.first_waiting.Statement.{statement}
 use Rattle.quick_plan.proofs.first_waiting.Tie as tie
 
 abbrev Inv-loop : tie.InvT-loop
-Inv-loop next factors capacities flights holds j n best₀ highest₀ i₀ best highest i = Scan (day capacities flights) (nextCost next flights j) holds j n i best highest
+Inv-loop next factors capacities flights holds j n best₀ highest₀ i₀ best highest i = Scan (day capacities flights unlimited) (nextCost next flights j) holds j n i best highest
 
 abbrev μ-loop : tie.MeasureT-loop
 μ-loop next factors capacities flights holds j n best₀ highest₀ i₀ best highest i = n - i

@@ -2,14 +2,14 @@
 -- Assumes nothing.
 use native.Mathlib.Omega.{arith}
 use borrow.Author.Needs.{needs}
-use Rattle.day.specs.Day.{day, capacity}
+use Rattle.day.specs.Day.{day, unlimited, capacity}
 use Rattle.quick_plan.specs.NextCost.{nextCost}
 use Rattle.quick_plan.proofs.Steps.{Landing, landing-start, landing-early, landing-stop, landing-flight, landing-more, landing-end}
 use Rattle.quick_plan.proofs.land_period.Statement.{statement}
 use Rattle.quick_plan.proofs.land_period.Tie as tie
 
 abbrev Inv-loop : tie.InvT-loop
-Inv-loop next factors capacities flights holds₀ j n left₀ holds left = Landing (day capacities flights) (nextCost next flights j) j (capacity (day capacities flights) j) holds₀ left holds
+Inv-loop next factors capacities flights holds₀ j n left₀ holds left = Landing (day capacities flights unlimited) (nextCost next flights j) j (capacity (day capacities flights unlimited) j) holds₀ left holds
 
 abbrev μ-loop : tie.MeasureT-loop
 μ-loop next factors capacities flights holds₀ j n left₀ holds left = left

@@ -4,7 +4,7 @@ use borrow.Author.Needs.{needs}
 use native.Mathlib.Omega.{arith}
 use mathlib.Core.Path.{sym, _∙_}
 use Prim.Native.Nat.{_-_, _≤_}
-use Rattle.day.specs.Day.{day}
+use Rattle.day.specs.Day.{day, unlimited}
 use Rattle.quick_plan.specs.NextCost.{nextCost}
 use Rattle.quick_plan.proofs.NextCosts.{fits-to}
 use Rattle.quick_plan.proofs.Steps.{Planned, planned-start, planned-next, planned-end}
@@ -12,7 +12,7 @@ use Rattle.quick_plan.proofs.plan_to.Statement.{statement}
 use Rattle.quick_plan.proofs.plan_to.Tie as tie
 
 abbrev Inv-loop : tie.InvT-loop
-Inv-loop next capacities flights holds₀ stop factors j₀ holds j = (j ≤ stop) × Planned (day capacities flights) (nextCost next flights) holds j
+Inv-loop next capacities flights holds₀ stop factors j₀ holds j = (j ≤ stop) × Planned (day capacities flights unlimited) (nextCost next flights) holds j
 
 abbrev μ-loop : tie.MeasureT-loop
 μ-loop next capacities flights holds₀ stop factors j₀ holds j = stop - j

@@ -4,13 +4,13 @@ use borrow.Author.Needs.{needs}
 use lib.ListN.{length}
 use native.Mathlib.Omega.{arith}
 use Prim.Native.Nat.{_-_}
-use Rattle.day.specs.Day.{day}
+use Rattle.day.specs.Day.{day, unlimited}
 use Rattle.quick_plan.proofs.Steps.{Started, started-none, started-periods, started-there, started-due, started-more, started-end}
 use Rattle.quick_plan.proofs.start_row.Statement.{statement}
 use Rattle.quick_plan.proofs.start_row.Tie as tie
 
 abbrev Inv-loop : tie.InvT-loop
-Inv-loop capacities flights holds₀ i₀ holds i = Started (day capacities flights) holds₀ holds i
+Inv-loop capacities flights holds₀ i₀ holds i = Started (day capacities flights unlimited) holds₀ holds i
 
 abbrev μ-loop : tie.MeasureT-loop
 μ-loop capacities flights holds₀ i₀ holds i = length holds₀ - i

@@ -2,15 +2,13 @@
 use borrow.Author.Needs.{needs}
 use Rattle.day.specs.Day.{mostPeriods}
 use Rattle.sheet_reader.specs.Loop.{PeriodsRead}
-use Rattle.sheet_reader.proofs.Loops.{periods-start, no-period, some-period, full-end, full-more, period-form, period-count, period-range, period-next}
-use Rattle.text.specs.Fixed.{startsWith}
-use Rattle.sheet.specs.Text.{flightNames}
+use Rattle.sheet_reader.proofs.Loops.{periods-start, periods-ended, full-end, full-more, period-form, period-count, period-range, period-next}
+use Rattle.sheet.specs.Sheet.{endsPeriods}
 use Rattle.sheet.specs.Lines.{periodLine}
 use Rattle.sheet.specs.declared.PeriodLine.the-variants.{Period}
 use Prim.Native.Nat.{ℕ, _-_}
 use mathlib.Core.Bool.{false}
 use mathlib.Core.List.{List}
-use lib.ListN.{drop}
 use mathlib.Core.Path.{_≡_, sym, _∙_}
 use Rattle.sheet_reader.proofs.read_periods.Statement.{statement}
 use Rattle.sheet_reader.proofs.read_periods.Tie as tie
@@ -21,12 +19,12 @@ Inv-loop s caps₀ n₀ at₀ caps n at = PeriodsRead s caps n at
 abbrev μ-loop : tie.MeasureT-loop
 μ-loop s caps₀ n₀ at₀ caps n at = mostPeriods - n
 
--- the sheet, seen from where a turn begins, and where the second names line is not there
+-- the sheet, seen from where a turn begins, and where the period lines do not end
 abbrev sheet : tie.At-loop Inv-loop μ-loop → List ℕ
 sheet c = c .before .before .args .s .now
 
-no-names : (c : tie.Else1 Inv-loop μ-loop) → startsWith (drop (c .before .before .loop .at) (sheet (c .before .before))) flightNames ≡ false
-no-names c = sym (c .before .names-here .ensures) ∙ c .if1 .left
+no-end : (c : tie.Else1 Inv-loop μ-loop) → endsPeriods (sheet (c .before .before)) (c .before .before .loop .at) ≡ false
+no-end c = sym (c .before .end-here .ensures) ∙ c .if1 .left
 
 -- where the row has room for another line, and the line read there, seen from where it is a period line
 abbrev more : tie.After-wide Inv-loop μ-loop → tie.Else2 Inv-loop μ-loop
@@ -41,18 +39,18 @@ line-read c = sym (c .before .before .before .before .period-line .ensures) ∙ 
 loop-holds : tie.Need-loop-holds Inv-loop μ-loop
 loop-holds c = periods-start _ _ (c .before .pre .0) (c .before .pre .1)
 
-names-here-requires : tie.Need-names-here-requires Inv-loop μ-loop
-names-here-requires c κs = search needs
+end-here-requires : tie.Need-end-here-requires Inv-loop μ-loop
+end-here-requires c κs = search needs
 
 returns : tie.Need-returns Inv-loop μ-loop
 returns c =
     let e = c .before .before in
-    full-end (e .before .before .loop .inv) (no-names e) (c .before .if2 .taken) (c .if3 .taken)
+    full-end (e .before .before .loop .inv) (no-end e) (c .before .if2 .taken) (c .if3 .taken)
 
 returns-2 : tie.Need-returns-2 Inv-loop μ-loop
 returns-2 c =
     let e = c .before .before in
-    full-more (e .before .before .loop .inv) (no-names e) (c .before .if2 .taken) (c .if3 .left)
+    full-more (e .before .before .loop .inv) (no-end e) (c .before .if2 .taken) (c .if3 .left)
 
 period-line-requires : tie.Need-period-line-requires Inv-loop μ-loop
 period-line-requires c κs = search needs
@@ -67,7 +65,7 @@ returns-3 : tie.Need-returns-3 Inv-loop μ-loop
 returns-3 c =
     let p = c .before .before in
     let m = p .before in
-    period-form (m .before .before .before .loop .inv) (no-names (m .before)) (m .if2 .left) (sym (p .period-line .ensures) ∙ c .enum-told .given .1)
+    period-form (m .before .before .before .loop .inv) (no-end (m .before)) (m .if2 .left) (sym (p .period-line .ensures) ∙ c .enum-told .given .1)
 
 wide-requires : tie.Need-wide-requires Inv-loop μ-loop
 wide-requires c κs = search needs
@@ -78,12 +76,12 @@ add-if4 c = search needs
 returns-4 : tie.Need-returns-4 Inv-loop μ-loop
 returns-4 c =
     let w = c .before in
-    period-count (turn w .loop .inv) (no-names (more w .before)) (more w .if2 .left) (line-read w) (λ z. c .if4 .taken (w .wide .ensures ∙ z))
+    period-count (turn w .loop .inv) (no-end (more w .before)) (more w .if2 .left) (line-read w) (λ z. c .if4 .taken (w .wide .ensures ∙ z))
 
 returns-5 : tie.Need-returns-5 Inv-loop μ-loop
 returns-5 c =
     let w = c .before .before in
-    period-range (turn w .loop .inv) (no-names (more w .before)) (more w .if2 .left) (line-read w) (sym (w .wide .ensures) ∙ c .before .if4 .left) (c .if5 .taken)
+    period-range (turn w .loop .inv) (no-end (more w .before)) (more w .if2 .left) (line-read w) (sym (w .wide .ensures) ∙ c .before .if4 .left) (c .if5 .taken)
 
 mul-caps : tie.Need-mul-caps Inv-loop μ-loop
 mul-caps c = search needs
@@ -100,20 +98,15 @@ loop-less c = search needs
 loop-again : tie.Need-loop-again Inv-loop μ-loop
 loop-again c =
     let w = c .before .before in
-    period-next (turn w .loop .inv) (no-names (more w .before)) (more w .if2 .left) (line-read w) (sym (w .wide .ensures) ∙ c .before .if4 .left) (c .if5 .left)
+    period-next (turn w .loop .inv) (no-end (more w .before)) (more w .if2 .left) (line-read w) (sym (w .wide .ensures) ∙ c .before .if4 .left) (c .if5 .left)
+
+read-end-requires : tie.Need-read-end-requires Inv-loop μ-loop
+read-end-requires c κs = search needs
 
 returns-6 : tie.Need-returns-6 Inv-loop μ-loop
 returns-6 c =
     let n = c .before .before in
-    no-period (n .before .loop .inv) (sym (n .names-here .ensures) ∙ c .before .if1 .taken) (c .if6 .taken)
-
-add-t24 : tie.Need-add-t24 Inv-loop μ-loop
-add-t24 c = search needs
-
-returns-7 : tie.Need-returns-7 Inv-loop μ-loop
-returns-7 c =
-    let n = c .before .before in
-    some-period (n .before .loop .inv) (sym (n .names-here .ensures) ∙ c .before .if1 .taken) (c .if6 .left)
+    periods-ended (n .before .loop .inv) (sym (n .end-here .ensures) ∙ c .before .if1 .taken) (c .read-end .result) (c .read-end .ensures)
 
 pub read-periods-spec : {M : Type 1} → statement M
 read-periods-spec =
@@ -122,7 +115,7 @@ read-periods-spec =
     Inv-loop
     μ-loop
     loop-holds
-    names-here-requires
+    end-here-requires
     returns
     returns-2
     period-line-requires
@@ -138,6 +131,5 @@ read-periods-spec =
     add-n
     loop-less
     loop-again
-    returns-6
-    add-t24
-    returns-7)
+    read-end-requires
+    returns-6)

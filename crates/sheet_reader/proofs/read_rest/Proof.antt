@@ -25,8 +25,10 @@ count : (c : tie.After-read-flights) → length (caps c) ≡ start c .args .coun
 count c = let s = start c in length-take-le (s .args .count) (s .args .caps .now) (omega (arith, s .pre))
 
 result : (c : tie.After-read-flights) (x : Listing) → c .read-flights .result ≡ x
-    → readFlights mostFlights (start c .args .sheet .now) (start c .args .at) (caps c) [] ≡ filled x (caps c) (c .read-flights .last .1 .1 .1 .0)
-result c x e = c .read-flights .ensures .1 .1 (caps c) (count c) ∙ ap (λ (y : Listing). filled y (caps c) (c .read-flights .last .1 .1 .1 .0)) e
+    → readFlights mostFlights (start c .args .sheet .now) (start c .args .at) (caps c) (start c .args .closing) [] ≡ filled x (caps c) (start c .args .closing) (c .read-flights .last .1 .1 .1 .0)
+result c x e =
+    c .read-flights .ensures .1 .1 (caps c) (start c .args .closing) (count c)
+    ∙ ap (λ (y : Listing). filled y (caps c) (start c .args .closing) (c .read-flights .last .1 .1 .1 .0)) e
 
 -- the flights read, seen from behind the first copy, and that copy, seen from before the second
 abbrev listed : tie.After-copy-front → tie.After-r2
@@ -43,6 +45,9 @@ read-flights-requires c κs = search needs
 
 enum-known-r : tie.Need-enum-known-r
 enum-known-r c = search needs
+
+refusal-requires : tie.Need-refusal-requires
+refusal-requires c κs = search needs
 
 enum-known-r-2 : tie.Need-enum-known-r-2
 enum-known-r-2 c = search needs
@@ -63,7 +68,7 @@ copy-front-requires-2 c κs =
     omega (arith, few v, r .read-flights .ensures .0, start r .pre)
 
 returns : tie.Need-returns
-returns c = refused-so _ _ _ _ (result (c .before .before .before) _ (c .before .r .given .1))
+returns c = let v = c .before .before in refused-so (result (v .before .before) _ (v .r .given .1)) (c .refusal .ensures)
 
 same-length : tie.Need-same-length
 same-length c = search needs
@@ -78,7 +83,7 @@ returns-2 c =
     let v = listed f in
     let r = v .before .before in
     let w = few v in
-    read-so _ _ _ _ _ _ _ (result r _ (v .r2 .given .1)) (count r) (omega (arith, r .read-flights .ensures .0)) _ _ (f .copy-front .ensures) (e .copy-front2 .ensures)
+    read-so _ _ _ _ _ _ _ _ (result r _ (v .r2 .given .1)) (count r) (omega (arith, r .read-flights .ensures .0)) _ _ (f .copy-front .ensures) (e .copy-front2 .ensures)
 
 pub read-rest-spec : {M : Type 1} → statement M
 read-rest-spec =
@@ -86,6 +91,7 @@ read-rest-spec =
     (tie.spec
     read-flights-requires
     enum-known-r
+    refusal-requires
     enum-known-r-2
     copy-front-requires
     slice-aggregate-copy-front

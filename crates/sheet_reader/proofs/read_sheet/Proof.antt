@@ -47,28 +47,46 @@ behind : (c : tie.After-read-periods) (x : Periods) → c .read-periods .result 
 behind c x e =
     on (passed c) ∙ (c .read-periods .ensures .1 .0 ∙ ap (λ (y : Periods). goOn y (sheet (rows (passed c .before))) (c .read-periods .last .1 .0)) e)
 
+refusal-requires : tie.Need-refusal-requires
+refusal-requires c κs = search needs
+
 returns : tie.Need-returns
-returns c = call-caps _ _ _ (c .if1 .taken)
+returns c = refused-so (call-caps _ _ _ (c .before .if1 .taken)) (c .refusal .ensures)
+
+refusal-requires-2 : tie.Need-refusal-requires-2
+refusal-requires-2 c κs = search needs
 
 returns-2 : tie.Need-returns-2
-returns-2 c = call-flights _ _ _ (c .before .if1 .left) (c .if2 .taken)
+returns-2 c = let t = c .before in refused-so (call-flights _ _ _ (t .before .if1 .left) (t .if2 .taken)) (c .refusal2 .ensures)
+
+refusal-requires-3 : tie.Need-refusal-requires-3
+refusal-requires-3 c κs = search needs
 
 returns-3 : tie.Need-returns-3
-returns-3 c = call-long _ _ _ (c .before .before .if1 .left) (c .before .if2 .left) (c .if3 .taken)
+returns-3 c =
+    let t = c .before in
+    refused-so (call-long _ _ _ (t .before .before .if1 .left) (t .before .if2 .left) (t .if3 .taken)) (c .refusal3 .ensures)
 
 top-here-requires : tie.Need-top-here-requires
 top-here-requires c κs = search needs
 
+refusal-requires-4 : tie.Need-refusal-requires-4
+refusal-requires-4 c κs = search needs
+
 returns-4 : tie.Need-returns-4
 returns-4 c =
-    let t = c .before in
-    call-top _ _ _ (rows t .if1 .left) (t .before .before .if2 .left) (t .before .if3 .left) (sym (t .top-here .ensures) ∙ not-true _ (c .if4 .taken))
+    let t = c .before .before in
+    let e = sym (t .top-here .ensures) ∙ not-true _ (c .before .if4 .taken) in
+    refused-so (call-top _ _ _ (rows t .if1 .left) (t .before .before .if2 .left) (t .before .if3 .left) e) (c .refusal4 .ensures)
 
 read-periods-requires : tie.Need-read-periods-requires
 read-periods-requires c κs = (top-within _ (top (c .before)), refl)
 
 enum-known-p : tie.Need-enum-known-p
 enum-known-p c = search needs
+
+refusal-requires-5 : tie.Need-refusal-requires-5
+refusal-requires-5 c κs = search needs
 
 enum-known-p-2 : tie.Need-enum-known-p-2
 enum-known-p-2 c = search needs
@@ -78,13 +96,13 @@ read-rest-requires c κs =
     let v = c .before .before .before .before in
     let r = v .before .before in
     let t = passed r .before in
-    let w = ready-upto _ _ _ _ (v .p2 .given .1) (r .read-periods .ensures .1 .1) in
+    let w = ready-upto _ _ _ _ _ (v .p2 .given .1) (r .read-periods .ensures .1 .1) in
     (w .1, w .0, r .read-periods .ensures .0, rows t .if1 .left, t .before .before .if2 .left)
 
 returns-5 : tie.Need-returns-5
 returns-5 c =
-    let r = c .before .before .before in
-    refused-so _ _ _ _ (behind r _ (c .before .p .given .1))
+    let v = c .before .before in
+    refused-so (behind (v .before .before) _ (v .p .given .1)) (c .refusal5 .ensures)
 
 same-length : tie.Need-same-length
 same-length c = search needs
@@ -106,13 +124,18 @@ pub read-sheet-spec : {M : Type 1} → statement M
 read-sheet-spec =
     tie.close
     (tie.spec
+    refusal-requires
     returns
+    refusal-requires-2
     returns-2
+    refusal-requires-3
     returns-3
     top-here-requires
+    refusal-requires-4
     returns-4
     read-periods-requires
     enum-known-p
+    refusal-requires-5
     enum-known-p-2
     read-rest-requires
     returns-5

@@ -20,20 +20,23 @@ abbrev start : tie.After-is-valid → tie.Start
 start c = c .before .before .before .before
 
 abbrev the-day : tie.After-is-valid → Day
-the-day c = day (start c .args .capacities .now) (start c .args .flights .now)
+the-day c = day (start c .args .capacities .now) (start c .args .flights .now) (start c .args .closing)
 
-abbrev check : tie.After-flights-len → tie.Else1
-check c = c .before .before .before
+abbrev check : tie.After-closing-len → tie.Else1
+check c = c .before .before .before .before
 
 passed : (c : tie.Else1) → valid (the-day (c .before)) ≡ true
 passed c = sym (c .before .is-valid .ensures) ∙ not-false _ (c .if1 .left)
 
 -- the length needed
-abbrev lines : tie.After-flights-len → ℕ
-lines c = c .before .periods-len .result + c .flights-len .result + 54
+abbrev lines : tie.After-closing-len → ℕ
+lines c = c .before .before .periods-len .result + c .before .flights-len .result + c .closing-len .result + 54
 
-needed : (c : tie.After-flights-len) → lines c ≡ length (sheetOf (the-day (check c .before)))
-needed c = needed-is (the-day (check c .before)) (c .before .periods-len .ensures .0) (rw (c .before .before .flight-count .ensures) at (c .flights-len .ensures .0))
+needed : (c : tie.After-closing-len) → lines c ≡ length (sheetOf (the-day (check c .before)))
+needed c =
+    let f = c .before in
+    let n = f .before .before .flight-count .ensures in
+    needed-is (the-day (check c .before)) (f .before .periods-len .ensures .0) (rw n at (f .flights-len .ensures .0)) (c .closing-len .ensures .0)
 
 is-valid-requires : tie.Need-is-valid-requires
 is-valid-requires c κs = search needs
@@ -55,8 +58,14 @@ flights-len-requires c κs =
 add-needed : tie.Need-add-needed
 add-needed c = search needs
 
+closing-len-requires : tie.Need-closing-len-requires
+closing-len-requires c κs = search needs
+
 add-needed-2 : tie.Need-add-needed-2
 add-needed-2 c = search needs
+
+add-needed-3 : tie.Need-add-needed-3
+add-needed-3 c = search needs
 
 returns-2 : tie.Need-returns-2
 returns-2 c = let l = c .before in too-short _ _ _ (passed (check l)) (needed l) (omega (arith, c .if2 .taken))
@@ -80,14 +89,14 @@ part-fill-sheet-end c = search needs
 fits : (c : tie.Else3) → start (check (c .before .before) .before) .args .place + lines (c .before .before) ≤ length (start (check (c .before .before) .before) .args .text .now)
 fits c = omega (arith, c .if3 .left, c .before .if2 .left)
 
-same : (c : tie.After-flights-len) → sheetText (start (check c .before) .args .capacities .now) (firstFlights (c .before .before .flight-count .result) (start (check c .before) .args .flights .now)) ≡ sheetOf (the-day (check c .before))
-same c = text-of (the-day (check c .before)) _ (c .before .before .flight-count .ensures)
+same : (c : tie.After-closing-len) → sheetText (start (check c .before) .args .capacities .now) (firstFlights (c .before .before .before .flight-count .result) (start (check c .before) .args .flights .now)) (start (check c .before) .args .closing) ≡ sheetOf (the-day (check c .before))
+same c = text-of (the-day (check c .before)) _ (c .before .before .before .flight-count .ensures)
 
 fill-sheet-requires : tie.Need-fill-sheet-requires
 fill-sheet-requires c κs =
     let l = c .before .before .before in
     let w = valid-means (passed (check l)) in
-    let n = l .before .before .flight-count .ensures in
+    let n = l .before .before .before .flight-count .ensures in
     (simp (length-take, length-drop) (omega (arith, needed l, ap length (same l), fits (c .before))), w .periods-to, omega (arith, n, w .flights-to), omega (arith, n, w .whole))
 
 same-length : tie.Need-same-length
@@ -112,7 +121,9 @@ write-sheet-spec =
     periods-len-requires
     flights-len-requires
     add-needed
+    closing-len-requires
     add-needed-2
+    add-needed-3
     returns-2
     sub-if3
     returns-3
