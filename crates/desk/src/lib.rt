@@ -51,12 +51,12 @@ pub extern "C" fn hold_desk_read_sheet(
 {
     let read = sheet_reader::read_sheet(sheet, capacities, flights);
     let answer = read.answer;
-    let code = code_of(answer);
+    let values = code_of(answer);
     let closing = read.closing;
     ReadingCode {
-        number: code.number,
-        first: code.first,
-        second: code.second,
+        number: values.number,
+        first: values.first,
+        second: values.second,
         closing: day::wide(closing) as u64,
     }
 }
