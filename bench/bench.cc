@@ -30,10 +30,10 @@ static std::string with_another_digit(std::string text, size_t before)
     return text;
 }
 
-// One day with all rows that the core's calls read and write. The forecast plan gets it without jumps, the quick plan and the
-// card without jumps and limits, and the growing plan so and by the hour.
+// One day with all rows that the core's calls read and write. The forecast plan gets it without jumps and curfew, the quick plan and
+// the card without limits too, and the growing plan so and by the hour; and the full plan also with the curfew that it just keeps.
 struct Desk {
-    Day day, jumpless, plain, hourly;
+    Day day, jumpless, plain, hourly, tight;
     Forecasts forecasts;
     uint64_t total = 0, expected = 0, beside_total = 0, grown = 0;
     std::string sheet, buffer = std::string(MOST_BYTES, ' ');
@@ -44,11 +44,15 @@ struct Desk {
     explicit Desk(const Day &given) : day(given), jumpless(given), forecasts(given), sheet(given.sheet()), places(given.count()), beside_holds(given.count()), holds_read(given.count()), untouched(given.count(), UINT32_MAX)
     {
         jumpless.set(JUMP, 0);
+        jumpless.closing = NO_CURFEW;
         plain = jumpless;
         plain.set(LIMIT, MISSING);
         hourly = by_the_hour(plain);
         expect(full(), day.name + " has no plan");
         write_texts();
+        tight = day;
+        tight.closing = day.left();
+        tight.fit();
     }
 
     // the text of the full plan, and the two wrong ones
@@ -64,36 +68,42 @@ struct Desk {
 
     // each call says whether it was accepted, or refused as it must be
     bool read() { return hold_desk_read_sheet((const uint8_t *)sheet.data(), sheet.size(), capacities.data(), MOST_PERIODS, flights.data(), FLIGHT_ROW).number == 0; }
-    bool write() { return hold_desk_write_sheet(day.capacities.data(), day.periods(), day.flights.data(), day.flights.size(), (uint8_t *)buffer.data(), buffer.size(), 0).number == 0; }
-    bool quick() { return hold_desk_quick_plan(plain.capacities.data(), plain.periods(), plain.flights.data(), plain.flights.size(), plain.holds.data(), plain.holds.size()).number == 0; }
-    bool hourly_quick() { return hold_desk_quick_plan(hourly.capacities.data(), hourly.periods(), hourly.flights.data(), hourly.flights.size(), hourly.holds.data(), hourly.holds.size()).number == 0; }
+    bool write() { return hold_desk_write_sheet(day.capacities.data(), day.periods(), day.flights.data(), day.flights.size(), day.closing, (uint8_t *)buffer.data(), buffer.size(), 0).number == 0; }
+    bool quick() { return hold_desk_quick_plan(plain.capacities.data(), plain.periods(), plain.flights.data(), plain.flights.size(), plain.closing, plain.holds.data(), plain.holds.size()).number == 0; }
+    bool hourly_quick() { return hold_desk_quick_plan(hourly.capacities.data(), hourly.periods(), hourly.flights.data(), hourly.flights.size(), hourly.closing, hourly.holds.data(), hourly.holds.size()).number == 0; }
     bool growth()
     {
-        hold_desk_answer plan = hold_desk_growth_plan(hourly.capacities.data(), hourly.periods(), hourly.flights.data(), hourly.flights.size(), GROWTH, hourly.holds.data(), hourly.holds.size());
+        hold_desk_answer plan = hold_desk_growth_plan(hourly.capacities.data(), hourly.periods(), hourly.flights.data(), hourly.flights.size(), hourly.closing, GROWTH, hourly.holds.data(), hourly.holds.size());
         grown = plan.first;
         return plan.number == 0;
     }
     // of the last period, since a card plans all periods before its own
-    bool card() { return hold_desk_period_card(plain.capacities.data(), plain.periods(), plain.flights.data(), plain.flights.size(), uint32_t(plain.periods())).number == 0; }
+    bool card() { return hold_desk_period_card(plain.capacities.data(), plain.periods(), plain.flights.data(), plain.flights.size(), plain.closing, uint32_t(plain.periods())).number == 0; }
     bool full()
     {
         hold_desk_answer plan = day.plan();
         total = plan.first;
         return plan.number == 0;
     }
-    bool check() { return hold_desk_price_check(day.capacities.data(), day.periods(), day.flights.data(), day.flights.size(), day.holds.data(), day.holds.size(), day.prices.data(), day.prices.size()); }
-    bool choice() { return hold_desk_choice(day.capacities.data(), day.periods(), day.flights.data(), day.flights.size(), day.holds.data(), day.holds.size(), day.holds.data(), day.holds.size()) == 1; }
-    bool board() { return hold_desk_board(day.capacities.data(), day.periods(), day.flights.data(), day.flights.size(), day.holds.data(), day.holds.size(), places.data(), places.size()).number == 0; }
+    // a curfew that leaves a plan leaves the total
+    bool tight_full()
+    {
+        hold_desk_answer plan = tight.plan();
+        return plan.number == 0 && plan.first == total;
+    }
+    bool check() { return hold_desk_price_check(day.capacities.data(), day.periods(), day.flights.data(), day.flights.size(), day.closing, day.holds.data(), day.holds.size(), day.prices.data(), day.prices.size()); }
+    bool choice() { return hold_desk_choice(day.capacities.data(), day.periods(), day.flights.data(), day.flights.size(), day.closing, day.holds.data(), day.holds.size(), day.holds.data(), day.holds.size()) == 1; }
+    bool board() { return hold_desk_board(day.capacities.data(), day.periods(), day.flights.data(), day.flights.size(), day.closing, day.holds.data(), day.holds.size(), places.data(), places.size()).number == 0; }
     bool text()
     {
-        hold_desk_answer written = hold_desk_plan_text(day.capacities.data(), day.periods(), day.flights.data(), day.flights.size(), day.holds.data(), day.holds.size(), (uint8_t *)buffer.data(), buffer.size(), 0);
+        hold_desk_answer written = hold_desk_plan_text(day.capacities.data(), day.periods(), day.flights.data(), day.flights.size(), day.closing, day.holds.data(), day.holds.size(), (uint8_t *)buffer.data(), buffer.size(), 0);
         text_bytes = written.first;
         return written.number == 0;
     }
     bool reads(const std::string &given, hold_desk_answer want)
     {
         holds_read = untouched;
-        hold_desk_answer got = hold_desk_read_plan(day.capacities.data(), day.periods(), day.flights.data(), day.flights.size(), (const uint8_t *)given.data(), given.size(), holds_read.data(), holds_read.size());
+        hold_desk_answer got = hold_desk_read_plan(day.capacities.data(), day.periods(), day.flights.data(), day.flights.size(), day.closing, (const uint8_t *)given.data(), given.size(), holds_read.data(), holds_read.size());
         return got.number == want.number && got.first == want.first && got.second == want.second;
     }
     // the hold row is compared each time, which takes little beside the call
@@ -103,7 +113,7 @@ struct Desk {
     bool refused_line() { return reads(wrong_line, {HOLD_DESK_BAD_PLAN_TEXT, line_at, 0}) && holds_read == untouched; }
     bool forecast()
     {
-        hold_desk_answer plan = hold_desk_forecast_plan(jumpless.capacities.data(), jumpless.periods(), jumpless.flights.data(), jumpless.flights.size(), uint32_t(forecasts.weights.size()), AIR_FACTOR, forecasts.weights.data(), forecasts.weights.size(), forecasts.capacities.data(), forecasts.capacities.size(), jumpless.holds.data(), jumpless.holds.size());
+        hold_desk_answer plan = hold_desk_forecast_plan(jumpless.capacities.data(), jumpless.periods(), jumpless.flights.data(), jumpless.flights.size(), jumpless.closing, uint32_t(forecasts.weights.size()), AIR_FACTOR, forecasts.weights.data(), forecasts.weights.size(), forecasts.capacities.data(), forecasts.capacities.size(), jumpless.holds.data(), jumpless.holds.size());
         expected = plan.first;
         return plan.number == 0;
     }
@@ -152,6 +162,14 @@ static void measure_plan(Desk &desk, int repeats, Figures &row)
 {
     row["full us"] = times_of(desk, &Desk::full, repeats).front();
     beside<Simplex>(desk.day, desk.total, repeats, "full us", "simplex", row);
+}
+
+static void measure_curfew(Desk &desk, int repeats, Figures &row)
+{
+    row["full us"] = times_of(desk, &Desk::full, repeats).front();
+    row["curfew us"] = times_of(desk, &Desk::tight_full, repeats).front();
+    row["curfew/full"] = row["curfew us"] / row["full us"];
+    beside<Simplex>(desk.tight, desk.total, repeats, "curfew us", "simplex", row);
 }
 
 static void measure_growth(Desk &desk, int repeats, Figures &row)
@@ -351,7 +369,7 @@ static std::vector<Desk> growing_days()
 // machine did.
 static void print_longest(std::vector<Desk> &desks, int repeats)
 {
-    const std::pair<const char *, Call> calls[] = {{"read_sheet", &Desk::read}, {"write_sheet", &Desk::write}, {"quick_plan", &Desk::quick}, {"period_card", &Desk::card}, {"full_plan", &Desk::full}, {"price_check", &Desk::check}, {"choice", &Desk::choice}, {"board", &Desk::board}, {"plan_text", &Desk::text}, {"read_plan", &Desk::read_back}, {"read_plan, another total", &Desk::refused_total}, {"read_plan, another cost", &Desk::refused_line}, {"forecast_plan", &Desk::forecast}, {"growth_plan", &Desk::growth}};
+    const std::pair<const char *, Call> calls[] = {{"read_sheet", &Desk::read}, {"write_sheet", &Desk::write}, {"quick_plan", &Desk::quick}, {"period_card", &Desk::card}, {"full_plan", &Desk::full}, {"full_plan, curfew", &Desk::tight_full}, {"price_check", &Desk::check}, {"choice", &Desk::choice}, {"board", &Desk::board}, {"plan_text", &Desk::text}, {"read_plan", &Desk::read_back}, {"read_plan, another total", &Desk::refused_total}, {"read_plan, another cost", &Desk::refused_line}, {"forecast_plan", &Desk::forecast}, {"growth_plan", &Desk::growth}};
     print_heads({"call", "longest us", "on day", "longest seen us"});
     for (auto &[name, call] : calls) {
         double longest = 0, seen = 0;
@@ -375,6 +393,8 @@ int main(int argc, char **argv)
     print_classes(desks, measure(desks, repeats, rounds, measure_all), {"full us", "simplex", "simplex+build", "capacity", "capacity+build", "cost", "cost+build", "quick/full", "read/full", "write/full", "board/full", "text/full", "readback/full"});
     std::printf("\nGrowth, ten tight days of each size:\n\n");
     print_classes(growing, measure(growing, repeats, rounds, measure_plan), {"full us", "simplex", "simplex+build"});
+    std::printf("\nCurfew: each day with a closing line that its full plan just keeps, beside the same day without one, and beside the solver on the same day:\n\n");
+    print_classes(desks, measure(desks, repeats, rounds, measure_curfew), {"curfew us", "curfew/full", "simplex", "simplex+build"});
     std::printf("\nForecasts: each day without jumps and with %zu forecasts, as a share of the day's own full plan and of the times of a plain and of a fast program:\n\n", MOST_FORECASTS);
     Rounds forecasts = measure(desks, repeats, rounds, measure_forecasts);
     print_classes(desks, forecasts, {"forecast us", "forecast/full", "plain", "placed"});

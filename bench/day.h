@@ -28,6 +28,7 @@ constexpr size_t FLIGHT_ROW = HOLD_DESK_FLIGHT_ROW;
 constexpr size_t MOST_BYTES = HOLD_DESK_MOST_SHEET_BYTES;
 constexpr size_t MOST_FORECASTS = HOLD_DESK_MOST_FORECASTS;
 constexpr uint32_t MISSING = HOLD_DESK_NO_LIMIT;
+constexpr uint32_t NO_CURFEW = HOLD_DESK_NO_CURFEW;
 
 enum Field {
     NUMBER = HOLD_DESK_FLIGHT_NUMBER,
@@ -61,6 +62,7 @@ inline uint32_t below(Random &random, uint32_t bound) { return uint32_t(random()
 struct Day {
     std::string name;
     std::vector<uint32_t> capacities, flights, holds, prices;
+    uint32_t closing = NO_CURFEW;
     size_t periods() const { return capacities.size(); }
     size_t count() const { return flights.size() / FIELDS; }
     uint32_t field(size_t i, Field j) const { return flights[i * FIELDS + j]; }
@@ -69,8 +71,8 @@ struct Day {
     // the last period that a flight may be held to
     size_t last(size_t i) const
     {
-        size_t closing = periods() + 1;
-        return field(i, LIMIT) == MISSING ? closing : std::min<size_t>(closing, field(i, DUE) + field(i, LIMIT));
+        size_t end = periods() + 1;
+        return field(i, LIMIT) == MISSING ? end : std::min<size_t>(end, field(i, DUE) + field(i, LIMIT));
     }
 
     // the same value for every flight
@@ -86,22 +88,30 @@ struct Day {
         flights.insert(flights.end(), {number, due, rate, after, jump, limit, late});
     }
 
-    // the rows to plan into, after a change of the day's size
+    // the rows to plan into, after a change of the day's size or its curfew, under which the closing period has a price too
     void fit()
     {
         holds.resize(count());
-        prices.resize(periods());
+        prices.resize(closing == NO_CURFEW ? periods() : periods() + 1);
+    }
+
+    // how many of the holds land in the closing period
+    uint32_t left() const
+    {
+        uint32_t landings = 0;
+        for (size_t i = 0; i < count(); i++) landings += field(i, DUE) + holds[i] > periods();
+        return landings;
     }
 
     hold_desk_answer plan()
     {
-        return hold_desk_full_plan(capacities.data(), periods(), flights.data(), flights.size(), holds.data(), holds.size(), prices.data(), prices.size());
+        return hold_desk_full_plan(capacities.data(), periods(), flights.data(), flights.size(), closing, holds.data(), holds.size(), prices.data(), prices.size());
     }
 
     std::string sheet() const
     {
         std::string text(MOST_BYTES, ' ');
-        hold_desk_answer a = hold_desk_write_sheet(capacities.data(), periods(), flights.data(), flights.size(), (uint8_t *)text.data(), text.size(), 0);
+        hold_desk_answer a = hold_desk_write_sheet(capacities.data(), periods(), flights.data(), flights.size(), closing, (uint8_t *)text.data(), text.size(), 0);
         expect(a.number == 0, name + " has no sheet");
         return text.substr(0, a.first);
     }
@@ -118,10 +128,11 @@ inline std::vector<Day> load(const std::filesystem::path &folder)
         day.name = entry.path().stem().string();
         day.capacities.resize(MOST_PERIODS);
         day.flights.resize(FLIGHT_ROW);
-        hold_desk_answer a = hold_desk_read_sheet((const uint8_t *)sheet.data(), sheet.size(), day.capacities.data(), MOST_PERIODS, day.flights.data(), FLIGHT_ROW);
+        hold_desk_reading a = hold_desk_read_sheet((const uint8_t *)sheet.data(), sheet.size(), day.capacities.data(), MOST_PERIODS, day.flights.data(), FLIGHT_ROW);
         expect(a.number == 0, day.name + " is refused");
         day.capacities.resize(a.first);
         day.flights.resize(a.second * FIELDS);
+        day.closing = uint32_t(a.closing);
         day.fit();
         days.push_back(day);
     }
@@ -151,7 +162,7 @@ struct Growing {
     }
 };
 
-// Flights to periods to a sink; the closing period takes everyone.
+// Flights to periods to a sink; the closing period takes everyone, or under a curfew as many as the closing number.
 template <class Cost> struct Network {
     using Value = typename Cost::Value;
     Graph graph;
@@ -168,7 +179,8 @@ template <class Cost> struct Network {
         for (size_t k = 0; k <= periods; k++) {
             at[k] = graph.addNode();
             supply[at[k]] = 0;
-            add(at[k], sink, k < periods ? int(day.capacities[k]) : int(day.count()), 0);
+            size_t most = k < periods ? day.capacities[k] : day.closing == NO_CURFEW ? day.count() : day.closing;
+            add(at[k], sink, int(most), 0);
         }
         for (size_t i = 0; i < day.count(); i++) {
             Graph::Node flight = graph.addNode();

@@ -13,10 +13,17 @@ ROOT = pathlib.Path(__file__).resolve().parents[2]
 MOST_PERIODS, MOST_FLIGHTS = 96, 128
 FLIGHT_WIDTH = 7  # numbers of a flight; two of its columns
 NUMBER, DUE = 0, 1
+NO_CURFEW = 256  # the closing number of a day whose closing period takes any number of flights
 
 
 class Answer(ctypes.Structure):
     _fields_ = [("number", ctypes.c_uint64), ("first", ctypes.c_uint64), ("second", ctypes.c_uint64)]
+
+
+class Reading(ctypes.Structure):
+    """What reading a sheet answers: an answer, and the closing number."""
+
+    _fields_ = [*Answer._fields_, ("closing", ctypes.c_uint64)]
 
 
 class Refused(Exception):
@@ -34,7 +41,8 @@ def load():
     if not shared.exists() or shared.stat().st_mtime < archive.stat().st_mtime:
         subprocess.run(["gcc", "-shared", "-o", shared, "-Wl,--whole-archive", archive, "-Wl,--no-whole-archive"], check=True)
     library = ctypes.CDLL(str(shared))
-    for name in ("read_sheet", "full_plan", "board"):
+    library.hold_desk_read_sheet.restype = Reading
+    for name in ("full_plan", "board"):
         getattr(library, "hold_desk_" + name).restype = Answer
     return library
 
@@ -52,18 +60,20 @@ def accepted(answer):
 
 
 def plan_sheet(library, sheet):
-    """(total, [(lands, flight, hold)], prices) of a sheet's bytes, or Refused. A price is what one more landing would save."""
+    """(total, [(lands, flight, hold)], prices) of a sheet's bytes, or Refused. A price is what one more landing would save; under a
+    curfew the last is the closing period's."""
     capacities, lent_capacities = row([0] * MOST_PERIODS)
     flights, lent_flights = row([0] * (MOST_FLIGHTS * FLIGHT_WIDTH))
     text = ctypes.create_string_buffer(sheet, max(len(sheet), 1))
     day = accepted(library.hold_desk_read_sheet(text, ctypes.c_size_t(len(sheet)), *lent_capacities, *lent_flights))
     capacities, lent_capacities = row(capacities[: day.first])
     flights, lent_flights = row(flights[: day.second * FLIGHT_WIDTH])
+    lent_day = (*lent_capacities, *lent_flights, ctypes.c_uint32(day.closing))
     holds, lent_holds = row([0] * day.second)
-    prices, lent_prices = row([0] * day.first)
+    prices, lent_prices = row([0] * (day.first + (day.closing != NO_CURFEW)))
     board, lent_board = row([0] * day.second)
-    plan = accepted(library.hold_desk_full_plan(*lent_capacities, *lent_flights, *lent_holds, *lent_prices))
-    accepted(library.hold_desk_board(*lent_capacities, *lent_flights, *lent_holds, *lent_board))
+    plan = accepted(library.hold_desk_full_plan(*lent_day, *lent_holds, *lent_prices))
+    accepted(library.hold_desk_board(*lent_day, *lent_holds, *lent_board))
     landings = [(flights[i * FLIGHT_WIDTH + DUE] + holds[i], flights[i * FLIGHT_WIDTH + NUMBER], holds[i]) for i in board]
     return plan.first, landings, list(prices)
 

@@ -6,11 +6,13 @@
 enum fault the_fault = NO_FAULT;
 enum call the_call;
 enum rule the_rule = NO_RULE;
+enum seen the_seen = NOT_SEEN;
 struct entry the_entry;
 _Thread_local bool plain;
 
 static const char *const fault_names[] = { "", FAULT_NAMES };
 static const char *const rule_names[] = { "", RULE_NAMES };
+static const char *const seen_names[] = { "", SEEN_NAMES };
 static const char *const call_names[] = { "read_", "write_", "quick_", "growth_", "card_", "full_", "check_", "choice_", "board_", "text_", "forecast_", "read_plan_" };
 
 /* Before main: a name that is not listed stops the program. A name of the plan reader begins as one of the reader does; the last call
@@ -25,6 +27,9 @@ __attribute__((constructor)) static void choose_fault(void)
         size_t length = strlen(call_names[call]);
         if (strncmp(name, call_names[call], length) != 0) continue;
         the_call = (enum call)call;
+        if (strncmp(name + length, "closing_", 8) == 0)
+            for (size_t k = 1; k < sizeof seen_names / sizeof *seen_names; k++)
+                if (strcmp(name + length + 8, seen_names[k]) == 0) the_seen = (enum seen)k;
         if (strncmp(name + length, "accepts_", 8) != 0) continue;
         for (size_t k = 1; k < sizeof rule_names / sizeof *rule_names; k++)
             if (strcmp(name + length + 8, rule_names[k]) == 0) the_rule = (enum rule)k;
@@ -103,7 +108,7 @@ size_t walk(struct day d, const uint32_t *holds, int way)
     size_t broken = d.n, n = way & WALK_64 && d.n > 64 ? 64 : d.n;
     for (size_t i = 0; i < n; i++) {
         uint64_t lands = (uint64_t)d.f[i * WIDTH + DUE] + holds[i];
-        if (lands <= d.p) all[lands]++;
+        if (lands <= d.p + 1) all[lands]++;
     }
     for (int pass = way & WALK_LIMITS_FIRST ? 0 : 1; pass < 2 && broken == d.n; pass++)
         for (size_t i = 0; i < n; i++) {
@@ -118,8 +123,9 @@ size_t walk(struct day d, const uint32_t *holds, int way)
             if (!breaks && pass == 1 && !(way & WALK_NO_CAPACITY) && !(way & WALK_PERIOD_1 && lands > 1) && !(way & WALK_NO_LAST_PERIOD && lands == d.p)) {
                 uint32_t count = ++landed[lands], most = UINT32_MAX;
                 if (lands >= 1 && lands <= d.p) most = d.c[lands - 1];
-                if (lands == d.p + 1 && way & WALK_ONE_AT_END) most = 1;
-                if (way & WALK_COUNT_ALL && lands <= d.p) count = all[lands];
+                if (lands == d.p + 1 && has_curfew(d) && !(way & WALK_NO_CURFEW)) most = d.closing;
+                if (lands == d.p + 1 && way & WALK_ONE_AT_END && most > 1) most = 1;
+                if (way & WALK_COUNT_ALL) count = all[lands];
                 breaks = count > most;
             }
             if (!breaks) continue;
@@ -127,6 +133,44 @@ size_t walk(struct day d, const uint32_t *holds, int way)
             if (!(way & WALK_LAST)) return broken;
         }
     return broken;
+}
+
+bool has_curfew(struct day d)
+{
+    return d.closing < UNLIMITED;
+}
+
+size_t priced(struct day d)
+{
+    return has_curfew(d) ? d.p + 1 : d.p;
+}
+
+bool is_bad(struct day d)
+{
+    uint8_t text[1];
+    return real_hold_desk_write_sheet(DAY_OF(d), text, 0, 0).number == 6;
+}
+
+uint32_t lands_in_closing(struct day d, const uint32_t *holds)
+{
+    uint32_t count = 0;
+    for (size_t i = 0; i < d.n; i++) count += (uint64_t)d.f[i * WIDTH + DUE] + holds[i] == d.p + 1;
+    return count;
+}
+
+/* The closing number as a wrong reader of it sees it. */
+static uint32_t seen_closing(uint32_t closing)
+{
+    if (closing >= UNLIMITED) return closing;
+    if (SEEN(ignored, "a closing number is taken for 256")) return UNLIMITED;
+    if (SEEN(more, "a closing number below 255 is taken for one more") && closing < 255) return closing + 1;
+    if (SEEN(less, "a closing number is taken for one less") && closing > 0) return closing - 1;
+    if (SEEN(0_none, "a closing number of 0 is taken for 256") && closing == 0) return UNLIMITED;
+    if (SEEN(1_as_0, "a closing number of 1 is taken for 0") && closing == 1) return 0;
+    if (SEEN(7_bits, "of a closing number the low 7 bits are taken")) return closing & 127;
+    if (SEEN(6_bits, "of a closing number the low 6 bits are taken")) return closing & 63;
+    if (SEEN(signed, "a closing number above 127 is taken for 0") && closing > 127) return 0;
+    return closing;
 }
 
 /* A number from 1 to 9,999 that no flight has. */
@@ -150,7 +194,13 @@ struct day day_of(DAY_ROWS)
 {
     static _Thread_local uint32_t c[P_MOST + 1], f[(N_MOST + 2) * WIDTH];
     static const uint32_t least[WIDTH] = { 1, 1, 1, 0, 0, 0, 0 };
-    struct day d = { capacities, capacities_len, flights, flights_len, flights_len / WIDTH, 0, 0, false };
+    struct day d = { capacities, capacities_len, flights, flights_len, flights_len / WIDTH, seen_closing(closing), 0, 0, false };
+    if (RULE(closing_257, "a closing number of 257") && closing == 257) d.closing = UNLIMITED;
+    if (RULE(closing_258, "a closing number of 258") && closing == 258) d.closing = UNLIMITED;
+    if (RULE(closing_above, "any closing number above 256") && closing > UNLIMITED) d.closing = UNLIMITED;
+    if (RULE(closing_low_byte, "a closing number above 256, of which the low byte is taken") && closing > UNLIMITED) d.closing = closing & 255;
+    if (RULE(closing_low_half, "a closing number above 65,535, of which the low 16 bits are taken") && closing > 65535 && (closing & 65535) <= UNLIMITED) d.closing = closing & 65535;
+    if (RULE(closing_2_to_31, "a closing number from 2^31 on") && closing > INT32_MAX) d.closing = UNLIMITED;
     if (the_rule == NO_RULE || capacities_len > P_MOST + 1 || flights_len > (N_MOST + 2) * WIDTH) return d;
     put_back(c, capacities, capacities_len * sizeof *c);
     put_back(f, flights, flights_len * sizeof *f);

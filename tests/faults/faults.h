@@ -3,7 +3,8 @@
  *
  * A fault is named and described where it is: IS(name, "what it does") says whether it is the one that is on; its name
  * begins with its call. A second place for the same fault says ALSO(name). RULE(name, "what is wrong with the day") is a
- * day check that lets something pass, in one call at a time: write_accepts_name, quick_accepts_name and so on.
+ * day check that lets something pass, in one call at a time: write_accepts_name, quick_accepts_name and so on. SEEN(name, "how")
+ * is a closing number that is taken for another, in one call at a time: write_closing_name and so on.
  * tests/faults/build collects the names from the sources, so that the list and the sources cannot disagree.
  *
  * Where a fault lies deep in a call, the call is written down here a second time, in a plain way, with the fault in it. That
@@ -12,12 +13,12 @@
 #define FAULTS_H
 
 #include "../../include/hold_desk.h"
-#include "../../target/faults/names.h" /* made by tests/faults/build: enum fault, enum rule */
+#include "../../target/faults/names.h" /* made by tests/faults/build: enum fault, enum rule, enum seen */
 #include <stdlib.h>
 #include <string.h>
 
 enum call { READ, WRITE, QUICK, GROWTH, CARD, FULL, CHECK, CHOICE, BOARD, TEXT, FORECAST, READ_PLAN };
-enum { P_MOST = 96, N_MOST = 128, WIDTH = 7, ROW_MOST = N_MOST * WIDTH };
+enum { P_MOST = 96, N_MOST = 128, WIDTH = 7, ROW_MOST = N_MOST * WIDTH, UNLIMITED = 256 };
 enum { NUMBER, DUE, RATE, AFTER, JUMP, LIMIT, LATE };
 
 struct entry { bool is_wrong; unsigned growth, t; };
@@ -25,16 +26,19 @@ struct entry { bool is_wrong; unsigned growth, t; };
 extern enum fault the_fault;         /* the one that is on */
 extern enum call the_call;           /* its call */
 extern enum rule the_rule;           /* its rule, if it is one of the day check */
+extern enum seen the_seen;           /* how it sees the closing number, if it is one of that */
 extern struct entry the_entry;       /* its entry, if it is one of the table of factors */
 extern _Thread_local bool plain;     /* no fault for now: for the comparison with the real call */
 
 #define ALSO(name) (!plain && the_fault == F_##name)
 #define IS(name, says) ALSO(name)
 #define RULE(name, says) (the_rule == R_##name)
+#define SEEN(name, says) (the_seen == S_##name)
 #define OURS(call) (the_fault != NO_FAULT && the_call == (call))
 
-#define DAY_ROWS const uint32_t *capacities, size_t capacities_len, const uint32_t *flights, size_t flights_len
-#define THE_DAY capacities, capacities_len, flights, flights_len
+#define DAY_ROWS const uint32_t *capacities, size_t capacities_len, const uint32_t *flights, size_t flights_len, uint32_t closing
+#define THE_DAY capacities, capacities_len, flights, flights_len, closing
+#define DAY_OF(d) (d).c, (d).p, (d).f, (d).entries, (d).closing
 
 /* The rows of a day, with what the rule that is on lets pass put right, and how many entries a hold row and a price row that
  * fit the day have too many for that. */
@@ -43,11 +47,16 @@ struct day {
     size_t p;
     const uint32_t *f;
     size_t entries, n;
+    uint32_t closing;
     size_t flights_cut, periods_cut;
     bool no_period;
 };
 
 struct day day_of(DAY_ROWS);
+bool has_curfew(struct day d);
+size_t priced(struct day d);                                   /* entries of a price row */
+bool is_bad(struct day d);
+uint32_t lands_in_closing(struct day d, const uint32_t *holds);
 void change_flights(DAY_ROWS);                                 /* the lent row itself: another number for the first flight */
 size_t cut(size_t length, size_t by);
 
@@ -83,7 +92,8 @@ enum walk_way {
     WALK_64 = 512,            /* no more than 64 flights */
     WALK_NO_LAST_PERIOD = 1024, /* the capacity of period P is left out */
     WALK_LATE_LIMIT = 2048,   /* late counts against the limit */
-    WALK_LATE_LANDS = 4096    /* late counts into the landing period */
+    WALK_LATE_LANDS = 4096,   /* late counts into the landing period */
+    WALK_NO_CURFEW = 8192     /* the closing number is left out */
 };
 size_t walk(struct day d, const uint32_t *holds, int way);
 
@@ -91,6 +101,8 @@ size_t walk(struct day d, const uint32_t *holds, int way);
  * (growth.c). */
 void plan_quickly(struct day d, const uint32_t *growth, uint32_t *holds, bool sets[P_MOST][N_MOST]);
 hold_desk_answer not_quick(struct day d, bool bad, uint32_t *holds, size_t holds_len);
+hold_desk_answer passes_curfew(struct day d, const uint32_t *plan, uint32_t *holds, size_t holds_len);
+hold_desk_answer short_stretch(struct day d);                  /* refusal 9, or one with number 0 */
 uint64_t add_up(struct day d, const uint32_t *plan, const uint64_t *costs);
 void store(struct day d, uint32_t *plan, uint32_t *holds, size_t holds_len);
 typedef hold_desk_answer planner(struct day d, bool bad, const uint32_t *growth, uint32_t *holds, size_t holds_len);
@@ -107,7 +119,7 @@ struct text {
 };
 void add(struct text *t, const char *format, ...);
 
-hold_desk_answer real_hold_desk_read_sheet(const uint8_t *, size_t, uint32_t *, size_t, uint32_t *, size_t);
+hold_desk_reading real_hold_desk_read_sheet(const uint8_t *, size_t, uint32_t *, size_t, uint32_t *, size_t);
 hold_desk_answer real_hold_desk_write_sheet(DAY_ROWS, uint8_t *, size_t, size_t);
 hold_desk_answer real_hold_desk_quick_plan(DAY_ROWS, uint32_t *, size_t);
 hold_desk_answer real_hold_desk_growth_plan(DAY_ROWS, uint32_t, uint32_t *, size_t);

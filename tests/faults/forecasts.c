@@ -32,6 +32,19 @@ static bool jumps(struct day d)
     return false;
 }
 
+/* Whether a day with a curfew is refused. */
+static bool curfew(struct day d)
+{
+    if (IS(forecast_curfew_taken, "a day with a curfew is taken")) return false;
+    if (IS(forecast_curfew_0_taken, "a day with the closing number 0 is taken") && d.closing == 0) return false;
+    if (IS(forecast_curfew_0_alone, "of days with a curfew those with the closing number 0 alone are refused")) return d.closing == 0;
+    if (IS(forecast_curfew_255_taken, "a day with the closing number 255 is taken") && d.closing == 255) return false;
+    if (IS(forecast_curfew_idle, "a day with a curfew that every flight may pass is taken") && d.closing >= d.n) return false;
+    if (IS(forecast_curfew_no_flight, "a day with a curfew is taken where there is no flight") && d.n == 0) return false;
+    if (IS(forecast_256_refused, "a day without a curfew is refused with 13 where 128 flights are") && d.n == N_MOST && !has_curfew(d)) return true;
+    return has_curfew(d);
+}
+
 static bool bad_terms(struct day d, struct terms t)
 {
     bool count = t.count < 1 || t.count > 8, air = t.air < 1 || t.air > 10, jump = jumps(d);
@@ -46,7 +59,7 @@ static bool bad_terms(struct day d, struct terms t)
     if (IS(forecast_air_10_refused, "an air factor of 10 is refused") && t.air == 10) air = true;
     if (IS(forecast_jump_taken, "a jump is taken, and left out")) jump = false;
     if (IS(forecast_count_unchecked, "the count is not looked at up to 16") && t.count <= S_MOST) count = false;
-    return count || air || jump;
+    return count || air || jump || curfew(d);
 }
 
 static bool bad_sum(struct terms t)
@@ -169,12 +182,16 @@ static hold_desk_answer refused(struct day d, bool bad, struct terms t)
 {
     bool applies[REASONS] = { bad, bad_terms(d, t), t.holds_len != d.n, t.w_len != t.count, t.c_len != (uint64_t)t.count * d.p, bad_sum(t) || bad_capacity(d, t) };
     enum reason order[REASONS] = { DAY, TERMS, HOLDS, WEIGHTS, FORECASTS, VALUES };
-    bool for_jump = t.count >= 1 && t.count <= 8 && t.air >= 1 && t.air <= 10;
+    bool in_range = t.count >= 1 && t.count <= 8 && t.air >= 1 && t.air <= 10;
+    bool for_jump = in_range && !has_curfew(d), for_curfew = in_range && !jumps(d);
     if (t.count > 0 && t.count <= S_MOST) let_lengths_pass(d, t, applies);
     exchange(order);
     if (IS(forecast_air_before_6, "an air factor that is out of range is refused before a bad day") && (t.air < 1 || t.air > 10)) move(order, TERMS, DAY);
     if (IS(forecast_count_before_6, "a count that is out of range is refused before a bad day") && (t.count < 1 || t.count > 8)) move(order, TERMS, DAY);
     if (IS(forecast_jump_after_7, "a jump is refused after the lengths") && for_jump) move(order, HOLDS, TERMS), move(order, WEIGHTS, TERMS), move(order, FORECASTS, TERMS);
+    if (IS(forecast_curfew_after_7, "a curfew is refused after the lengths") && for_curfew) move(order, HOLDS, TERMS), move(order, WEIGHTS, TERMS), move(order, FORECASTS, TERMS);
+    if (IS(forecast_curfew_last, "a curfew is refused after all else") && for_curfew) move(order, HOLDS, TERMS), move(order, WEIGHTS, TERMS), move(order, FORECASTS, TERMS), move(order, VALUES, TERMS);
+    if (IS(forecast_curfew_before_6, "a curfew is refused before a bad day") && has_curfew(d)) move(order, TERMS, DAY);
     if (IS(forecast_jump_last, "a jump is refused after all else") && for_jump) move(order, HOLDS, TERMS), move(order, WEIGHTS, TERMS), move(order, FORECASTS, TERMS), move(order, VALUES, TERMS);
     if (IS(forecast_sum_before_forecasts, "the weights' sum is tested before the forecast row's length") && bad_sum(t)) move(order, VALUES, FORECASTS);
     if (IS(forecast_capacity_before_weights, "the capacities are tested before the weight row's length") && bad_capacity(d, t)) move(order, VALUES, WEIGHTS);
@@ -185,6 +202,10 @@ static hold_desk_answer refused(struct day d, bool bad, struct terms t)
         case DAY: return answer(6, IS(forecast_6_first, "refusal 6 gives P") ? d.p : 0, 0);
         case TERMS:
             if (IS(forecast_13_as_12, "refusal 13 is given as 12")) return answer(12, 0, 0);
+            if (IS(forecast_curfew_as_6, "a curfew is refused with 6") && for_curfew) return answer(6, 0, 0);
+            if (IS(forecast_curfew_as_9, "a curfew is refused with 9") && for_curfew) return answer(9, 1, d.p + 1);
+            if (IS(forecast_curfew_as_12, "a curfew is refused with 12") && for_curfew) return answer(12, 0, 0);
+            if (IS(forecast_curfew_first, "refusal 13 gives the closing number") && for_curfew) return answer(13, d.closing, 0);
             if (IS(forecast_13_as_8, "a jump is refused with 8") && for_jump) return answer(8, 0, 0);
             return answer(13, IS(forecast_13_first, "refusal 13 gives the count") ? t.count : 0, IS(forecast_13_second, "refusal 13 gives the air factor second") ? t.air : 0);
         case VALUES:
@@ -471,7 +492,7 @@ hold_desk_answer hold_desk_forecast_plan(DAY_ROWS, uint32_t count, uint32_t air,
     if (d.no_period && forecasts_len == 0 && count <= S_MOST) t.c = none, t.c_len = count;
     size_t bytes = t.holds_len * sizeof *holds;
     uint32_t *before = copy_of(holds, bytes), *again = copy_of(holds, bytes);
-    hold_desk_answer real = real_hold_desk_forecast_plan(d.c, d.p, d.f, d.entries, count, air, t.w, t.w_len, t.c, t.c_len, holds, t.holds_len);
+    hold_desk_answer real = real_hold_desk_forecast_plan(DAY_OF(d), count, air, t.w, t.w_len, t.c, t.c_len, holds, t.holds_len);
     plain = true;
     bool agrees = same(real, forecast(d, real.number == 6, t, again)) && (bytes == 0 || memcmp(again, holds, bytes) == 0);
     plain = false;

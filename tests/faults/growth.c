@@ -302,6 +302,10 @@ static hold_desk_answer refused(struct day d, bool bad, uint32_t a, uint32_t *ho
     hold_desk_answer r = not_quick(d, bad, holds, holds_len);
     if (r.number == 6 && IS(growth_6_first, "refusal 6 gives P")) r.first = d.p;
     if (r.number == 6 && IS(growth_6_touches_last, "refusal 6 changes the hold row's last entry") && holds_len > 0) holds[holds_len - 1] ^= 1;
+    bool passed = r.number == 0 && has_curfew(d) && short_stretch(d).number == 9;
+    if (IS(growth_9_before_14, "refusal 9 before 14") && passed) r = short_stretch(d);
+    if (IS(growth_9_before_14_a, "refusal 9 before a growth that is out of range") && passed && growth) r = short_stretch(d);
+    if (IS(growth_9_before_14_p, "refusal 9 before too many periods") && passed && periods) r = short_stretch(d);
     if (applies && goes_first(r.number, growth, periods)) {
         put_back(holds, before, holds_len * sizeof *holds);
         r = refusal_14(d, a, plan, holds, holds_len);
@@ -344,6 +348,8 @@ static hold_desk_answer growing(struct day d, bool bad, const uint32_t *growth, 
     if (a > A_MOST + 2) a = A_MOST;
     if (IS(growth_of_last_call, "the growth of the last accepted call is taken")) a = last_growth, last_growth = *growth;
     plan_quickly(d, &a, plan, sets);
+    r = passes_curfew(d, plan, holds, holds_len);
+    if (r.number > 0) return r;
     for (size_t i = 0; i < d.n; i++) {
         if (d.f[i * WIDTH + DUE] + plan[i] <= d.p) continue;
         if (IS(growth_left_in_p, "those left over land in period P") && plan[i] > 0) plan[i]--;

@@ -16,7 +16,7 @@ struct reader {
     size_t line;               /* how many lines stand above */
     enum stage stage;
     enum why why;
-    uint32_t room[P_MOST + 2]; /* places left in each period, from 1 on */
+    uint32_t room[P_MOST + 2]; /* places left in each period, from 1 on, the closing period last */
     uint32_t holds[N_MOST];
     size_t known;              /* of how many flights */
     uint64_t sum;              /* their costs */
@@ -70,17 +70,29 @@ static bool rest_can_land(const struct reader *r)
     if (IS(read_plan_search_before, "the search takes the capacities without the last landing") && from > 0) { uint32_t lands = r->d.f[(from - 1) * WIDTH + DUE] + r->holds[from - 1]; if (lands <= p) room[lands]++; }
     if (IS(read_plan_search_all, "the search counts the flights above too")) from = 0;
     if (IS(read_plan_search_again, "the search counts the flight of the line again") && from > 0) from--;
-    uint32_t first = 1, last = p;
-    if (IS(read_plan_search_to_last, "the search leaves out stretches that end in period P")) last = p - 1;
+    uint32_t first = 1, last = has_curfew(r->d) ? p + 1 : p;
+    if (IS(read_plan_search_no_curfew, "the search leaves out the closing number")) last = p;
+    if (IS(read_plan_search_no_curfew_later, "the search leaves out the closing number after the names line") && from > 0) last = p;
+    if (IS(read_plan_search_no_curfew_first, "the search leaves out the closing number before the first flight's line") && from == 0) last = p;
+    if (IS(read_plan_search_no_curfew_96, "the search leaves out the closing number in a day of 96 periods") && p == P_MOST) last = p;
+    if (has_curfew(r->d)) {
+        if (IS(read_plan_search_curfew_whole, "the search does not take landings in the closing period off the closing number")) room[p + 1] = r->d.closing;
+        if (IS(read_plan_search_curfew_more, "the search takes the closing number for one more")) room[p + 1]++;
+        if (IS(read_plan_search_curfew_less, "the search takes the closing number for one less") && room[p + 1] > 0) room[p + 1]--;
+        if (IS(read_plan_search_curfew_before, "the search does not take the last landing off the closing number") && from > 0 && r->d.f[(from - 1) * WIDTH + DUE] + r->holds[from - 1] == p + 1) room[p + 1]++;
+        if (IS(read_plan_search_curfew_0, "the search takes no place left in the closing period for any number") && room[p + 1] == 0) last = p;
+    }
+    if (IS(read_plan_search_to_last, "the search leaves out stretches that end in the last period that they may end in")) last--;
     if (IS(read_plan_search_from_2, "the search leaves out stretches that begin in period 1")) first = 2;
-    if (IS(read_plan_search_to_95, "the search leaves out stretches that end in period 96") && p == P_MOST) last = p - 1;
+    if (IS(read_plan_search_to_95, "the search leaves out stretches that end in period 96 or after it") && p == P_MOST) last = p - 1;
     if (IS(read_plan_search_to_64, "the search leaves out stretches that end after period 64") && last > 64) last = 64;
     bool is_any = false;
-    for (uint32_t a = 1; a <= p; a++) memset(due_and_last[a], 0, (p + 2) * sizeof **due_and_last);
+    for (uint32_t a = 1; a <= p + 1; a++) memset(due_and_last[a], 0, (p + 2) * sizeof **due_and_last);
     for (size_t i = from; i < r->d.n; i++)
-        if (is_searched(r, i) && must_land_by(r, i) <= p) due_and_last[r->d.f[i * WIDTH + DUE]][must_land_by(r, i)]++, is_any = true;
+        if (is_searched(r, i) && must_land_by(r, i) <= last) due_and_last[r->d.f[i * WIDTH + DUE]][must_land_by(r, i)]++, is_any = true;
     if (!is_any) return true;
     bool from_1 = IS(read_plan_search_from_1, "the search is for stretches that begin in period 1"), to_p = IS(read_plan_search_to_p, "the search is for stretches that end in period P");
+    bool curfew_from_1 = IS(read_plan_search_curfew_from_1, "of stretches that end with the closing period the search is for that from 1");
     bool of_one = IS(read_plan_search_single, "the search is for stretches of one period"), of_several = IS(read_plan_search_several, "the search leaves out stretches of one period");
     bool of_eight = IS(read_plan_search_eight, "the search leaves out stretches of more than 8 periods"), of_32 = IS(read_plan_search_32, "the search leaves out stretches of more than 32 periods");
     int coarse = IS(read_plan_search_coarse, "a stretch that is short by one passes") ? 1 : IS(read_plan_search_strict, "a stretch that is just filled counts as short") ? -1 : 0;
@@ -90,7 +102,7 @@ static bool rest_can_land(const struct reader *r)
             so_far[a] += due_and_last[a][b];
             must += so_far[a];
             over += (int64_t)so_far[a] - room[a];
-            if ((from_1 && a > 1) || (to_p && b < p) || (of_one && a < b) || (of_several && a == b) || (of_eight && b - a >= 8) || (of_32 && b - a >= 32)) continue;
+            if ((from_1 && a > 1) || (curfew_from_1 && b > p && a > 1) || (to_p && b < p) || (of_one && a < b) || (of_several && a == b) || (of_eight && b - a >= 8) || (of_32 && b - a >= 32)) continue;
             if (over > coarse && must > 0) return false;
         }
     }
@@ -247,7 +259,7 @@ static bool flight_is_right(struct reader *r)
     if (after) return false;
 
     /* whether there is room */
-    bool is_full = lands <= p && r->room[lands] == 0;
+    bool is_full = r->room[lands < p + 1 ? lands : p + 1] == 0;
     size_t closing = 0;
     for (size_t k = 0; k < i; k++) closing += r->d.f[k * WIDTH + DUE] + r->holds[k] == p + 1;
     if (IS(read_plan_overfull, "a landing in a full period passes") && lands <= p && r->d.c[lands - 1] > 0) is_full = false;
@@ -256,12 +268,15 @@ static bool flight_is_right(struct reader *r)
     if (IS(read_plan_overfull_96, "a landing in period 96 passes though it is full") && lands == P_MOST) is_full = false;
     if (IS(read_plan_overfull_not_held, "a landing in a full period passes if the flight is not held") && hold == 0) is_full = false;
     if (IS(read_plan_room_6_bits, "a period takes 64 flights at most") && lands <= p && r->room[lands] + 64 <= r->d.c[lands - 1]) is_full = true;
+    if (IS(read_plan_over_curfew, "a landing in the closing period passes though it is full") && lands == p + 1) is_full = false;
+    if (IS(read_plan_over_curfew_0, "a landing in the closing period passes though it takes nobody") && lands == p + 1 && r->d.closing == 0) is_full = false;
+    if (IS(read_plan_curfew_reached, "the last landing in the closing period that may be is refused") && lands == p + 1 && has_curfew(r->d) && r->room[p + 1] == 1) is_full = true;
     if (IS(read_plan_closing_1, "the closing period takes one flight") && lands == p + 1 && closing >= 1) is_full = true;
     if (IS(read_plan_closing_16, "the closing period takes 16 flights") && lands == p + 1 && closing >= 16) is_full = true;
     if (IS(read_plan_closing_64, "the closing period takes 64 flights") && lands == p + 1 && closing >= 64) is_full = true;
     if (IS(read_plan_closing_127, "the closing period takes 127 flights") && lands == p + 1 && closing >= 127) is_full = true;
     if (is_full) return false;
-    if (lands <= p && r->room[lands] > 0) r->room[lands]--;
+    if (lands <= p + 1 && r->room[lands] > 0) r->room[lands]--;
     r->holds[r->known++] = (uint32_t)hold;
     r->sum += cost(v, hold, COST_RIGHT);
     return true;
@@ -506,6 +521,7 @@ static hold_desk_answer read_back(struct day d, bool bad, const uint8_t *s, size
         return answer(6, 0, 0);
     }
     for (size_t k = 1; k <= d.p; k++) r.room[k] = d.c[k - 1];
+    r.room[d.p + 1] = has_curfew(d) ? d.closing : UINT32_MAX;
     bool fits = row_fits(&r, holds_len);
     if (IS(read_plan_15_before_7_empty, "an empty text is refused before a hold row of another length") && !fits && n == 0) return answer(15, 0, 0);
     if (!fits && !IS(read_plan_15_before_7, "refusal 15 before 7")) return refusal_7(&r, holds, holds_len);
@@ -514,13 +530,13 @@ static hold_desk_answer read_back(struct day d, bool bad, const uint8_t *s, size
     if (!right) return refusal_15(&r, holds, holds_len);
     if (!fits) return refusal_7(&r, holds, holds_len);
     if (IS(read_plan_cheapest, "a plan that is not a cheapest one is refused at the total")) {
-        uint32_t own[N_MOST], prices[P_MOST];
-        hold_desk_answer plan = real_hold_desk_full_plan(d.c, d.p, d.f, d.entries, own, d.n, prices, d.p);
+        uint32_t own[N_MOST], prices[P_MOST + 1];
+        hold_desk_answer plan = real_hold_desk_full_plan(DAY_OF(d), own, d.n, prices, priced(d));
         if (plan.number == 0 && plan.first < r.sum) return answer(15, r.at, 0);
     }
     if (IS(read_plan_own_plan, "the core's own plan alone is accepted")) {
-        uint32_t own[N_MOST], prices[P_MOST];
-        real_hold_desk_full_plan(d.c, d.p, d.f, d.entries, own, d.n, prices, d.p);
+        uint32_t own[N_MOST], prices[P_MOST + 1];
+        real_hold_desk_full_plan(DAY_OF(d), own, d.n, prices, priced(d));
         if (d.n > 0 && memcmp(own, r.holds, d.n * sizeof *own) != 0) return answer(15, 0, 0);
     }
     if (IS(read_plan_no_flights, "a day without flights is refused") && d.n == 0) return answer(15, 0, 0);
@@ -557,12 +573,11 @@ hold_desk_answer hold_desk_read_plan(DAY_ROWS, const uint8_t *text, size_t text_
     if (!OURS(READ_PLAN)) return real_hold_desk_read_plan(THE_DAY, text, text_len, holds, holds_len);
     if (IS(read_plan_changes_flights, "the first flight gets another number in the row")) change_flights(THE_DAY);
     struct day d = day_of(THE_DAY);
-    uint8_t none[1];
     holds_len = cut(holds_len, d.flights_cut);
-    bool bad = real_hold_desk_write_sheet(d.c, d.p, d.f, d.entries, none, 0, 0).number == 6;
+    bool bad = is_bad(d);
     size_t bytes = holds_len * sizeof *holds;
     uint32_t *before = copy_of(holds, bytes), *again = copy_of(holds, bytes);
-    hold_desk_answer real = real_hold_desk_read_plan(d.c, d.p, d.f, d.entries, text, text_len, holds, holds_len);
+    hold_desk_answer real = real_hold_desk_read_plan(DAY_OF(d), text, text_len, holds, holds_len);
     plain = true;
     hold_desk_answer second = read_back(d, bad, text, text_len, again, holds_len);
     plain = false;

@@ -92,6 +92,89 @@ void plan_quickly(struct day d, const uint32_t *growth, uint32_t *holds, bool se
     }
 }
 
+/* ---- the curfew */
+
+/* The last period that a flight's limit and the closing period leave. */
+static size_t last_of(struct day d, size_t i)
+{
+    const uint32_t *v = d.f + i * WIDTH;
+    return v[LIMIT] == 255 || v[DUE] + v[LIMIT] > d.p + 1 ? d.p + 1 : v[DUE] + v[LIMIT];
+}
+
+/* How many may land in the periods a to b. */
+static size_t rooms(struct day d, size_t a, size_t b)
+{
+    size_t room = 0;
+    for (size_t k = a; k <= b; k++) room += k <= d.p ? d.c[k - 1] : d.closing;
+    return room;
+}
+
+static size_t must_land(struct day d, size_t a, size_t b)
+{
+    size_t must = 0;
+    for (size_t i = 0; i < d.n; i++) must += d.f[i * WIDTH + DUE] >= a && last_of(d, i) <= b;
+    return must;
+}
+
+hold_desk_answer short_stretch(struct day d)
+{
+    for (size_t b = 1; b <= priced(d); b++)
+        for (size_t a = b; a >= 1; a--)
+            if (must_land(d, a, b) > rooms(d, a, b)) return answer(9, a, b);
+    return answer(0, 0, 0);
+}
+
+/* How many flights a plan leaves for the closing period, as a wrong planner counts them. */
+static uint32_t left_of(struct day d, const uint32_t *plan)
+{
+    uint32_t left = lands_in_closing(d, plan);
+    if (BOTH(9_left_64, "no more than 64 flights are counted as left") && left > 64) return 64;
+    if (BOTH(9_left_not_128th, "the 128th flight is not counted as left") && d.n == N_MOST && d.f[127 * WIDTH + DUE] + plan[127] == d.p + 1) return left - 1;
+    if (BOTH(9_left_not_last, "the last flight is not counted as left") && d.n > 0 && d.f[(d.n - 1) * WIDTH + DUE] + plan[d.n - 1] == d.p + 1) return left - 1;
+    if (BOTH(9_left_due_in_p, "flights due in period P are not counted as left")) { for (size_t i = 0; i < d.n; i++) left -= d.f[i * WIDTH + DUE] == d.p && plan[i] == 1; return left; }
+    if (BOTH(9_left_held, "all flights that are held are counted as left")) { left = 0; for (size_t i = 0; i < d.n; i++) left += plan[i] > 0; return left; }
+    return left;
+}
+
+/* Refusal 9 of a quick plan, or one with number 0: more flights are left than the closing number. */
+hold_desk_answer passes_curfew(struct day d, const uint32_t *plan, uint32_t *holds, size_t holds_len)
+{
+    uint32_t left = left_of(d, plan);
+    bool passed = has_curfew(d) && left > d.closing;
+    if (BOTH(9_equal, "refusal 9 is given where as many are left as the closing number") && left == d.closing) passed = true;
+    if (BOTH(9_equal_0, "refusal 9 is given for every day with the closing number 0") && d.closing == 0) passed = true;
+    if (BOTH(9_equal_some, "refusal 9 is given where as many are left as the closing number, and some are") && left == d.closing && left > 0) passed = true;
+    if (BOTH(9_never, "refusal 9 is never given")) passed = false;
+    if (BOTH(9_coarse, "one more may be left than the closing number") && left == d.closing + 1) passed = false;
+    if (BOTH(9_not_0, "the closing number 0 is not heeded") && d.closing == 0) passed = false;
+    if (BOTH(9_only_0, "the closing number 0 alone is heeded") && d.closing > 0) passed = false;
+    if (BOTH(9_places, "refusal 9 is given only where there are more flights than places") && d.n <= rooms(d, 1, d.p) + d.closing) passed = false;
+    if (BOTH(9_unlimited, "a day without a curfew gets 9 if all flights are left") && !has_curfew(d) && d.n > 0 && left == d.n) passed = true;
+    if (!passed) return answer(0, 0, 0);
+    hold_desk_answer r = short_stretch(d);
+    if (r.number == 0) r = answer(9, 1, d.p + 1);
+    size_t a = r.first, smallest = a;
+    for (size_t k = a; k >= 1; k--) if (must_land(d, k, d.p + 1) > rooms(d, k, d.p + 1)) smallest = k;
+    if (BOTH(9_from_1, "refusal 9 gives the stretch from period 1")) r.first = 1;
+    if (BOTH(9_smallest, "of the short stretches refusal 9 gives the one with the smallest first period")) r.first = smallest;
+    if (BOTH(9_from_end, "refusal 9 gives the closing period alone")) r.first = d.p + 1;
+    if (BOTH(9_from_p, "refusal 9 gives the stretch from period P")) r.first = d.p;
+    if (BOTH(9_to_p, "refusal 9 gives P for the last period")) r.second = d.p;
+    if (BOTH(9_exchanged, "refusal 9 gives the last period first")) r = answer(9, r.second, r.first);
+    if (BOTH(9_left, "refusal 9 gives how many are left")) r = answer(9, left, 0);
+    if (BOTH(9_closing, "refusal 9 gives the closing number second")) r.second = d.closing;
+    if (BOTH(9_no_second, "refusal 9 gives 0 second")) r.second = 0;
+    if (BOTH(9_as_10, "refusal 9 is given as 10")) r.number = 10;
+    if (BOTH(9_as_8, "refusal 9 is given as 8, with the first flight that is left")) { r = answer(8, 0, 0); while (d.f[r.first * WIDTH + DUE] + plan[r.first] <= d.p) r.first++; }
+    if (BOTH(9_touches, "refusal 9 changes the hold row's first entry") && holds_len > 0) holds[0] ^= 1;
+    if (BOTH(9_touches_last, "refusal 9 changes the hold row's last entry") && holds_len > 0) holds[holds_len - 1] ^= 1;
+    if (BOTH(9_fills, "refusal 9 comes after the hold row is filled")) put_back(holds, plan, holds_len * sizeof *holds);
+    if (BOTH(9_fills_landed, "refusal 9 comes after the holds of those that are not left are stored")) for (size_t i = 0; i < d.n; i++) if (d.f[i * WIDTH + DUE] + plan[i] <= d.p) holds[i] = plan[i];
+    if (BOTH(9_clears, "refusal 9 clears the hold row")) memset(holds, 0, holds_len * sizeof *holds);
+    if (BOTH(9_before_row, "refusal 9 changes the entry before the hold row")) holds[-1] ^= 1;
+    return r;
+}
+
 /* Refusals 6, 7 and 8, or one with number 0. */
 hold_desk_answer not_quick(struct day d, bool bad, uint32_t *holds, size_t holds_len)
 {
@@ -101,6 +184,8 @@ hold_desk_answer not_quick(struct day d, bool bad, uint32_t *holds, size_t holds
     }
     if (bad) return answer(7, d.n, 0);
     size_t place = jump_or_limit(d);
+    if (BOTH(9_before_7, "refusal 9 before 7") && has_curfew(d) && short_stretch(d).number == 9) return short_stretch(d);
+    if (BOTH(9_before_8, "refusal 9 before 8") && has_curfew(d) && holds_len == d.n && short_stretch(d).number == 9) return short_stretch(d);
     bool fits = holds_len == d.n;
     if (BOTH(long_row, "a hold row with one entry more is taken") && holds_len == d.n + 1) fits = true;
     if (BOTH(longer_row, "a hold row with two or more entries more is taken") && holds_len > d.n + 1) fits = true;
@@ -153,6 +238,8 @@ static hold_desk_answer quick(struct day d, bool bad, const uint32_t *growth, ui
     hold_desk_answer r = not_quick(d, bad, holds, holds_len);
     if (r.number > 0) return r;
     plan_quickly(d, growth, plan, sets);
+    r = passes_curfew(d, plan, holds, holds_len);
+    if (r.number > 0) return r;
     for (size_t i = 0; i < d.n; i++) {
         costs[i] = cost(d.f + i * WIDTH, plan[i], COST_NO_JUMP);
         if (IS(quick_total_late, "late costs its rate too")) costs[i] += d.f[i * WIDTH + RATE] * d.f[i * WIDTH + LATE];
@@ -168,8 +255,8 @@ static hold_desk_answer quick(struct day d, bool bad, const uint32_t *growth, ui
 
 static hold_desk_answer real_plan(struct day d, const uint32_t *growth, uint32_t *holds, size_t holds_len)
 {
-    if (growth == NULL) return real_hold_desk_quick_plan(d.c, d.p, d.f, d.entries, holds, holds_len);
-    return real_hold_desk_growth_plan(d.c, d.p, d.f, d.entries, *growth, holds, holds_len);
+    if (growth == NULL) return real_hold_desk_quick_plan(DAY_OF(d), holds, holds_len);
+    return real_hold_desk_growth_plan(DAY_OF(d), *growth, holds, holds_len);
 }
 
 /* A call with its fault, once the version here has come to the same as the real one without it. */
@@ -229,6 +316,12 @@ static hold_desk_card card(struct day d, bool bad, uint32_t period)
         return k;
     }
     plan_quickly(d, NULL, plan, sets);
+    bool passed = has_curfew(d) && lands_in_closing(d, plan) > d.closing;
+    if (IS(card_9, "a day of which more are left than the closing number gets 9") && passed) { k.number = 9, k.first = short_stretch(d).first, k.second = d.p + 1; return k; }
+    if (IS(card_9_not_11, "a day of which more are left than the closing number gets 9, but a period that is out of range 11") && passed && !outside) { k.number = 9, k.first = short_stretch(d).first, k.second = d.p + 1; return k; }
+    if (IS(card_curfew_refused, "a day with a curfew gets 6") && has_curfew(d)) { k.number = 6; return k; }
+    if (IS(card_curfew_last, "under a curfew those left after period P are not in its set") && has_curfew(d) && period == d.p) for (size_t i = 0; i < d.n; i++) if (d.f[i * WIDTH + DUE] + plan[i] > d.p) sets[d.p - 1][i] = false;
+    if (IS(card_curfew_passed, "the set of period P has no more than may land from it on") && passed && period == d.p) for (size_t i = 0, count = 0; i < d.n; i++) if (sets[d.p - 1][i] && ++count > d.c[d.p - 1] + d.closing) sets[d.p - 1][i] = false;
     if (outside) {
         k.number = 11, k.first = d.p;
         if (IS(card_11_zero, "refusal 11 gives 0 for P")) k.first = 0;
@@ -264,7 +357,7 @@ hold_desk_card hold_desk_period_card(DAY_ROWS, uint32_t period)
     if (!OURS(CARD)) return real_hold_desk_period_card(THE_DAY, period);
     if (IS(card_changes_flights, "the flight row's first number is changed in a day of more than ten flights") && flights_len > 60) change_flights(THE_DAY);
     struct day d = day_of(THE_DAY);
-    hold_desk_card real = real_hold_desk_period_card(d.c, d.p, d.f, d.entries, period);
+    hold_desk_card real = real_hold_desk_period_card(DAY_OF(d), period);
     plain = true;
     hold_desk_card again = card(d, real.number == 6, period);
     plain = false;
@@ -277,11 +370,11 @@ hold_desk_card hold_desk_period_card(DAY_ROWS, uint32_t period)
 /* Whether periods a to b are short; with a fault, what that fault takes for short. */
 static bool is_short(struct day d, size_t a, size_t b, bool at_equal, bool by_due, bool reaching_end)
 {
-    size_t must = 0, room = 0;
-    for (size_t k = a; k <= b; k++) room += d.c[k - 1];
+    size_t must = 0, room = rooms(d, a, b);
     for (size_t i = 0; i < d.n; i++) {
         const uint32_t *v = d.f + i * WIDTH;
         size_t latest = v[LIMIT] == 255 ? (by_due ? d.p : d.p + 1) : v[DUE] + v[LIMIT];
+        if (latest > d.p + 1) latest = d.p + 1;
         if (reaching_end && latest == d.p + 1 && v[LIMIT] != 255) latest = d.p;
         if (v[DUE] >= a && latest <= b) must++;
     }
@@ -326,7 +419,7 @@ static struct day seen_wrongly(struct day d)
 
 static bool yes(struct day d, const uint32_t *holds, const uint32_t *prices)
 {
-    return real_hold_desk_price_check(d.c, d.p, d.f, d.entries, holds, d.n, prices, d.p);
+    return real_hold_desk_price_check(DAY_OF(d), holds, d.n, prices, priced(d));
 }
 
 /* A price that is changed, if the price check then says no. */
@@ -385,19 +478,29 @@ static void delay(struct day d, uint32_t *holds)
     }
 }
 
+/* Whether a flight without a limit is due in period P. */
+static bool last_due(struct day d)
+{
+    bool found = false;
+    for (size_t i = 0; i < d.n; i++) found = found || (d.f[i * WIDTH + DUE] == d.p && d.f[i * WIDTH + LIMIT] == 255);
+    return found;
+}
+
 static hold_desk_answer accepted(struct day d, hold_desk_answer real, uint32_t *holds, uint32_t *prices, const uint32_t *holds_before, const uint32_t *prices_before)
 {
     uint32_t landed[P_MOST + 2] = { 0 };
     for (size_t i = 0; i < d.n; i++) landed[d.f[i * WIDTH + DUE] + holds[i]]++;
-    for (size_t b = 1; b <= d.p; b++)
+    for (size_t b = 1; b <= priced(d); b++)
         for (size_t a = b; a >= 1; a--) {
-            bool wrong = IS(full_9_equal, "a stretch that is just full counts as short") && is_short(d, a, b, true, false, false);
+            bool wrong = IS(full_9_closing_equal, "a stretch that ends with the closing period counts as short where it is just full") && b > d.p && is_short(d, a, b, true, false, false);
+            wrong = wrong || (IS(full_9_closing_0, "there is no plan where nobody may land in the closing period, and a flight without a limit is due in P") && b > d.p && d.closing == 0 && last_due(d));
+            wrong = wrong || (b <= d.p && IS(full_9_equal, "a stretch that is just full counts as short") && is_short(d, a, b, true, false, false));
             wrong = wrong || (IS(full_9_by_due, "flights without a limit count as having to land by P") && is_short(d, a, b, false, true, false));
             wrong = wrong || (IS(full_9_reaching_end, "flights whose limit reaches P+1 count as having to land by P") && is_short(d, a, b, false, false, true));
-            wrong = wrong || (IS(full_9_closed, "there is no plan where the first flight is due in a closed period") && a == b && d.c[a - 1] == 0 && d.n > 0 && d.f[DUE] == a);
+            wrong = wrong || (IS(full_9_closed, "there is no plan where the first flight is due in a closed period") && a == b && b <= d.p && d.c[a - 1] == 0 && d.n > 0 && d.f[DUE] == a);
             if (!wrong) continue;
             put_back(holds, holds_before, d.n * sizeof *holds);
-            put_back(prices, prices_before, d.p * sizeof *prices);
+            put_back(prices, prices_before, priced(d) * sizeof *prices);
             return answer(9, a, b);
         }
     if (IS(full_dearer, "two flights land in each other's period")) exchange(d, holds);
@@ -447,6 +550,19 @@ static hold_desk_answer accepted(struct day d, hold_desk_answer real, uint32_t *
         if (IS(full_price_one_move, "a price is what one flight saves by moving to its period") && (full || d.c[k] == 0)) prices[k] = one_move(d, holds, (uint32_t)k + 1);
         if (IS(full_price_next, "a period has the price of the next")) prices[k] = k + 1 < d.p ? prices[k + 1] : 0;
     }
+    if (has_curfew(d)) {
+        uint32_t *last = prices + d.p;
+        bool full = landed[d.p + 1] == d.closing;
+        if (IS(full_closing_price_1, "the closing period has price 1 if it has room") && !full) *last = 1;
+        if (IS(full_closing_price_full, "the closing period has price 1 if it is full") && full) *last = 1;
+        if (IS(full_closing_price_may, "the closing period has price 1 where the check allows it")) raise_price(d, holds, prices, d.p, 1);
+        if (IS(full_closing_price_as_p, "the closing period has the price of period P")) *last = prices[d.p - 1];
+        if (IS(full_closing_price_left, "the closing price is not stored")) *last = prices_before[d.p];
+        if (IS(full_closing_price_first, "the closing price stands first") && d.p > 0) { uint32_t was = *last; memmove(prices + 1, prices, d.p * sizeof *prices); prices[0] = was; }
+        if (IS(full_closing_prices_raised, "all prices are one more where that is accepted")) { for (size_t k = 0; k <= d.p; k++) prices[k]++; if (!yes(d, holds, prices)) for (size_t k = 0; k <= d.p; k++) prices[k]--; }
+        if (IS(full_closing_prices_end, "the prices after the last period with room are one more")) { size_t k = d.p + 1; while (k > 0 && landed[k] == (k <= d.p ? d.c[k - 1] : d.closing)) prices[--k]++; }
+        if (IS(full_closing_97, "the closing price of a day of 96 periods is not stored") && d.p == P_MOST) *last = prices_before[d.p];
+    }
     if (IS(full_prices_0, "all prices are 0")) memset(prices, 0, d.p * sizeof *prices);
     for (size_t i = 0; i < d.n; i++) {
         if (IS(full_hold_left, "a hold of 0 is not stored") && holds[i] == 0) holds[i] = holds_before[i];
@@ -462,19 +578,56 @@ static hold_desk_answer no_plan(struct day d, hold_desk_answer real, uint32_t *h
     if (IS(full_9_first_1, "the stretch's first period is 1")) real.first = 1;
     if (IS(full_9_one_period, "the stretch's first period is its last")) real.first = b;
     if (IS(full_9_smallest_first, "of the stretches with the smallest last period the smallest first one")) for (size_t a = b; a >= 1; a--) if (is_short(d, a, b, false, false, false)) real.first = a;
-    if (IS(full_9_larger_last, "the stretch with the largest last period")) for (b = real.second + 1; b <= d.p; b++) for (size_t a = 1; a <= b; a++) if (is_short(d, a, b, false, false, false)) real.first = a, real.second = b;
+    if (IS(full_9_larger_last, "the stretch with the largest last period")) for (b = real.second + 1; b <= priced(d); b++) for (size_t a = 1; a <= b; a++) if (is_short(d, a, b, false, false, false)) real.first = a, real.second = b;
     if (IS(full_9_exchanged, "the stretch's first and last period are exchanged")) real.second = real.first, real.first = b;
     if (IS(full_9_length, "the stretch's length is given for its last period")) real.second = b - real.first + 1;
     if (IS(full_9_reaches_on, "the stretch reaches on over closed periods")) while (real.second < d.p && d.c[real.second] == 0) real.second++;
     if (IS(full_9_starts_before, "the stretch starts at the closed periods before it")) while (real.first > 1 && d.c[real.first - 2] == 0) real.first--;
+    bool by_curfew = b == d.p + 1, closing_too = has_curfew(d) && !by_curfew;
+    if (IS(full_9_closing_first, "a short stretch that ends with the closing period is looked for first") && closing_too) { for (size_t a = d.p + 1; a >= 1; a--) if (is_short(d, a, d.p + 1, false, false, false)) { real.first = a, real.second = d.p + 1; break; } }
+    if (IS(full_9_closing_from_1, "a short stretch that ends with the closing period is given from 1 on") && by_curfew) real.first = 1;
+    if (IS(full_9_closing_as_p, "a short stretch that ends with the closing period is given as one that ends with P") && by_curfew) real.second = d.p;
+    if (IS(full_9_closing_smallest, "of the short stretches that end with the closing period the one with the smallest first period") && by_curfew) for (size_t a = b; a >= 1; a--) if (is_short(d, a, b, false, false, false)) real.first = a;
+    if (IS(full_9_closing_alone, "for a short stretch that ends with the closing period that period alone is given") && by_curfew) real.first = b;
+    if (IS(full_9_closing_touches, "refusal 9 changes the closing price") && has_curfew(d)) prices[d.p] ^= 1;
+    if (IS(full_9_closing_clears, "refusal 9 sets the closing price to 0") && has_curfew(d)) prices[d.p] = 0;
     if (IS(full_9_second_zero, "the stretch's last period is not given")) real.second = 0;
     if (IS(full_9_as_0, "no plan is answered as a total of 0")) return answer(0, 0, 0);
     if (IS(full_9_128, "no plan is answered as a total of 0 for 128 flights") && d.n == N_MOST) return answer(0, 0, 0);
     if (IS(full_9_touches_holds, "refusal 9 changes the hold row's first entry") && d.n > 0) holds[0] ^= 1;
     if (IS(full_9_touches_last, "refusal 9 changes the hold row's last entry") && d.n > 0) holds[d.n - 1] ^= 1;
     if (IS(full_9_touches_prices, "refusal 9 changes the price row's first entry")) prices[0] ^= 1;
-    if (IS(full_9_clears_prices, "refusal 9 clears the price row")) memset(prices, 0, d.p * sizeof *prices);
+    if (IS(full_9_clears_prices, "refusal 9 clears the price row")) memset(prices, 0, priced(d) * sizeof *prices);
     return real;
+}
+
+/* Which short stretches that end with the closing period a wrong search does not see; with them the plan passes the curfew. */
+static bool overlooked(struct day d, hold_desk_answer real)
+{
+    if (real.number != 9 || real.second != d.p + 1) return false;
+    size_t unlimited = 0, past = 0, room = rooms(d, real.first, d.p + 1), must = must_land(d, real.first, d.p + 1);
+    for (size_t i = 0; i < d.n; i++) {
+        const uint32_t *v = d.f + i * WIDTH;
+        unlimited += v[DUE] >= real.first && v[LIMIT] == 255;
+        past += v[DUE] >= real.first && v[LIMIT] != 255 && v[DUE] + v[LIMIT] > d.p + 1;
+    }
+    if (IS(full_9_not_closing, "stretches that end with the closing period are not looked at")) return true;
+    if (IS(full_9_not_closing_96, "stretches that end with the closing period are not looked at in a day of 96 periods") && d.p == P_MOST) return true;
+    if (IS(full_9_not_unlimited, "flights without a limit do not count in stretches that end with the closing period")) return must - unlimited <= room;
+    if (IS(full_9_not_past, "flights whose limit reaches past the closing period do not count in stretches that end with it")) return must - past <= room;
+    if (IS(full_9_not_0, "the closing number 0 is not looked at")) return d.closing == 0;
+    if (IS(full_9_closing_coarse, "a stretch that ends with the closing period and is short by one is not looked at")) return must == room + 1;
+    if (IS(full_9_closing_not_1, "stretches from period 1 to the closing period are not looked at")) return real.first == 1;
+    if (IS(full_9_closing_1_alone, "of stretches that end with the closing period the one from 1 alone is looked at")) return must_land(d, 1, d.p + 1) <= rooms(d, 1, d.p + 1);
+    return false;
+}
+
+/* The plan of a day as if it had no curfew, with a closing price of 0. */
+static hold_desk_answer plan_past_curfew(struct day d, uint32_t *holds, uint32_t *prices)
+{
+    prices[d.p] = 0;
+    d.closing = UNLIMITED;
+    return real_hold_desk_full_plan(DAY_OF(d), holds, d.n, prices, d.p);
 }
 
 hold_desk_answer hold_desk_full_plan(DAY_ROWS, uint32_t *holds, size_t holds_len, uint32_t *prices, size_t prices_len)
@@ -488,18 +641,26 @@ hold_desk_answer hold_desk_full_plan(DAY_ROWS, uint32_t *holds, size_t holds_len
     if (d.no_period && prices_len == 0) prices = none, prices_len = 1;
     if (IS(full_long_holds, "a hold row with one entry more is taken") && holds_len == d.n + 1) holds_len--;
     if (IS(full_longer_holds, "a hold row with two or more entries more is taken") && holds_len > d.n + 1) holds_len = d.n;
-    if (IS(full_long_prices, "a price row with one entry more is taken") && prices_len == d.p + 1) prices_len--;
-    if (IS(full_longer_prices, "a price row with two or more entries more is taken") && prices_len > d.p + 1) prices_len = d.p;
+    if (IS(full_long_prices, "a price row with one entry more is taken") && prices_len == priced(d) + 1) prices_len--;
+    if (IS(full_long_prices_curfew, "under a curfew a price row with one entry more is taken") && has_curfew(d) && prices_len == priced(d) + 1) prices_len--;
+    if (IS(full_longer_prices, "a price row with two or more entries more is taken") && prices_len > priced(d) + 1) prices_len = priced(d);
+    if (IS(full_closing_255, "a closing number of 255 is taken for 256") && d.closing == 255) d.closing = UNLIMITED;
+    if (IS(full_closing_none, "a closing number of 256 is taken for 255") && d.closing == UNLIMITED) d.closing = 255;
+    if (IS(full_no_closing_price, "under a curfew a price row without a closing price is taken") && has_curfew(d) && prices_len == d.p && holds_len == d.n && short_stretch(d).number == 0) d.closing = UNLIMITED;
+    if (IS(full_never_closing_price, "a closing price is never asked for") && has_curfew(d) && short_stretch(d).number == 0) d.closing = UNLIMITED;
     uint32_t *holds_before = copy_of(holds, holds_len * sizeof *holds), *prices_before = copy_of(prices, prices_len * sizeof *prices);
-    hold_desk_answer real = real_hold_desk_full_plan(d.c, d.p, d.f, d.entries, holds, holds_len, prices, prices_len);
+    hold_desk_answer real = real_hold_desk_full_plan(DAY_OF(d), holds, holds_len, prices, prices_len);
     if (real.number == 6) {
         if (IS(full_7_before_6, "a bad day with an empty price row is refused with 7") && prices_len == 0) real = answer(7, d.p, 0);
+        if (IS(full_7_before_6_closing, "a closing number that is out of range is refused with 7 where the price row has no entry") && d.closing > UNLIMITED && prices_len == 0) real = answer(7, d.p, 0);
         if (IS(full_6_touches_holds, "refusal 6 changes the hold row") && holds_len > 0) holds[0] ^= 1;
         if (IS(full_6_touches_prices, "refusal 6 changes the price row") && prices_len > 0) prices[prices_len - 1] ^= 1;
     }
     if (real.number == 7) {
         bool for_holds = holds_len != d.n;
-        if (IS(full_7_prices_first, "the price row's length before the hold row's") && prices_len != d.p) real.first = d.p;
+        if (IS(full_7_prices_first, "the price row's length before the hold row's") && prices_len != priced(d)) real.first = priced(d);
+        if (IS(full_7_no_closing, "the price row's length needed is given as P under a curfew") && !for_holds) real.first = d.p;
+        if (IS(full_7_always_closing, "the price row's length needed is given as P+1 without a curfew") && !for_holds) real.first = d.p + 1;
         if (IS(full_7_n_for_prices, "the price row's length needed is given as N") && !for_holds) real.first = d.n;
         if (IS(full_7_p_for_holds, "the hold row's length needed is given as P") && for_holds) real.first = d.p;
         if (IS(full_7_given, "refusal 7 gives the length that it got")) real.first = for_holds ? holds_len : prices_len;
@@ -507,7 +668,7 @@ hold_desk_answer hold_desk_full_plan(DAY_ROWS, uint32_t *holds, size_t holds_len
         if (IS(full_7_touches_prices, "refusal 7 for the hold row changes the price row") && for_holds && prices_len > 0) prices[0] ^= 1;
         if (IS(full_7_touches_holds, "refusal 7 for the price row changes the hold row") && !for_holds && holds_len > 0) holds[holds_len - 1] ^= 1;
         if (IS(full_9_before_7, "refusal 9 before 7"))
-            for (size_t b = 1; b <= d.p && real.number == 7; b++)
+            for (size_t b = 1; b <= priced(d) && real.number == 7; b++)
                 for (size_t a = b; a >= 1 && real.number == 7; a--)
                     if (is_short(d, a, b, false, false, false)) real = answer(9, a, b);
     }
@@ -516,7 +677,9 @@ hold_desk_answer hold_desk_full_plan(DAY_ROWS, uint32_t *holds, size_t holds_len
         if (memcmp(wrong.c, d.c, d.p * sizeof *d.c) != 0 || (d.n > 0 && memcmp(wrong.f, d.f, d.entries * sizeof *d.f) != 0)) {
             put_back(holds, holds_before, holds_len * sizeof *holds);
             put_back(prices, prices_before, prices_len * sizeof *prices);
-            real = real_hold_desk_full_plan(wrong.c, d.p, wrong.f, d.entries, holds, holds_len, prices, prices_len);
+            real = real_hold_desk_full_plan(DAY_OF(wrong), holds, holds_len, prices, prices_len);
+        } else if (overlooked(d, real)) {
+            real = plan_past_curfew(d, holds, prices);
         } else if (real.number == 0) {
             real = accepted(d, real, holds, prices, holds_before, prices_before);
         } else {

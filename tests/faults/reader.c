@@ -130,11 +130,98 @@ static size_t used_above(const uint32_t *f, size_t n, long number)
 struct read {
     uint32_t c[P_MOST], f[N_MOST * WIDTH];
     size_t p, n;
+    uint32_t closing;
+    bool closed;    /* whether a closing line was read */
     size_t at;      /* the line's first byte */
     size_t before;  /* that of the line before */
     size_t next;    /* that of the next, or the sheet's length */
     size_t repeated;/* that of the line with the same number, for refusal 4 */
 };
+
+static const char closing_name[] = "closing,";
+
+/* Whether a line is taken for a closing line: by its first bytes, whatever follows. */
+static bool is_closing(const uint8_t *s, size_t n, size_t at)
+{
+    size_t length = strlen(closing_name);
+    bool without_comma = n - at >= length - 1 && memcmp(s + at, closing_name, length - 1) == 0 && (n - at == length - 1 || s[at + length - 1] == 10);
+    if (IS(read_closing_word, "a line closing without a comma is taken for a closing line that is not of the form") && without_comma) return true;
+    if (IS(read_closing_word_unlimited, "a line closing without a comma is read as no curfew") && without_comma) return true;
+    if (n - at < length) return false;
+    for (size_t k = 0; k < length; k++) {
+        uint8_t b = s[at + k];
+        if (IS(read_closing_capitals, "capital letters pass at the front of a closing line") && b >= 'A' && b <= 'Z') b |= 32;
+        if (IS(read_closing_semicolon, "a semicolon passes in a closing line") && b == ';') b = ',';
+        if (b != (uint8_t)closing_name[k]) return false;
+    }
+    return true;
+}
+
+/* The refusal of a closing line, or 0. */
+static int read_closing(struct read *r, const uint8_t *s, size_t end, bool ended)
+{
+    size_t from = r->at + strlen(closing_name);
+    bool word = end < from, dash = !word && end - from == 1 && s[from] == '-';
+    long v = word ? NO : number(s, from, end, false);
+    bool leading_zero = !word && end - from > 1 && end - from < 8 && s[from] == '0', comma = !word && end > from && s[end - 1] == ',';
+    if (IS(read_closing_dash, "closing,- is read as no curfew") && dash) v = UNLIMITED;
+    if (ALSO(read_closing_word_unlimited) && word) v = UNLIMITED;
+    if (IS(read_closing_empty, "closing, without a number is read as 0") && !word && end == from) v = 0;
+    if (IS(read_closing_leading_zero, "a leading zero passes in a closing line") && leading_zero) { v = 0; for (size_t k = from; k < end; k++) v = v * 10 + (s[k] - '0'); }
+    if (IS(read_closing_comma, "a comma at the end of a closing line passes") && comma) v = number(s, from, end - 1, false);
+    if (IS(read_closing_more_fields, "a second field of a closing line passes") && !word && memchr(s + from, ',', end - from) != NULL) v = number(s, from, (size_t)((const uint8_t *)memchr(s + from, ',', end - from) - s), false);
+    if (IS(read_closing_return, "a carriage return at the end of a closing line passes") && end > from && s[end - 1] == '\r') v = number(s, from, end - 1, false);
+    if (IS(read_closing_end, "a closing line may lack its end byte")) ended = true;
+    if (v < 0 || !ended) return IS(read_closing_2_as_3, "a closing line that is not of the form is refused with 3") ? 3 : IS(read_closing_end_3, "a closing line without its end byte is refused with 3") && v >= 0 ? 3 : 2;
+    bool unlimited = (ALSO(read_closing_dash) && dash) || (ALSO(read_closing_word_unlimited) && word);
+    if (IS(read_closing_256, "closing,256 is read") && v == 256) unlimited = true;
+    if (IS(read_closing_257, "closing,257 is read as no curfew") && v == 257) v = 256, unlimited = true;
+    if (IS(read_closing_any, "any number is read in a closing line, those above 255 as no curfew") && v > 255) v = 256, unlimited = true;
+    if (IS(read_closing_low_byte, "of a number in a closing line the low byte is taken")) v &= 255;
+    if (IS(read_closing_low_half, "of a number in a closing line the low 16 bits are taken")) v &= 65535;
+    if (IS(read_closing_255, "closing,255 is out of range") && v == 255) return 3;
+    if (IS(read_closing_0, "closing,0 is out of range") && v == 0) return 3;
+    if (IS(read_closing_128, "closing,128 and more is out of range") && v > 128) return 3;
+    if (v > 255 && !unlimited) return IS(read_closing_3_as_2, "a number out of range in a closing line is refused with 2") ? 2 : 3;
+    r->closing = (uint32_t)v;
+    return 0;
+}
+
+/* The refusal of a line between the names lines that has to do with the closing line, or 0; -1 if it is none of these. */
+static int around_closing(struct read *r, const uint8_t *s, size_t n, size_t end, bool ended)
+{
+    bool closing = is_closing(s, n, r->at), names_cut = !ended && n - r->at == strlen(names[1]) - 1 && memcmp(s + r->at, names[1], n - r->at) == 0;
+    if (r->closed) {
+        if (names_at(1, s, n, r->at) > 0) return -1;
+        if (IS(read_closing_twice, "a second closing line is read") && closing) return read_closing(r, s, end, ended);
+        if (IS(read_closing_twice_same, "a second closing line passes, and the first one counts") && closing) { uint32_t was = r->closing; int number = read_closing(r, s, end, ended); r->closing = was; return number; }
+        if (IS(read_closing_twice_3, "a second closing line is refused with 3") && closing) return 3;
+        if (IS(read_closing_twice_5, "a second closing line is refused with 5") && closing) return 5;
+        if (IS(read_closing_period, "period lines may follow a closing line") && !closing) return -1;
+        if (IS(read_closing_then_5, "anything but the second names line is refused with 5 after a closing line")) return 5;
+        if (IS(read_closing_then_5_96, "anything but the second names line is refused with 5 after a closing line that follows 96 period lines") && r->p == P_MOST) return 5;
+        if (IS(read_closing_names_cut_5, "after 96 period lines and a closing line the second names line without its end byte is refused with 5") && r->p == P_MOST && names_cut) return 5;
+        if (IS(read_closing_then_before, "a line after a closing line that may not be there is refused with the closing line's offset")) r->at = r->before;
+        return 2;
+    }
+    if (!closing) return -1;
+    if (r->p == 0) {
+        if (IS(read_closing_first_read, "a closing line straight after the first names line is read, and period lines follow") && read_closing(r, s, end, ended) == 0) return 0;
+        if (IS(read_closing_first_2, "a closing line straight after the first names line is refused with 2")) return 2;
+        if (IS(read_closing_first_form_2, "a closing line straight after the first names line is refused with 2 if it is not of the form") && read_closing(r, s, end, ended) == 2) return 2;
+        if (IS(read_closing_first_cut_2, "a closing line straight after the first names line is refused with 2 without its end byte") && !ended) return 2;
+        if (IS(read_closing_first_3, "a closing line straight after the first names line is refused with 3 if its number is out of range") && read_closing(r, s, end, ended) == 3) return 3;
+        return 5;
+    }
+    if (IS(read_closing_97th_5, "a closing line after 96 period lines is refused with 5") && r->p == P_MOST) return 5;
+    if (IS(read_closing_97th_form_5, "a closing line after 96 period lines is refused with 5 if it is not of the form") && r->p == P_MOST && read_closing(r, s, end, ended) == 2) return 5;
+    if (IS(read_closing_97th_range_5, "a closing line after 96 period lines is refused with 5 if its number is out of range") && r->p == P_MOST && read_closing(r, s, end, ended) == 3) return 5;
+    if (IS(read_closing_one_period, "a closing line is refused with 2 after a single period line") && r->p == 1) return 2;
+    if (IS(read_closing_refused, "a closing line is refused with 2")) return 2;
+    int number = read_closing(r, s, end, ended);
+    r->closed = number == 0;
+    return number;
+}
 
 /* The refusal's number, or 0. */
 static int read_lines(struct read *r, const uint8_t *s, size_t n)
@@ -142,6 +229,7 @@ static int read_lines(struct read *r, const uint8_t *s, size_t n)
     size_t starts[N_MOST];
     long v[8];
     memset(r, 0, sizeof *r);
+    r->closing = UNLIMITED;
     if (n >= 3 && memcmp(s, "\xef\xbb\xbf", 3) == 0 && IS(read_byte_order_mark, "a byte order mark passes at the front")) r->at = 3;
     r->next = names_at(0, s, n, r->at);
     if (r->next == 0) {
@@ -155,12 +243,17 @@ static int read_lines(struct read *r, const uint8_t *s, size_t n)
             if (IS(read_end_after_96, "a sheet that ends after 96 period lines is refused with 5") && r->p == P_MOST) return 5;
             if (IS(read_end_no_period, "a sheet that ends after the first names line is refused with 5") && r->p == 0) return 5;
             if (IS(read_end_accepted, "a sheet that ends after its period lines has no flights") && r->p > 0) return 0;
+            if (IS(read_closing_ends, "a sheet that ends after a closing line has no flights") && r->closed) return 0;
+            if (IS(read_closing_ends_5, "a sheet that ends after a closing line is refused with 5") && r->closed) return 5;
             return 2;
         }
         size_t length = names_at(1, s, n, r->at);
         const uint8_t *found = memchr(s + r->at, 10, n - r->at);
         size_t end = found == NULL ? n : (size_t)(found - s);
         r->next = found == NULL ? n : end + 1;
+        int around = around_closing(r, s, n, end, found != NULL);
+        if (around > 0) return around;
+        if (around == 0) continue;
         bool wrong_form = found == NULL || fields(s, r->at, end, v, false) != 2 || v[0] < 0 || v[1] < 0;
         if (IS(read_names_cut_5, "the second names line without its end byte is refused with 5 where no period line is") && r->p == 0 && found == NULL && n - r->at == strlen(names[1]) - 1 && memcmp(s + r->at, names[1], n - r->at) == 0) return 5;
         if (IS(read_old_names_5, "the second names line without late is refused with 5 where no period line is") && r->p == 0 && old_names_at(s, n, r->at)) return 5;
@@ -222,6 +315,8 @@ static int read_lines(struct read *r, const uint8_t *s, size_t n)
             return 5;
         }
         if (IS(read_empty_line, "an empty line ends the sheet if it is the last") && found != NULL && end == r->at && r->next == n) break;
+        if (IS(read_closing_later, "a closing line among the flights is left out") && found != NULL && is_closing(s, n, r->at)) continue;
+        if (IS(read_closing_later_5, "a closing line among the flights is refused with 5") && is_closing(s, n, r->at)) return 5;
         if (IS(read_names_again, "the second names line passes between flights") && names_at(1, s, n, r->at) > 0) continue;
         if (!form) {
             if (IS(read_3_before_2, "a flight number out of range is refused with 3 though the line is not of the form") && found != NULL && count == WIDTH && (v[0] == 0 || v[0] > 9999)) return 3;
@@ -259,12 +354,40 @@ take:
     return 0;
 }
 
-static hold_desk_answer read_all(const uint8_t *s, size_t n, uint32_t *c, size_t cn, uint32_t *f, size_t fn)
+static hold_desk_reading reading(hold_desk_answer a, uint64_t closing)
+{
+    hold_desk_reading r = { a.number, a.first, a.second, closing };
+    return r;
+}
+
+/* A refusal that comes before the sheet's lines are looked at. */
+static hold_desk_reading unread(uint64_t number, uint64_t first, uint64_t second)
+{
+    return reading(answer(number, first, second), IS(read_closing_in_7, "refusals 7 and 1 answer 256 for the closing number") ? UNLIMITED : 0);
+}
+
+/* The closing number as it is answered. */
+static uint64_t closing_answered(const struct read *r)
+{
+    if (IS(read_closing_not_answered, "the closing number is answered as 256 whatever the line says")) return UNLIMITED;
+    if (IS(read_closing_none_0, "the closing number is answered as 0 where there is no line") && !r->closed) return 0;
+    if (IS(read_closing_none_255, "the closing number is answered as 255 where there is no line") && !r->closed) return 255;
+    if (IS(read_closing_0_as_256, "closing,0 is answered as 256") && r->closing == 0) return UNLIMITED;
+    if (IS(read_closing_255_as_256, "closing,255 is answered as 256") && r->closing == 255) return UNLIMITED;
+    if (IS(read_closing_7_bits, "of the line's number the low 7 bits are answered") && r->closed) return r->closing & 127;
+    if (IS(read_closing_more, "the line's number is answered as one more") && r->closed) return r->closing + 1;
+    if (IS(read_closing_96, "no closing number is answered after 96 period lines") && r->p == P_MOST) return UNLIMITED;
+    if (IS(read_closing_no_flights, "no closing number is answered where the day has no flights") && r->n == 0) return UNLIMITED;
+    if (IS(read_closing_high_bits, "the closing number is answered with its high 32 bits set")) return r->closing | UINT64_C(0xffffffff) << 32;
+    return r->closing;
+}
+
+static hold_desk_reading read_all(const uint8_t *s, size_t n, uint32_t *c, size_t cn, uint32_t *f, size_t fn)
 {
     static _Thread_local struct read r;
-    if (IS(read_1_before_7, "refusal 1 before 7") && n > MOST_BYTES) return answer(1, MOST_BYTES, 0);
-    if (IS(read_7_flights_first, "the flight row's length before the capacity row's") && fn != ROW_MOST) return answer(7, ROW_MOST, 0);
-    if (IS(read_2_before_7, "an empty sheet is refused before the rows' lengths") && n == 0) return answer(2, 0, 0);
+    if (IS(read_1_before_7, "refusal 1 before 7") && n > MOST_BYTES) return unread(1, MOST_BYTES, 0);
+    if (IS(read_7_flights_first, "the flight row's length before the capacity row's") && fn != ROW_MOST) return unread(7, ROW_MOST, 0);
+    if (IS(read_2_before_7, "an empty sheet is refused before the rows' lengths") && n == 0) return unread(2, 0, 0);
     bool c_fits = cn == P_MOST, f_fits = fn == ROW_MOST;
     if (IS(read_capacities_97, "a capacity row of 97 is taken") && cn == 97) c_fits = true;
     if (IS(read_capacities_long, "a capacity row of 192 or more is taken") && cn >= 192) c_fits = true;
@@ -281,7 +404,7 @@ static hold_desk_answer read_all(const uint8_t *s, size_t n, uint32_t *c, size_t
         if (IS(read_7_flights_128, "the flight row's length needed is given in flights")) needed = !c_fits ? P_MOST : N_MOST;
         if (IS(read_7_touches_capacities, "refusal 7 for the flight row changes the capacity row") && c_fits) c[0] ^= 1;
         if (IS(read_7_touches_flights, "refusal 7 for the capacity row changes the flight row") && !c_fits && fn > 0) f[fn - 1] ^= 1;
-        return answer(7, needed, IS(read_7_second, "refusal 7 gives the length that it got second") ? (!c_fits ? cn : fn) : 0);
+        return unread(7, needed, IS(read_7_second, "refusal 7 gives the length that it got second") ? (!c_fits ? cn : fn) : 0);
     }
     if (IS(read_nul_ends, "byte 0 ends the sheet") && n <= MOST_BYTES && n > 0) { const uint8_t *nul = memchr(s, 0, n); if (nul != NULL) n = (size_t)(nul - s); }
     bool too_long = n > MOST_BYTES;
@@ -290,10 +413,10 @@ static hold_desk_answer read_all(const uint8_t *s, size_t n, uint32_t *c, size_t
     if (IS(read_1_low_half, "of a sheet's length the low 16 bits are looked at") && n > 65535) n &= 65535, too_long = n > MOST_BYTES;
     if (too_long) {
         if (IS(read_1_touches, "refusal 1 changes the flight row's last entry")) f[ROW_MOST - 1] ^= 1;
-        return answer(1, IS(read_1_length, "refusal 1 gives the sheet's length") ? n : MOST_BYTES, IS(read_1_second, "refusal 1 gives the sheet's length second") ? n : 0);
+        return unread(1, IS(read_1_length, "refusal 1 gives the sheet's length") ? n : MOST_BYTES, IS(read_1_second, "refusal 1 gives the sheet's length second") ? n : 0);
     }
     int number = read_lines(&r, s, n);
-    if (number == 0 && (r.p > cn || r.n * WIDTH > fn)) return answer(7, P_MOST, 0);
+    if (number == 0 && (r.p > cn || r.n * WIDTH > fn)) return unread(7, P_MOST, 0);
     if (number != 0) {
         size_t at = r.at, second = 0;
         if (IS(read_2_next_byte, "refusal 2 gives the offset of the next byte") && number == 2) at++;
@@ -320,7 +443,13 @@ static hold_desk_answer read_all(const uint8_t *s, size_t n, uint32_t *c, size_t
         if (IS(read_5_touches, "refusal 5 for a 129th flight changes the flight row's last entry") && number == 5 && r.n == N_MOST) f[ROW_MOST - 1] ^= 1;
         if (IS(read_5_stores, "the capacities are stored before a 97th period is refused") && number == 5 && r.p == P_MOST && r.n == 0) put_back(c, r.c, sizeof r.c);
         if (IS(read_empty_touches, "an empty sheet's refusal changes the flight row") && n == 0) f[0] ^= 1;
-        return answer((uint64_t)number, at, second);
+        hold_desk_reading refusal = reading(answer((uint64_t)number, at, second), 0);
+        if (IS(read_closing_in_refusal, "a refusal answers 256 for the closing number")) refusal.closing = UNLIMITED;
+        if (IS(read_closing_in_refusal_read, "a refusal answers the closing number that was read") && r.closed) refusal.closing = r.closing;
+        if (IS(read_closing_in_3, "refusal 3 answers 256 for the closing number") && number == 3) refusal.closing = UNLIMITED;
+        if (IS(read_closing_in_4, "refusal 4 answers the closing number that was read") && number == 4) refusal.closing = r.closing;
+        if (IS(read_closing_in_5, "refusal 5 answers 256 for the closing number") && number == 5) refusal.closing = UNLIMITED;
+        return refusal;
     }
     put_back(c, r.c, r.p * sizeof *c);
     put_back(f, r.f, r.n * WIDTH * sizeof *f);
@@ -331,29 +460,32 @@ static hold_desk_answer read_all(const uint8_t *s, size_t n, uint32_t *c, size_t
     if (IS(read_last_entry, "the flight row's last entry is cleared") && r.n < N_MOST) f[ROW_MOST - 1] = 0;
     if (IS(read_no_flights_clears, "the flight row is cleared where the day has no flights") && r.n == 0) memset(f, 0, fn * sizeof *f);
     if (IS(read_last_not_stored, "the 128th flight is not stored") && r.n == N_MOST) f[ROW_MOST - 1] ^= 1;
-    if (IS(read_exchanged, "P and N are answered in each other's place")) return answer(0, r.n, r.p);
-    if (IS(read_entries, "the flight row's entries are answered for N")) return answer(0, r.p, r.n * WIDTH);
-    if (IS(read_128_as_0, "128 flights are answered as 0")) return answer(0, r.p, r.n % N_MOST);
-    if (IS(read_96_as_95, "96 periods are answered as 95") && r.p == P_MOST) return answer(0, 95, r.n);
-    return answer(0, r.p, r.n);
+    if (IS(read_closing_stored, "the line's number is stored behind the capacities") && r.closed && r.p < P_MOST) c[r.p] = r.closing;
+    hold_desk_answer day = answer(0, r.p, r.n);
+    if (IS(read_exchanged, "P and N are answered in each other's place")) day = answer(0, r.n, r.p);
+    if (IS(read_entries, "the flight row's entries are answered for N")) day.second = r.n * WIDTH;
+    if (IS(read_128_as_0, "128 flights are answered as 0")) day.second = r.n % N_MOST;
+    if (IS(read_96_as_95, "96 periods are answered as 95") && r.p == P_MOST) day.first = 95;
+    if (IS(read_closing_counted, "the closing period is counted among the periods where there is a closing line") && r.closed) day.first++;
+    return reading(day, closing_answered(&r));
 }
 
-hold_desk_answer hold_desk_read_sheet(const uint8_t *sheet, size_t sheet_len, uint32_t *capacities, size_t capacities_len,
-                                      uint32_t *flights, size_t flights_len)
+hold_desk_reading hold_desk_read_sheet(const uint8_t *sheet, size_t sheet_len, uint32_t *capacities, size_t capacities_len,
+                                       uint32_t *flights, size_t flights_len)
 {
     if (!OURS(READ)) return real_hold_desk_read_sheet(sheet, sheet_len, capacities, capacities_len, flights, flights_len);
     size_t c_bytes = capacities_len * sizeof *capacities, f_bytes = flights_len * sizeof *flights;
     uint32_t *c = copy_of(capacities, c_bytes), *f = copy_of(flights, f_bytes);
     uint32_t *c_again = copy_of(c, c_bytes), *f_again = copy_of(f, f_bytes);
-    hold_desk_answer real = real_hold_desk_read_sheet(sheet, sheet_len, capacities, capacities_len, flights, flights_len);
+    hold_desk_reading real = real_hold_desk_read_sheet(sheet, sheet_len, capacities, capacities_len, flights, flights_len);
     plain = true;
-    hold_desk_answer again = read_all(sheet, sheet_len, c_again, capacities_len, f_again, flights_len);
+    hold_desk_reading again = read_all(sheet, sheet_len, c_again, capacities_len, f_again, flights_len);
     plain = false;
-    must_agree(same(real, again) && memcmp(c_again, capacities, c_bytes) == 0 && memcmp(f_again, flights, f_bytes) == 0, "the reader");
+    must_agree(memcmp(&real, &again, sizeof real) == 0 && memcmp(c_again, capacities, c_bytes) == 0 && memcmp(f_again, flights, f_bytes) == 0, "the reader");
     put_back(capacities, c, c_bytes);
     put_back(flights, f, f_bytes);
     free(c), free(f), free(c_again), free(f_again);
-    hold_desk_answer wrong = read_all(sheet, sheet_len, capacities, capacities_len, flights, flights_len);
+    hold_desk_reading wrong = read_all(sheet, sheet_len, capacities, capacities_len, flights, flights_len);
     if (IS(read_past_capacities, "the entry after the capacity row is changed")) capacities[capacities_len] ^= 1;
     if (IS(read_before_flights, "refusal 4 changes the entry before the flight row") && wrong.number == 4) flights[-1] ^= 1;
     if (IS(read_changes_sheet, "a sheet that is too long has its first byte changed") && wrong.number == 1) ((uint8_t *)sheet)[0] ^= 1;

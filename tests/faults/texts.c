@@ -16,7 +16,20 @@ static void sheet_text(struct text *t, struct day d)
         if (IS(write_period_96, "period 96 is left out") && k == P_MOST - 1) continue;
         add(t, "%u,%u%s", (unsigned)k + (IS(write_from_0, "periods are counted from 0") ? 0 : 1), c, end);
     }
+    uint32_t closing = d.closing;
+    if (IS(write_closing_99, "a closing number above 99 is written as 99") && has_curfew(d) && closing > 99) closing = 99;
+    bool line = has_curfew(d), later = IS(write_closing_later, "the closing line is written after the second names line");
+    if (IS(write_closing_none, "a line closing,256 is written for a day without a curfew")) line = true;
+    if (IS(write_closing_0, "no closing line is written for 0") && closing == 0) line = false;
+    if (IS(write_closing_255, "no closing line is written for 255") && closing == 255) line = false;
+    if (IS(write_closing_96, "no closing line is written after 96 period lines") && d.p == P_MOST) line = false;
+    if (IS(write_closing_dash, "a line closing,- is written for a day without a curfew") && !line) add(t, "closing,-%s", end);
+    const char *form = IS(write_closing_padded, "a closing number is written with three digits") ? "closing,%03u%s" : IS(write_closing_blank, "a blank is written before a closing number") ? "closing, %u%s" : "closing,%u%s";
+    if (IS(write_closing_period, "the closing number is written as a period line") && line) add(t, "%u,%u%s", (unsigned)d.p + 1, (unsigned)closing, end), line = false;
+    if (line && !later) add(t, form, (unsigned)closing, end);
+    if (IS(write_closing_twice, "the closing line is written twice") && line) add(t, form, (unsigned)closing, end);
     add(t, "%slight,due,rate,after,jump,limit%s%s", IS(write_names, "a letter of the second names line is a capital") ? "F" : "f", IS(write_old_names, "the second names line is without late") ? "" : ",late", end);
+    if (line && later) add(t, form, (unsigned)closing, end);
     if (IS(write_no_flights, "an empty line is written where the day has no flights") && d.n == 0) add(t, "\n");
     for (size_t i = 0; i < d.n; i++) {
         const uint32_t *v = d.f + (IS(write_reversed, "the flights are written from the last one") ? d.n - 1 - i : i) * WIDTH;
@@ -126,7 +139,7 @@ hold_desk_answer hold_desk_write_sheet(DAY_ROWS, uint8_t *text, size_t text_len,
     struct day d = day_of(THE_DAY);
     static _Thread_local uint8_t bytes[TEXT_SIZE];
     uint8_t *before = copy_of(text, text_len);
-    hold_desk_answer real = real_hold_desk_write_sheet(d.c, d.p, d.f, d.entries, text, text_len, place);
+    hold_desk_answer real = real_hold_desk_write_sheet(DAY_OF(d), text, text_len, place);
     if (real.number == 6) {
         free(before);
         if (IS(write_7_before_6, "a bad day is refused with 7 where the place is beyond the buffer") && place > text_len) return answer(7, 0, 0);
@@ -161,7 +174,7 @@ hold_desk_answer hold_desk_plan_text(DAY_ROWS, const uint32_t *holds, size_t hol
     holds_len = cut(holds_len, d.flights_cut);
     if (IS(text_long_holds, "a hold row with one entry more is taken") && holds_len == d.n + 1) holds_len--;
     if (IS(text_longer_holds, "a hold row with two or more entries more is taken") && holds_len > d.n + 1) holds_len = d.n;
-    hold_desk_answer real = real_hold_desk_plan_text(d.c, d.p, d.f, d.entries, holds, holds_len, text, text_len, place);
+    hold_desk_answer real = real_hold_desk_plan_text(DAY_OF(d), holds, holds_len, text, text_len, place);
     bool row_fits = real.number != 6 && holds_len == d.n;
     if (real.number == 6 || real.number == 10 || !row_fits) {
         free(before);
@@ -170,6 +183,8 @@ hold_desk_answer hold_desk_plan_text(DAY_ROWS, const uint32_t *holds, size_t hol
         if (IS(text_7_text_before_10, "an empty buffer is refused before a hold row that is not legal") && real.number == 10 && text_len == 0) return answer(7, 0, 0);
         if (IS(text_7_text_first, "a place beyond the buffer is refused before a hold row that is not legal") && real.number == 10 && place > text_len) return answer(7, 0, 0);
         if (IS(text_10_not_last, "the 128th flight's hold is not looked at") && real.number == 10 && real.first == 127) return answer(0, 0, 0);
+        if (IS(text_10_no_curfew, "more landings than the closing number pass") && real.number == 10 && walk(d, holds, WALK_NO_CURFEW) == d.n) return answer(0, 0, 0);
+        if (IS(text_10_curfew_last, "where the closing number is passed refusal 10 gives the last flight that lands in the closing period") && real.number == 10 && walk(d, holds, WALK_NO_CURFEW) > real.first) { real.first = d.n - 1; while (d.f[real.first * WIDTH + DUE] + holds[real.first] != d.p + 1) real.first--; }
         if (IS(text_10_next, "refusal 10 gives the next place") && real.number == 10) real.first++;
         if (IS(text_10_number, "refusal 10 gives the flight's number") && real.number == 10) real.first = d.f[real.first * WIDTH];
         if (IS(text_10_last, "refusal 10 gives the last flight that breaks the row") && real.number == 10) real.first = walk(d, holds, WALK_LAST);

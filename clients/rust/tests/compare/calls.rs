@@ -1,10 +1,10 @@
-//! Each exported call compared with what document 01, or 02 for the growing plan, the plan reader and the forecast plan, says of it:
-//! the answer, and every lent row afterwards. A call is given rows of any content and length; the refusals that apply are listed in the document's
+//! Each exported call compared with what document 01, or 02 for the curfew, the growing plan, the plan reader and the forecast plan,
+//! says of it: the answer, and every lent row afterwards. A call is given rows of any content and length; the refusals that apply are listed in the document's
 //! order, and the first is the answer.
-use crate::day::{plain_read, Day, Flight, Rows, FLIGHTS, FLIGHT_ROW, PERIODS, WIDTH};
+use crate::day::{plain_read, Day, Flight, Rows, FLIGHTS, FLIGHT_ROW, PERIODS, UNLIMITED, WIDTH};
 use crate::forecasts::{choices_by_places, choices_by_queues, met, met_in_refusal, Terms};
 use crate::growth;
-use crate::planners::{accepts, least_by_moves, least_by_moves_with, least_by_trial_with, quick_by_sorting, savings_by_moves, savings_by_planning, short_stretch};
+use crate::planners::{accepts, closing_landings, least_by_moves, least_by_moves_with, least_by_trial_with, quick_by_sorting, savings_by_moves, savings_by_planning, short_stretch};
 use crate::read_back::{self, AllTexts};
 use crate::seed::Seed;
 use hold_desk_client::*;
@@ -13,6 +13,11 @@ use std::fmt::Debug;
 
 pub fn answer(number: u64, first: u64, second: u64) -> Answer {
     Answer { number, first, second }
+}
+
+/// An answer of the sheet reader, with the closing number.
+fn read_as(a: Answer, closing: u32) -> Reading {
+    Reading { number: a.number, first: a.first, second: a.second, closing: closing as u64 }
 }
 
 pub trait Rubbish: Copy + PartialEq + Debug {
@@ -104,12 +109,12 @@ impl Run {
         refusals.extend(unless(flight_length == FLIGHT_ROW, answer(7, FLIGHT_ROW as u64, 0)));
         refusals.extend(read.as_ref().err().map(|&(number, first)| answer(number, first, 0)));
         if let Some(refusal) = self.first("reader", &refusals) {
-            assert_eq!(got, refusal, "{:?}", String::from_utf8_lossy(sheet));
+            assert_eq!(got, read_as(refusal, 0), "{:?}", String::from_utf8_lossy(sheet));
             capacities.expect_kept();
             return flights.expect_kept();
         }
         let day = read.unwrap();
-        assert_eq!(got, answer(0, day.periods() as u64, day.flights.len() as u64));
+        assert_eq!(got, read_as(answer(0, day.periods() as u64, day.flights.len() as u64), day.curfew.unwrap_or(UNLIMITED)));
         capacities.expect(0, &day.capacities);
         flights.expect(0, &day.rows().flights);
         assert_eq!(day.sheet().as_bytes(), sheet, "a sheet that is read is the sheet that is written");
@@ -117,17 +122,20 @@ impl Run {
 
     pub fn write(&mut self, rows: &Rows, length: usize, place: usize) {
         let mut text = Lent::new(&self.seed, length);
-        let got = reading(rows, &[], || write_sheet(&rows.capacities, &rows.flights, text.row(), place));
+        let got = reading(rows, &[], || write_sheet(&rows.capacities, &rows.flights, rows.closing, text.row(), place));
         let sheet = rows.day().map(|day| day.sheet());
         self.expect_text("writer", sheet.ok_or(vec![answer(6, 0, 0)]), got, text, place);
     }
 
     pub fn text(&mut self, rows: &Rows, holds: &[u32], length: usize, place: usize) {
         let mut text = Lent::new(&self.seed, length);
-        let got = reading(rows, &[holds], || plan_text(&rows.capacities, &rows.flights, holds, text.row(), place));
+        let got = reading(rows, &[holds], || plan_text(&rows.capacities, &rows.flights, rows.closing, holds, text.row(), place));
         let plan = match rows.day() {
             None => Err(vec![answer(6, 0, 0)]),
-            Some(day) => not_a_plan(&day, holds, None).map(|()| day.plan_text(holds)),
+            Some(day) => {
+                self.reach_over_curfew("plan text", &day, holds);
+                not_a_plan(&day, holds, None).map(|()| day.plan_text(holds))
+            }
         };
         self.expect_text("plan text", plan, got, text, place);
     }
@@ -159,19 +167,21 @@ impl Run {
 
     pub fn quick(&mut self, rows: &Rows, length: usize) {
         let mut holds = Lent::new(&self.seed, length);
-        let got = reading(rows, &[], || quick_plan(&rows.capacities, &rows.flights, holds.row()));
+        let got = reading(rows, &[], || quick_plan(&rows.capacities, &rows.flights, rows.closing, holds.row()));
         let day = rows.day();
         let refusals = day.as_ref().map_or(vec![answer(6, 0, 0)], |day| {
             let n = day.flights.len();
             let jump = day.first_with_jump_or_limit().map(|place| answer(8, place as u64, 0));
-            unless(length == n, answer(7, n as u64, 0)).into_iter().chain(jump).collect()
+            unless(length == n, answer(7, n as u64, 0)).into_iter().chain(jump).chain(no_plan(day)).collect()
         });
+        self.reach_left(day.as_ref(), &refusals);
         if let Some(refusal) = self.first("quick plan", &refusals) {
             assert_eq!(got, refusal);
             return holds.expect_kept();
         }
         let day = day.unwrap();
         let (want, _) = quick_by_sorting(&day);
+        assert!(day.legal_total(&want).is_some(), "no stretch is short, and the quick plan is not legal: {rows:?}");
         assert_eq!(got, answer(0, day.total(&want), 0));
         holds.expect(0, &want);
         self.reach_sizes("quick plan", &day, got.first);
@@ -179,7 +189,7 @@ impl Run {
 
     pub fn growth(&mut self, rows: &Rows, terms: growth::Terms) {
         let mut holds = Lent::new(&self.seed, terms.holds);
-        let got = reading(rows, &[], || growth_plan(&rows.capacities, &rows.flights, terms.growth, holds.row()));
+        let got = reading(rows, &[], || growth_plan(&rows.capacities, &rows.flights, rows.closing, terms.growth, holds.row()));
         let refusals = terms.refusals(rows);
         if let Some(&(_, refusal)) = refusals.first() {
             assert_eq!(got, refusal, "{refusals:?} {rows:?} {terms:?}");
@@ -194,7 +204,7 @@ impl Run {
         self.growth_is_cheapest(&day, terms.growth, &plan);
         if terms.growth == 0 {
             let mut quick = Lent::new(&self.seed, terms.holds);
-            let total = quick_plan(&rows.capacities, &rows.flights, quick.row()).first;
+            let total = quick_plan(&rows.capacities, &rows.flights, rows.closing, quick.row()).first;
             assert_eq!(total * 1_000_000, got.first, "growth 0 is the quick plan");
             quick.expect(0, &plan.holds);
         }
@@ -217,7 +227,7 @@ impl Run {
     }
 
     pub fn card(&mut self, rows: &Rows, period: u32) {
-        let got = reading(rows, &[], || period_card(&rows.capacities, &rows.flights, period));
+        let got = reading(rows, &[], || period_card(&rows.capacities, &rows.flights, rows.closing, period));
         let day = rows.day();
         let refusals = day.as_ref().map_or(vec![answer(6, 0, 0)], |day| {
             let jump = day.first_with_jump_or_limit().map(|place| answer(8, place as u64, 0));
@@ -227,7 +237,11 @@ impl Run {
         if let Some(r) = self.first("card", &refusals) {
             return assert_eq!(got, Card { number: r.number, first: r.first, second: r.second, low: 0, high: 0, size: 0 });
         }
-        let (_, eligible) = quick_by_sorting(&day.unwrap());
+        let day = day.unwrap();
+        let (holds, eligible) = quick_by_sorting(&day);
+        if day.curfew < Some(closing_landings(&day, &holds)) && day.curfew.is_some() {
+            self.reach("card of a day without a legal plan".into());
+        }
         let set = &eligible[period as usize - 1];
         let words = set.iter().fold(0u128, |w, &i| w | 1 << i);
         assert_eq!(got, Card { number: 0, first: 0, second: 0, low: words as u64, high: (words >> 64) as u64, size: set.len() as u64 });
@@ -238,15 +252,16 @@ impl Run {
     pub fn full(&mut self, rows: &Rows, hold_length: usize, price_length: usize) -> Option<(Vec<u32>, Vec<u32>)> {
         let mut holds = Lent::new(&self.seed, hold_length);
         let mut prices = Lent::new(&self.seed, price_length);
-        let got = reading(rows, &[], || full_plan(&rows.capacities, &rows.flights, holds.row(), prices.row()));
+        let got = reading(rows, &[], || full_plan(&rows.capacities, &rows.flights, rows.closing, holds.row(), prices.row()));
         let day = rows.day();
         let refusals = day.as_ref().map_or(vec![answer(6, 0, 0)], |day| {
-            let (n, p) = (day.flights.len(), day.capacities.len());
-            let lengths = [unless(hold_length == n, answer(7, n as u64, 0)), unless(price_length == p, answer(7, p as u64, 0))];
-            lengths.into_iter().flatten().chain(short_stretch(day).map(|(first, last)| answer(9, first, last))).collect()
+            let (n, priced) = (day.flights.len(), day.priced());
+            let lengths = [unless(hold_length == n, answer(7, n as u64, 0)), unless(price_length == priced, answer(7, priced as u64, 0))];
+            lengths.into_iter().flatten().chain(no_plan(day)).collect()
         });
         if let Some(refusal) = self.first("full plan", &refusals) {
-            assert_eq!(got, refusal);
+            assert_eq!(got, refusal, "{rows:?}");
+            self.reach_no_plan(day.as_ref(), refusal, price_length);
             holds.expect_kept();
             prices.expect_kept();
             return None;
@@ -260,6 +275,11 @@ impl Run {
         assert!(accepts(&day, &hold_row, &price_row), "{rows:?} {price_row:?}");
         let savings: Vec<u64> = price_row.iter().map(|&price| price as u64).collect();
         assert_eq!(Some(&savings), savings_by_moves(&day).as_ref(), "{rows:?}");
+        if day.curfew.is_some() && (day.periods() <= 4 || self.seed.one_in(16)) {
+            let unlimited = Day { curfew: None, ..day.clone() };
+            assert_eq!(least_by_moves(&unlimited), Some(got.first), "a curfew that leaves a plan leaves the total: {rows:?}");
+            assert_eq!(savings_by_moves(&unlimited).unwrap(), savings[..savings.len() - 1], "and the prices: {rows:?}");
+        }
         if day.periods() <= 4 || self.seed.one_in(16) {
             assert_eq!(Some(&savings), savings_by_planning(&day, least_by_moves).as_ref(), "{rows:?}");
             self.reach(format!("full plan, every changed day planned, of {} periods", if day.periods() == 96 { "96" } else { "fewer" }));
@@ -267,15 +287,17 @@ impl Run {
         self.reach_sizes("full plan", &day, got.first);
         self.reach_delays(&day, &hold_row);
         self.reach_prices(&day, &hold_row, &price_row);
+        self.reach_curfew("full plan", &day, &hold_row);
         Some((hold_row, price_row))
     }
 
     pub fn price_check(&mut self, rows: &Rows, holds: &[u32], prices: &[u32]) {
         let day = rows.day();
         let want = day.as_ref().is_some_and(|day| accepts(day, holds, prices));
-        let got = reading(rows, &[holds, prices], || price_check(&rows.capacities, &rows.flights, holds, prices));
+        let got = reading(rows, &[holds, prices], || price_check(&rows.capacities, &rows.flights, rows.closing, holds, prices));
         assert_eq!(got, want, "{rows:?} {holds:?} {prices:?}");
-        let wrong = day.map(|d| [holds.len() != d.flights.len(), prices.len() != d.capacities.len()]);
+        self.reach_closing_price(day.as_ref(), holds, prices, want);
+        let wrong = day.map(|d| [holds.len() != d.flights.len(), prices.len() != d.priced()]);
         self.reach(match wrong {
             None => "price check of a bad day".into(),
             Some([false, false]) if prices.iter().any(|&price| price > 1 << 31) => format!("price check {want}, a price above 2^31"),
@@ -287,13 +309,18 @@ impl Run {
     pub fn choice(&mut self, rows: &Rows, first: &[u32], second: &[u32]) {
         let cost = |holds: &[u32]| rows.day().and_then(|day| day.legal_total(holds));
         let (one, other) = (cost(first), cost(second));
+        if let Some(day) = rows.day() {
+            for (which, holds) in [("first", first), ("second", second)] {
+                self.reach_over_curfew(&format!("choice, the {which}"), &day, holds);
+            }
+        }
         let want = match (one, other) {
             (Some(a), Some(b)) if b < a => 2,
             (None, Some(_)) => 2,
             (None, None) => 0,
             _ => 1,
         };
-        let got = reading(rows, &[first, second], || choice(&rows.capacities, &rows.flights, first, second));
+        let got = reading(rows, &[first, second], || choice(&rows.capacities, &rows.flights, rows.closing, first, second));
         assert_eq!(got, want, "{rows:?} {first:?} {second:?}");
         self.reach(match (one, other) {
             (Some(a), Some(b)) => format!("choice, the first's cost {:?}", a.cmp(&b)),
@@ -303,11 +330,12 @@ impl Run {
 
     pub fn board(&mut self, rows: &Rows, holds: &[u32], length: usize) {
         let mut places = Lent::new(&self.seed, length);
-        let got = reading(rows, &[holds], || board(&rows.capacities, &rows.flights, holds, places.row()));
+        let got = reading(rows, &[holds], || board(&rows.capacities, &rows.flights, rows.closing, holds, places.row()));
         let day = rows.day();
         let refusals = day.as_ref().map_or(vec![answer(6, 0, 0)], |day| not_a_plan(day, holds, Some(length)).err().unwrap_or_default());
         if let Some(refusal) = self.first("board", &refusals) {
             assert_eq!(got, refusal);
+            day.iter().for_each(|day| self.reach_over_curfew("board", day, holds));
             return places.expect_kept();
         }
         assert_eq!(got, answer(0, 0, 0));
@@ -316,12 +344,13 @@ impl Run {
         let mut want: Vec<u32> = (0..holds.len() as u32).collect();
         want.sort_by_key(stands);
         places.expect(0, &want);
+        self.reach_curfew("board", &day, holds);
         self.reach_board(&day, &want.iter().map(stands).collect::<Vec<_>>());
     }
 
     pub fn forecast(&mut self, rows: &Rows, terms: &Terms) {
         let mut holds = Lent::new(&self.seed, terms.holds);
-        let got = reading(rows, &[&terms.weights, &terms.forecasts], || forecast_plan(&rows.capacities, &rows.flights, terms.count, terms.air_factor, &terms.weights, &terms.forecasts, holds.row()));
+        let got = reading(rows, &[&terms.weights, &terms.forecasts], || forecast_plan(&rows.capacities, &rows.flights, rows.closing, terms.count, terms.air_factor, &terms.weights, &terms.forecasts, holds.row()));
         let refusals = terms.refusals(rows);
         if let Some(&(_, refusal)) = refusals.first() {
             assert_eq!(got, refusal, "{refusals:?} {rows:?} {terms:?}");
@@ -345,7 +374,7 @@ impl Run {
     pub fn read_plan(&mut self, rows: &Rows, text: &[u8], length: usize, all: Option<&AllTexts>) {
         let mut holds = Lent::new(&self.seed, length);
         let before = text.to_vec();
-        let got = reading(rows, &[], || read_plan(&rows.capacities, &rows.flights, text, holds.row()));
+        let got = reading(rows, &[], || read_plan(&rows.capacities, &rows.flights, rows.closing, text, holds.row()));
         assert!(before == std::hint::black_box(text), "the text was changed");
         let day = rows.day();
         let plan = day.as_ref().map(|day| read_back::read_by_walking(day, text));
@@ -410,7 +439,9 @@ impl Run {
 
     /// Prices of full periods, open and closed; at one place, whether the check would say yes to a higher one too.
     fn reach_prices(&mut self, day: &Day, holds: &[u32], prices: &[u32]) {
-        let kind = |at: usize| match day.capacities[at] {
+        let places = day.places();
+        let kind = |at: usize| match places[at] {
+            _ if at == day.capacities.len() => "after the last",
             0 => "closed",
             c if c == day.landings(holds, at as u32 + 1) => "full",
             255 => "one of capacity 255",
@@ -441,6 +472,11 @@ impl Run {
             self.reach(format!("{call} of 250,880,000"));
         }
     }
+}
+
+/// Refusal 9, if a stretch is short.
+fn no_plan(day: &Day) -> Option<Answer> {
+    short_stretch(day).map(|(first, last)| answer(9, first, last))
 }
 
 /// Refusals 7 for the hold row, 7 for the board's row if there is one, and 10.

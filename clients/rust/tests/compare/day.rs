@@ -1,10 +1,13 @@
-//! The day of document 01 as #102 has it, apart from the core: what it is, what it costs, its two texts, and its reader.
+//! The day of document 01 as #102 and #108 have it, apart from the core: what it is, what it costs, its two texts, and its reader.
 
 /// The most periods and flights of a day, the numbers of a flight, and the entries of the flight row that the reader is lent.
 pub const PERIODS: usize = 96;
 pub const FLIGHTS: usize = 128;
 pub const WIDTH: usize = 7;
 pub const FLIGHT_ROW: usize = FLIGHTS * WIDTH;
+
+/// The closing number of a day in memory that has no curfew.
+pub const UNLIMITED: u32 = 256;
 
 #[derive(Clone, Debug, PartialEq)]
 pub struct Flight {
@@ -17,17 +20,20 @@ pub struct Flight {
     pub late: u32,
 }
 
+/// A day; without a curfew the closing period takes any number.
 #[derive(Clone, Debug, PartialEq)]
 pub struct Day {
     pub capacities: Vec<u32>,
     pub flights: Vec<Flight>,
+    pub curfew: Option<u32>,
 }
 
-/// The two rows that are lent for a day. They may be of any content and length.
+/// The two rows that are lent for a day, and the closing number behind them. They may be of any content and length.
 #[derive(Clone, Debug, PartialEq)]
 pub struct Rows {
     pub capacities: Vec<u32>,
     pub flights: Vec<u32>,
+    pub closing: u32,
 }
 
 impl Flight {
@@ -57,7 +63,7 @@ impl Rows {
     /// The day, if every length and value is as the table says and no number is repeated; else refusal 6.
     pub fn day(&self) -> Option<Day> {
         let sizes = (1..=PERIODS).contains(&self.capacities.len()) && self.flights.len() % WIDTH == 0 && self.flights.len() <= FLIGHT_ROW;
-        if !sizes || self.capacities.iter().any(|&c| c > 255) {
+        if !sizes || self.capacities.iter().any(|&c| c > 255) || self.closing > UNLIMITED {
             return None;
         }
         let limit = |l: u32| if l == 255 { None } else { Some(l) };
@@ -65,7 +71,7 @@ impl Rows {
         let flights: Vec<Flight> = self.flights.chunks(WIDTH).map(flight).collect();
         let numbers: std::collections::HashSet<u32> = flights.iter().map(|f| f.number).collect();
         let good = flights.iter().all(|f| f.in_range(self.capacities.len() as u32)) && numbers.len() == flights.len();
-        good.then(|| Day { capacities: self.capacities.clone(), flights })
+        good.then(|| Day { capacities: self.capacities.clone(), flights, curfew: Some(self.closing).filter(|&c| c < UNLIMITED) })
     }
 }
 
@@ -75,13 +81,22 @@ impl Day {
     }
     pub fn rows(&self) -> Rows {
         let flights = self.flights.iter().flat_map(|f| [f.number, f.due, f.rate, f.after, f.jump, f.limit.unwrap_or(255), f.late]).collect();
-        Rows { capacities: self.capacities.clone(), flights }
+        Rows { capacities: self.capacities.clone(), flights, closing: self.curfew.unwrap_or(UNLIMITED) }
+    }
+    /// How many flights each period takes, the closing period last.
+    pub fn places(&self) -> Vec<u32> {
+        [&self.capacities[..], &[self.curfew.unwrap_or(u32::MAX)]].concat()
+    }
+    /// The periods that have a price: under a curfew the closing period too.
+    pub fn priced(&self) -> usize {
+        self.capacities.len() + usize::from(self.curfew.is_some())
     }
     pub fn sheet(&self) -> String {
         let mut text = String::from("period,capacity\n");
         for (j, c) in self.capacities.iter().enumerate() {
             text += &format!("{},{}\n", j + 1, c);
         }
+        text += &self.curfew.map_or(String::new(), |c| format!("closing,{c}\n"));
         text += &format!("{}\n", NAMES[1]);
         for f in &self.flights {
             let limit = f.limit.map_or("-".to_string(), |l| l.to_string());
@@ -102,10 +117,10 @@ impl Day {
     pub fn landings(&self, holds: &[u32], period: u32) -> u32 {
         self.flights.iter().zip(holds).filter(|(f, &h)| f.due as u64 + h as u64 == period as u64).count() as u32
     }
-    /// The first flight whose hold is too long, or whose period is over capacity with the flights before it.
+    /// The first flight whose hold is too long, or whose period, the closing period among them, is over capacity with the flights
+    /// before it.
     pub fn break_at(&self, holds: &[u32]) -> Option<usize> {
-        let mut room: Vec<u32> = self.capacities.clone();
-        room.push(u32::MAX);
+        let mut room = self.places();
         self.flights.iter().zip(holds).position(|(f, &h)| {
             let lands = f.due as u64 + h as u64;
             if lands > f.last(self.periods()) as u64 || room[lands as usize - 1] == 0 {
@@ -148,13 +163,20 @@ fn period_of(line: &str) -> Option<(u32, u32)> {
     Some((digits(period)?, digits(capacity)?))
 }
 
-/// The lines with their offsets. A line without its end byte, or that is no text, is none.
-fn lines_of(bytes: &[u8]) -> Vec<(u64, Option<&str>)> {
+fn closing_of(line: &str) -> Option<u32> {
+    digits(line.strip_prefix(CLOSING)?)
+}
+
+/// What a closing line begins with.
+pub const CLOSING: &str = "closing,";
+
+/// The lines with their offsets and bytes. A line without its end byte, or that is no text, is none.
+fn lines_of(bytes: &[u8]) -> Vec<(u64, &[u8], Option<&str>)> {
     let mut at = 0;
     let pieces = bytes.split_inclusive(|&b| b == 10).map(|piece| {
         at += piece.len();
         let line = piece.strip_suffix(b"\n").and_then(|l| std::str::from_utf8(l).ok());
-        ((at - piece.len()) as u64, line)
+        ((at - piece.len()) as u64, piece, line)
     });
     pieces.collect()
 }
@@ -165,13 +187,23 @@ pub fn plain_read(bytes: &[u8]) -> Result<Day, (u64, u64)> {
         return Err((1, 8192));
     }
     let mut lines = lines_of(bytes).into_iter();
-    if lines.next().and_then(|(_, line)| line) != Some(NAMES[0]) {
+    if lines.next().and_then(|(_, _, line)| line) != Some(NAMES[0]) {
         return Err((2, 0));
     }
-    let mut day = Day { capacities: vec![], flights: vec![] };
+    let mut day = Day { capacities: vec![], flights: vec![], curfew: None };
     loop {
-        let (offset, line) = lines.next().ok_or((2, bytes.len() as u64))?;
+        let (offset, piece, line) = lines.next().ok_or((2, bytes.len() as u64))?;
         match (line == Some(NAMES[1]), day.capacities.len()) {
+            (false, _) if day.curfew.is_some() => return Err((2, offset)),
+            (false, periods) if piece.starts_with(CLOSING.as_bytes()) => {
+                if periods == 0 {
+                    return Err((5, offset));
+                }
+                match line.and_then(closing_of).ok_or((2, offset))? {
+                    closing @ 0..=255 => day.curfew = Some(closing),
+                    _ => return Err((3, offset)),
+                }
+            }
             (true, 0) | (false, PERIODS) => return Err((5, offset)),
             (true, _) => break,
             (false, before) => match line.and_then(period_of).ok_or((2, offset))? {
@@ -180,7 +212,7 @@ pub fn plain_read(bytes: &[u8]) -> Result<Day, (u64, u64)> {
             },
         }
     }
-    for (offset, line) in lines {
+    for (offset, _, line) in lines {
         if day.flights.len() == FLIGHTS {
             return Err((5, offset));
         }

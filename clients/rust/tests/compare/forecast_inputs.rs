@@ -15,8 +15,10 @@ pub fn random_day(seed: &Seed, most_periods: u64, most_flights: u64) -> Day {
     without_jumps(inputs::random_day(seed, most_periods, most_flights))
 }
 
+/// A curfew is refused as a jump is.
 pub fn without_jumps(mut day: Day) -> Day {
     day.flights.iter_mut().for_each(|f| f.jump = 0);
+    day.curfew = None;
     day
 }
 
@@ -78,7 +80,8 @@ fn fitting(seed: &Seed, rows: &Rows, count: u32, air_factor: u32) -> Terms {
 /// One thing put wrong, at any place: one of the reasons but for the day.
 pub fn spoil(seed: &Seed, rows: &mut Rows, terms: &mut Terms) {
     let flights = rows.flights.len() / WIDTH;
-    match seed.below(8) {
+    match seed.below(9) {
+        8 => rows.closing = seed.pick(&[0, 0, 1, flights as u32 % 256, 128, 255, 255, seed.edged(0, 255)]),
         0 if flights > 0 => rows.flights[seed.place(flights) * WIDTH + 4] = seed.pick(&[seed.edged(1, 1_000_000), 1 << seed.below(20)]),
         0 | 1 => terms.air_factor = out_of(seed, 10, terms.air_factor),
         2 => spoil_count(seed, rows, terms),

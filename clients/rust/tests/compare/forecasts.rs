@@ -1,6 +1,6 @@
 //! The forecast plan of document 02, #104, apart from the core: what it is lent, why it is refused, its holds by two simulations
 //! of the day, and what a call has met of all that can happen.
-use crate::day::{Day, Flight, Rows, WIDTH};
+use crate::day::{Day, Flight, Rows, UNLIMITED, WIDTH};
 use crate::reasons::{applying, off, which, Reason};
 use hold_desk_client::Answer;
 use std::collections::{BTreeSet, VecDeque};
@@ -16,8 +16,11 @@ pub struct Terms {
 }
 
 /// Why a call is refused, and its answer's number: in the order of the tests, the reasons of 13 and those of 12 together.
-pub const REASONS: [Reason; 9] =
-    [("day", 6), ("jump", 13), ("air factor", 13), ("count", 13), ("hold row", 7), ("weight row", 7), ("forecast row", 7), ("weights", 12), ("capacity", 12)];
+#[rustfmt::skip]
+pub const REASONS: [Reason; 10] = [
+    ("day", 6), ("jump", 13), ("curfew", 13), ("air factor", 13), ("count", 13), ("hold row", 7), ("weight row", 7), ("forecast row", 7),
+    ("weights", 12), ("capacity", 12),
+];
 
 impl Terms {
     /// The reasons that apply, each with its answer. Where the rows are no day, those that can be told from the rows alone.
@@ -26,6 +29,7 @@ impl Terms {
         let good = [
             rows.day().is_some(),
             rows.flights.iter().skip(4).step_by(WIDTH).all(|&jump| jump == 0),
+            rows.closing >= UNLIMITED,
             (1..=10).contains(&self.air_factor),
             (1..=8).contains(&self.count),
             self.holds == n,
@@ -34,7 +38,7 @@ impl Terms {
             self.sum() == 1_000,
             self.forecasts.iter().all(|&capacity| capacity <= 255),
         ];
-        applying(&REASONS, &good, &[0, 0, 0, 0, n as u64, count, count * p, 0, 0])
+        applying(&REASONS, &good, &[0, 0, 0, 0, 0, n as u64, count, count * p, 0, 0].map(|first| (first, 0)))
     }
     pub fn sum(&self) -> u64 {
         self.weights.iter().map(|&weight| weight as u64).sum()
@@ -119,6 +123,7 @@ pub fn met_in_refusal(rows: &Rows, terms: &Terms, why: &str) -> String {
     let (n, p, count) = (rows.flights.len() / WIDTH, rows.capacities.len(), terms.count as usize);
     match why {
         "jump" => format!("a jump of {}", which(&rows.flights.chunks(WIDTH).map(|f| f[4] > 0).collect::<Vec<_>>())),
+        "curfew" => format!("a curfew {}", kept_to(rows.closing, n)),
         "air factor" => format!("an air factor of {}", past(terms.air_factor as u64, 11)),
         "count" => format!("a count of {}", past(terms.count as u64, 9)),
         "hold row" => format!("a hold row {}", off(terms.holds, n)),
@@ -129,6 +134,16 @@ pub fn met_in_refusal(rows: &Rows, terms: &Terms, why: &str) -> String {
         "weights" => format!("weights of {}", summing(terms)),
         "capacity" => format!("a forecast capacity {}", too_high(terms, p)),
         _ => "no day".into(),
+    }
+}
+
+/// How many may land after the last period, beside the number of flights.
+fn kept_to(closing: u32, flights: usize) -> &'static str {
+    match closing {
+        0 => "of 0",
+        255 => "of 255",
+        _ if (closing as usize) < flights => "of less than all flights",
+        _ => "that every flight may pass",
     }
 }
 

@@ -1,6 +1,7 @@
 //! The growing plan of document 02, #105, apart from the core: why it is refused, what a hold costs, its holds by two simulations
 //! of the day, and what a call has met of all that can happen.
-use crate::day::{Day, Flight, Rows, WIDTH};
+use crate::day::{Day, Flight, Rows, UNLIMITED, WIDTH};
+use crate::planners::{closing_landings, short_stretch};
 use crate::reasons::{applying, off, which, Reason};
 use hold_desk_client::Answer;
 use std::cmp::Reverse;
@@ -18,16 +19,23 @@ pub struct Terms {
 }
 
 /// Why a call is refused, and its answer's number: in the order of the tests, the reasons of 14 together.
-pub const REASONS: [Reason; 5] = [("day", 6), ("hold row", 7), ("jump or limit", 8), ("growth", 14), ("periods", 14)];
+pub const REASONS: [Reason; 6] = [("day", 6), ("hold row", 7), ("jump or limit", 8), ("growth", 14), ("periods", 14), ("curfew", 9)];
 
 impl Terms {
     /// The reasons that apply, each with its answer. Where the rows are no day, those that can be told from the rows alone.
     pub fn refusals(&self, rows: &Rows) -> Vec<(&'static str, Answer)> {
         let n = rows.flights.len() / WIDTH;
         let barred = having(rows, |f| f[4] > 0 || f[5] != 255).iter().position(|&has| has);
-        let good = [rows.day().is_some(), self.holds == n, barred.is_none(), self.growth <= MOST, rows.capacities.len() <= PERIODS];
-        applying(&REASONS, &good, &[0, n as u64, barred.unwrap_or(0) as u64, 0, 0])
+        let short = rows.day().map_or_else(|| too_few(rows).then_some((0, 0)), |day| short_stretch(&day));
+        let good = [rows.day().is_some(), self.holds == n, barred.is_none(), self.growth <= MOST, rows.capacities.len() <= PERIODS, short.is_none()];
+        applying(&REASONS, &good, &[(0, 0), (n as u64, 0), (barred.unwrap_or(0) as u64, 0), (0, 0), (0, 0), short.unwrap_or((0, 0))])
     }
+}
+
+/// Whether there are more flights than places, the closing period's among them.
+fn too_few(rows: &Rows) -> bool {
+    let places: u64 = rows.capacities.iter().chain([&rows.closing]).map(|&places| places as u64).sum();
+    rows.closing < UNLIMITED && places < (rows.flights.len() / WIDTH) as u64
 }
 
 fn having(rows: &Rows, what: impl Fn(&[u32]) -> bool) -> Vec<bool> {
@@ -82,7 +90,7 @@ pub fn plan_by_paying(day: &Day, growth: u32) -> Plan {
 /// The same holds without periods: what waiting costs grows alike for all, so that one order, that of the costs in the closing
 /// period, is the order of every period; and each in turn takes a place of the first period that still has one.
 pub fn holds_by_places(day: &Day, growth: u32) -> Vec<u32> {
-    let mut room = [&day.capacities[..], &[u32::MAX]].concat();
+    let mut room = day.places();
     let periods = |f: &Flight| day.periods() + 1 - f.due;
     let at_close = |f: &Flight| f.rate as u128 * (10 + growth as u128).pow(periods(f)) * 10u128.pow(f.due);
     let mut turns: Vec<usize> = (0..day.flights.len()).collect();
@@ -106,6 +114,7 @@ pub fn met_in_refusal(rows: &Rows, terms: Terms, why: &str) -> String {
         "hold row" => format!("a hold row {}", off(terms.holds, rows.flights.len() / WIDTH)),
         "jump or limit" => barring(rows),
         "growth" => format!("a growth {}", too_great(terms.growth)),
+        "curfew" => curfew_passed(rows, terms.growth),
         "periods" if rows.flights.is_empty() => "too many periods, and no flight".into(),
         "periods" if terms.growth == 0 => "too many periods, and growth 0".into(),
         "periods" => if [7, 8, 96].contains(&p) { format!("{p} periods") } else { "more than 8 periods".into() },
@@ -120,6 +129,14 @@ fn barring(rows: &Rows) -> String {
         (false, true) => format!("a limit of {}", which(&limits)),
         _ => "jumps and limits".into(),
     }
+}
+
+/// By how many more than the closing number are left.
+fn curfew_passed(rows: &Rows, growth: u32) -> String {
+    let day = rows.day().unwrap();
+    let left = closing_landings(&day, &plan_by_paying(&day, growth).holds);
+    let passed = left - day.curfew.unwrap();
+    format!("{} more left than {}", if passed == 1 { "one" } else { "several" }, if rows.closing == 0 { "nobody" } else { "the closing number" })
 }
 
 fn too_great(growth: u32) -> &'static str {
@@ -167,7 +184,13 @@ pub fn met(day: &Day, growth: u32, plan: &Plan) -> BTreeSet<String> {
     let each: Vec<String> = FOR_EACH.iter().filter(|what| met.contains(**what)).map(|what| format!("{what}, growth {growth}")).collect();
     met.extend(each);
     met.insert(format!("{} periods", day.periods()));
+    let (left, curfew) = (closing_landings(day, &plan.holds), day.curfew);
     let more = [
+        (curfew == Some(left) && left > 0, "as many left as the closing number"),
+        (curfew.is_some_and(|c| c > left) && left > 0, "fewer left than the closing number"),
+        (curfew == Some(0), "nobody left, and the closing number 0"),
+        (curfew == Some(255), "the closing number 255"),
+        (curfew.is_none() && left > 0, "some left, and no curfew"),
         (day.flights.is_empty(), "no flight"),
         (plan.total == 0 && day.flights.len() > 1, "nobody held"),
         (flights().any(|(f, &hold)| hold > 0 && f.late > 0 && f.after > 0), "held, with a late and an after"),

@@ -32,6 +32,7 @@ fn plain(mut day: Day) -> Day {
 pub fn heavy_day(seed: &Seed) -> Day {
     let mut day = plain(inputs::heavy_day(seed));
     day.capacities.truncate(PERIODS);
+    day.curfew = seed.pick(&[None, Some(128), Some(255)]);
     day.flights.iter_mut().for_each(|f| f.due = f.due.min(PERIODS as u32));
     day
 }
@@ -46,7 +47,7 @@ fn made_close(seed: &Seed, growth: u32, mut day: Day) -> Day {
         3 | 4 => come_near(seed, growth, &mut day),
         _ => (),
     }
-    day
+    inputs::with_some_curfew(seed, day)
 }
 
 /// Most flights due in one of two periods, and few places: hardly any up to a period in which both wait, and there often just as
@@ -122,7 +123,8 @@ fn come_near(seed: &Seed, growth: u32, day: &mut Day) {
 /// One thing put wrong, at any place: one of the reasons but for the day.
 pub fn spoil(seed: &Seed, rows: &mut Rows, terms: &mut Terms) {
     let flights = rows.flights.len() / WIDTH;
-    match seed.below(4) {
+    match seed.below(5) {
+        4 => rows.closing = closing_too_small(seed, rows),
         0 if flights > 0 => {
             let at = seed.place(flights) * WIDTH;
             match seed.below(2) {
@@ -139,6 +141,14 @@ pub fn spoil(seed: &Seed, rows: &mut Rows, terms: &mut Terms) {
 /// The first few past the most, one that only its low bits make look right, or any.
 fn too_great(seed: &Seed, right: u32) -> u32 {
     seed.pick(&[MOST + 1, MOST + 1, MOST + 2, right.wrapping_add(1 << seed.between(6, 31)), seed.from(MOST as u64 + 1), u32::MAX])
+}
+
+/// A closing number that not all flights can keep, if there is one: one less than need be, 0, or between.
+fn closing_too_small(seed: &Seed, rows: &Rows) -> u32 {
+    match rows.day().map(|day| inputs::left_at_end(&day)) {
+        Some(left @ 1..) => seed.pick(&[left - 1, left - 1, 0, seed.below(left as u64) as u32]),
+        _ => rows.closing,
+    }
 }
 
 /// As many periods as are too many, also such that 64 less would not be.

@@ -1,5 +1,5 @@
 //! Inputs from a seed: days, rows that are no day, lengths and places, hold and price rows, sheets.
-use crate::day::{Day, Flight, Rows, FLIGHTS, NAMES, OLD_NAMES, PERIODS, WIDTH};
+use crate::day::{Day, Flight, Rows, CLOSING, FLIGHTS, NAMES, OLD_NAMES, PERIODS, WIDTH};
 use crate::seed::Seed;
 use std::collections::BTreeSet;
 
@@ -96,13 +96,34 @@ pub fn day_of_size(seed: &Seed, periods: u64, count: u64) -> Day {
         let f = &mut flights[seed.place(count as usize)];
         (f.jump, f.limit) = seed.pick(&[(1, None), (1_000_000, None), (0, Some(0)), (0, Some(96)), (5, Some(95))]);
     }
-    Day { capacities: capacities(seed, periods, count), flights }
+    with_some_curfew(seed, Day { capacities: capacities(seed, periods, count), flights, curfew: None })
+}
+
+/// How many flights every plan leaves for the closing period at least: of those due from some period on all that find no place in the
+/// periods from there to the last.
+pub fn left_at_end(day: &Day) -> u32 {
+    let (mut left, mut over) = (0, 0);
+    for (at, &capacity) in day.capacities.iter().enumerate().rev() {
+        over += day.flights.iter().filter(|f| f.due as usize == at + 1).count() as i64 - capacity as i64;
+        left = left.max(over);
+    }
+    left as u32
+}
+
+/// A curfew for every second day: mostly the tightest that a plan may keep, or one off it; else 0, about the number of flights, or
+/// anything.
+pub fn with_some_curfew(seed: &Seed, mut day: Day) -> Day {
+    let (left, n) = (left_at_end(&day), day.flights.len() as u32);
+    let tight = seed.pick(&[left, left, left, left.max(1) - 1, left + 1]);
+    let around = seed.pick(&[0, 1, n.max(1) - 1, n, n + 1, 127, 128, 254, 255, seed.edged(0, 255)]);
+    day.curfew = [Some(tight), Some(tight), Some(around), None, None, None][seed.below(6) as usize];
+    day
 }
 
 /// A day whose plan costs as much as any can, 250,880,000, or a little less.
 pub fn heavy_day(seed: &Seed) -> Day {
     let dear = Style { due: (1, 1), rate: (10_000, 10_000), after: (0, 95), jump: (1_000_000, 1_000_000), limit: (96, 96), unlimited: 2, late: (0, 255) };
-    let mut day = Day { capacities: vec![0; PERIODS], flights: Vec::new() };
+    let mut day = Day { capacities: vec![0; PERIODS], flights: Vec::new(), curfew: None };
     for number in numbers(seed, FLIGHTS as u64) {
         day.flights.push(Flight { number, due: 1, rate: 10_000, after: seed.edged(0, 95), jump: 1_000_000, limit: seed.pick(&[None, Some(96)]), late: seed.edged(0, 255) });
     }
@@ -114,14 +135,14 @@ pub fn heavy_day(seed: &Seed) -> Day {
             _ => day.flights[at] = flight(seed, day.flights[at].number, 96, &dear),
         }
     }
-    day
+    with_some_curfew(seed, day)
 }
 
-/// A day whose sheet is about as long as one can be, 4,813 bytes.
+/// A day whose sheet is about as long as one can be, 4,825 bytes.
 pub fn wide_day(seed: &Seed) -> Day {
     let wide = Style { due: (10, 96), rate: (10_000, 10_000), after: (10, 96), jump: (1_000_000, 1_000_000), limit: (10, 96), unlimited: 1000, late: (100, 255) };
     let flights = (0..128).map(|i| flight(seed, 9_999 - i, 96, &wide)).collect();
-    Day { capacities: (0..PERIODS).map(|_| seed.edged(100, 255)).collect(), flights }
+    Day { capacities: (0..PERIODS).map(|_| seed.edged(100, 255)).collect(), flights, curfew: seed.pick(&[None, Some(seed.edged(100, 255))]) }
 }
 
 /// A day on which all periods but the last few are closed and flights are due early, so that limits near the day's length bind.
@@ -131,13 +152,21 @@ pub fn day_open_at_its_end(seed: &Seed) -> Day {
     let long = Style { due: (1, 2), rate: (1, 10_000), after: (90, 96), jump: (0, 1_000_000), limit: (periods - 3, 96), unlimited: 8, late: (0, 8) };
     let flights = numbers(seed, count).into_iter().map(|number| flight(seed, number, periods, &long)).collect();
     let open = periods - seed.between(1, 4);
-    Day { capacities: (0..periods).map(|k| if k < open { 0 } else { seed.edged(0, count) }).collect(), flights }
+    with_some_curfew(seed, Day { capacities: (0..periods).map(|k| if k < open { 0 } else { seed.edged(0, count) }).collect(), flights, curfew: None })
 }
 
 // ---- rows that are no day
 
+/// A closing number out of range: the first few, one that only its low bits make look right, or any.
+pub fn too_great_closing(seed: &Seed, right: u32) -> u32 {
+    seed.pick(&[257, 257, 258, (right % 257).max(1) + (1 << seed.between(8, 31)), seed.from(257), u32::MAX])
+}
+
 /// One thing put wrong, at any place: a length, a repeated number, or one field out of its range.
 pub fn spoil(seed: &Seed, rows: &mut Rows) {
+    if seed.one_in(10) {
+        return rows.closing = too_great_closing(seed, rows.closing);
+    }
     if rows.flights.is_empty() && seed.one_in(2) {
         return rows.capacities.clear();
     }
@@ -219,7 +248,7 @@ pub fn period(seed: &Seed, periods: u32) -> u32 {
 
 /// Each flight to some period that its limit and the flights before it leave, if there is one.
 fn some_plan(seed: &Seed, day: &Day) -> Vec<u32> {
-    let mut room = [&day.capacities[..], &[u32::MAX]].concat();
+    let mut room = day.places();
     let mut land = |f: &Flight| {
         let free: Vec<u32> = (f.due..=f.last(day.periods())).filter(|&k| room[k as usize - 1] > 0).collect();
         let lands = if free.is_empty() { f.due } else { seed.pick(&free) };
@@ -243,7 +272,7 @@ pub fn past_limits(day: &Day) -> Vec<u32> {
 /// No price but on closed periods, which have any price, so that nobody would land there.
 pub fn closed_prices(seed: &Seed, day: &Day) -> Vec<u32> {
     let high = seed.pick(&[u32::MAX, 1 << 31, 250_880_000]);
-    day.capacities.iter().map(|&c| if c == 0 { high } else { 0 }).collect()
+    day.places()[..day.priced()].iter().map(|&c| if c == 0 { high } else { 0 }).collect()
 }
 
 /// A hold row for a good day: the plan, another one, one with a few holds changed, or none at all; mostly of the day's length.
@@ -290,18 +319,29 @@ pub fn resized(seed: &Seed, mut row: Vec<u32>) -> Vec<u32> {
     row
 }
 
-/// A price row for a good day: the plan's, one with a few prices changed, all raised by as much, or closed periods at any price.
-pub fn price_row(seed: &Seed, day: &Day, prices: &[u32]) -> Vec<u32> {
+/// A price row for a good day: the plan's, one with a few prices changed, all raised by as much, or closed periods at any price. Under a
+/// curfew also one with another closing price, or with the prices of the full periods at the day's end raised by as much, the closing
+/// price among them: that gets a yes, since flights that land in these periods are due in them.
+pub fn price_row(seed: &Seed, day: &Day, holds: &[u32], prices: &[u32]) -> Vec<u32> {
     let mut row = prices.to_vec();
-    match seed.below(7) {
+    match seed.below(if day.curfew.is_some() { 10 } else { 7 }) {
         0 | 1 => (),
+        7 => *row.last_mut().unwrap() = seed.pick(&[1, 1, 2, u32::MAX, seed.edged(0, 250_880_000)]),
+        8 | 9 => {
+            let places = day.places();
+            let has_room = |&at: &usize| day.landings(holds, at as u32 + 1) < places[at];
+            let full_from = (0..row.len()).rev().find(has_room).map_or(0, |at| at + 1);
+            let from = if seed.one_in(8) { seed.place(row.len()) } else { full_from };
+            let rise = seed.pick(&[1, 1, u32::MAX - row.iter().max().unwrap(), seed.edged(1, 250_880_000)]);
+            row[from..].iter_mut().for_each(|price| *price += rise);
+        }
         2 => {
             let rise = seed.pick(&[1, u32::MAX - row.iter().max().unwrap()]);
             row.iter_mut().for_each(|price| *price += rise);
         }
         3 => {
             let high = seed.pick(&[u32::MAX, 1 << 31, 0, seed.from(0)]);
-            row.iter_mut().zip(&day.capacities).filter(|(_, &c)| c == 0).for_each(|(price, _)| *price = high);
+            row.iter_mut().zip(day.places()).filter(|&(_, c)| c == 0).for_each(|(price, _)| *price = high);
         }
         _ => {
             for _ in 0..seed.between(1, 3) {
@@ -364,13 +404,34 @@ fn with_odd_field(seed: &Seed, line: &[u8]) -> Vec<u8> {
     [&fields.join(&b","[..]), &b"\n"[..]].concat()
 }
 
+/// Lines that are taken for a closing line and refused, each with its number.
+pub fn closing_lines(seed: &Seed) -> Vec<(String, u64)> {
+    let line = |field: &str| format!("{CLOSING}{field}\n");
+    let odd = ["", "-", "00", "01", "007", "+1", "-1", " 1", "1 ", "1\r", "1,", "1,1", "x", "1x", "10000000", "00000001", "99999999", "\u{661}", "\"1\"", "1.0", "closing"];
+    let great = ["256", "257", "511", "512", "999", "1000", "65536", "65537", "9999999", "1048576"];
+    let any = seed.between(256, 9_999_999).to_string();
+    odd.iter().map(|field| (line(field), 2)).chain(great.iter().chain([&any.as_str()]).map(|field| (line(field), 3))).collect()
+}
+
+/// A closing line, mostly one that can be read.
+fn closing_line(seed: &Seed) -> Vec<u8> {
+    let own = format!("{CLOSING}{}\n", seed.edged(0, 255)).into_bytes();
+    match seed.below(4) {
+        0 => seed.pick(&[&b"closing\n"[..], b"closing,", b"closing,1", b"closing,\xff\n", b"closing,\0\n", b"closing,1\0\n", b"clos"]).to_vec(),
+        1 => with_odd_field(seed, &own),
+        _ => own,
+    }
+}
+
 /// A line twice, the second as it is or with an odd field; one left out, two exchanged, no period lines, one more after the last
-/// period, one more at the end.
+/// period, one more at the end, a closing line put in or in a line's place.
 fn odd_lines(seed: &Seed, bytes: &[u8]) -> Vec<u8> {
     let mut lines = lines(bytes);
     let pick = some_line(seed, &lines);
     let second = second_names(&lines);
-    match seed.below(8) {
+    match seed.below(10) {
+        8 => lines.insert(seed.pick(&[1, second, second, pick]).min(lines.len()), closing_line(seed)),
+        9 => lines[pick] = closing_line(seed),
         0 => {
             let copy = if seed.one_in(2) { lines[pick].clone() } else { with_odd_field(seed, &lines[pick]) };
             lines.insert(seed.between(pick as u64 + 1, lines.len() as u64) as usize, copy);

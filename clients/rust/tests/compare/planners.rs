@@ -22,14 +22,15 @@ pub fn least_by_trial_with(day: &Day, cost: impl Fn(&Flight, u32) -> u64) -> Opt
         }
         least
     }
-    rest(day, &cost, 0, &mut [&day.capacities[..], &[u32::MAX]].concat())
+    rest(day, &cost, 0, &mut day.places())
 }
 
 /// A cheapest plan, the landing periods, by putting in one flight after the other, each along the cheapest chain of moves. The
 /// chains are found by going over all moves until nothing gets cheaper; no prices, and no order of flights or periods.
 fn plan_by_moves(day: &Day, cost: &impl Fn(&Flight, u32) -> u64) -> Option<Vec<u32>> {
     let p = day.periods();
-    let room = |k: u32| if k <= p { day.capacities[k as usize - 1] } else { u32::MAX };
+    let places = day.places();
+    let room = |k: u32| places[k as usize - 1];
     let cost = |i: usize, k: u32| cost(&day.flights[i], k - day.flights[i].due) as i64;
     let mut lands: Vec<u32> = Vec::new();
     for (new, f) in day.flights.iter().enumerate() {
@@ -80,18 +81,22 @@ pub fn least_by_moves_with(day: &Day, cost: impl Fn(&Flight, u32) -> u64) -> Opt
     Some(day.flights.iter().zip(lands).map(|(f, k)| cost(f, k - f.due)).sum())
 }
 
-/// What one more landing in each period would save, by planning each of the changed days from nothing. A day that has a plan has
-/// one with more capacity too; a capacity of 256 is a number like any other here.
+/// What one more landing in each period would save, under a curfew in the closing period too, by planning each of the changed days
+/// from nothing. A day that has a plan has one with more capacity too; a capacity or a curfew of 256 is a number like any other here.
 pub fn savings_by_planning(day: &Day, least: fn(&Day) -> Option<u64>) -> Option<Vec<u64>> {
     let total = least(day)?;
     let mut changed = day.clone();
     let mut saving = |at: usize| {
-        changed.capacities[at] += 1;
+        let Day { capacities, curfew, .. } = &mut changed;
+        match capacities.get_mut(at) {
+            Some(capacity) => *capacity += 1,
+            None => *curfew = curfew.map(|c| c + 1),
+        }
         let less = least(&changed)?;
-        changed.capacities[at] -= 1;
+        changed.clone_from(day);
         Some(total - less)
     };
-    (0..day.capacities.len()).map(|at| saving(at)).collect()
+    (0..day.priced()).map(|at| saving(at)).collect()
 }
 
 /// The same from a cheapest plan of the day as it is: a flight moves to the period, another into the place that it left, and so on,
@@ -112,17 +117,21 @@ pub fn savings_by_moves(day: &Day) -> Option<Vec<u64>> {
             }
         }
     }
-    assert_eq!(saved.pop(), Some(0), "the closing period takes any number already");
-    Some(saved[1..].iter().map(|&saving| saving as u64).collect())
+    assert_eq!(saved.last(), Some(&0), "one more in the closing period saves nothing, under a curfew too");
+    Some(saved[1..=day.priced()].iter().map(|&saving| saving as u64).collect())
 }
 
-/// The short stretch with the smallest last period, and among those the largest first.
+/// The short stretch with the smallest last period, and among those the largest first. Under a curfew it may end with the closing
+/// period, by which every flight must have landed.
 pub fn short_stretch(day: &Day) -> Option<(u64, u64)> {
-    for last in 1..=day.periods() {
+    let places = day.places();
+    let mut by_due = vec![vec![]; places.len()];
+    day.flights.iter().for_each(|f| by_due[f.due as usize - 1].push(f.last(day.periods())));
+    for last in 1..=day.priced() as u32 {
         let mut over = 0i64;
         for first in (1..=last).rev() {
-            let must = day.flights.iter().filter(|f| f.due == first && f.limit.is_some_and(|l| f.due + l <= last)).count();
-            over += must as i64 - day.capacities[first as usize - 1] as i64;
+            let must = by_due[first as usize - 1].iter().filter(|&&latest| latest <= last).count();
+            over += must as i64 - places[first as usize - 1] as i64;
             if over > 0 {
                 return Some((first as u64, last as u64));
             }
@@ -148,14 +157,19 @@ pub fn quick_by_sorting(day: &Day) -> (Vec<u32>, Vec<Vec<usize>>) {
     (holds, eligible)
 }
 
-/// The price check, from document 01's sentence.
+/// How many of these holds land in the closing period.
+pub fn closing_landings(day: &Day, holds: &[u32]) -> u32 {
+    day.landings(holds, day.periods() + 1)
+}
+
+/// The price check, from document 01's sentence; without a curfew the closing period has price 0.
 pub fn accepts(day: &Day, holds: &[u32], prices: &[u32]) -> bool {
-    let p = day.periods();
-    if prices.len() != p as usize || day.legal_total(holds).is_none() {
+    let (p, places) = (day.periods(), day.places());
+    if prices.len() != day.priced() || day.legal_total(holds).is_none() {
         return false;
     }
-    let price = |k: u32| if k <= p { prices[k as usize - 1] as u64 } else { 0 };
-    let only_on_full = (1..=p).all(|k| price(k) == 0 || day.landings(holds, k) == day.capacities[k as usize - 1]);
+    let price = |k: u32| prices.get(k as usize - 1).map_or(0, |&price| price as u64);
+    let only_on_full = (1..=p + 1).all(|k| price(k) == 0 || day.landings(holds, k) == places[k as usize - 1]);
     let least = |(f, &h): (&Flight, &u32)| (f.due..=f.last(p)).all(|k| f.cost(h) + price(f.due + h) <= f.cost(k - f.due) + price(k));
     only_on_full && day.flights.iter().zip(holds).all(least)
 }

@@ -1,6 +1,7 @@
 //! The plan text read back, document 02, #107, apart from the core: why it is refused, and at which line, found in two ways; and what
 //! a call has met of all that can happen.
 use crate::day::{Day, Flight, Rows, FLIGHTS, PERIODS, WIDTH};
+use crate::planners::closing_landings;
 use crate::reasons::{applying, off, Reason};
 use hold_desk_client::Answer;
 use std::cmp::Reverse;
@@ -19,7 +20,7 @@ pub fn refusals(rows: &Rows, reading: Option<&Reading>, text: &[u8], holds: usiz
     let n = rows.flights.len() / WIDTH;
     let good = reading.map_or(text.starts_with(NAMES), |reading| reading.is_ok());
     let offset = reading.and_then(|reading| reading.as_ref().err()).copied().unwrap_or(0);
-    applying(&REASONS, &[reading.is_some(), holds == n, good], &[0, n as u64, offset as u64])
+    applying(&REASONS, &[reading.is_some(), holds == n, good], &[0, n as u64, offset as u64].map(|first| (first, 0)))
 }
 
 /// The lines with their offsets, the end byte with each; the last may lack it.
@@ -54,7 +55,7 @@ impl AllTexts {
             }
         }
         let mut all = Vec::new();
-        plans(day, &mut vec![], &mut [&day.capacities[..], &[u32::MAX]].concat(), &mut all);
+        plans(day, &mut vec![], &mut day.places(), &mut all);
         all.sort();
         AllTexts(all)
     }
@@ -77,11 +78,13 @@ impl AllTexts {
 
 // ---- by walking the lines
 
-/// Whether these flights can all land in what is left of each period, by landing them: in each period those that may not wait longest,
-/// as many as there is room for. Those that may wait for the closing period are in nobody's way.
+/// Whether these flights can all land in what is left of each period, the closing period last, by landing them: in each period those
+/// that may not wait longest, as many as there is room for. Where the closing period takes all, those that may wait for it are in
+/// nobody's way.
 pub fn can_land(flights: &[Flight], room: &[u32]) -> bool {
-    let p = room.len() as u32;
-    let mut coming: Vec<(u32, u32)> = flights.iter().map(|f| (f.due, f.last(p))).filter(|&(_, last)| last <= p).collect();
+    let p = room.len() as u32 - 1;
+    let takes_all = room[p as usize] as usize >= flights.len();
+    let mut coming: Vec<(u32, u32)> = flights.iter().map(|f| (f.due, f.last(p))).filter(|&(_, last)| !takes_all || last <= p).collect();
     coming.sort_unstable();
     let mut coming = coming.into_iter().peekable();
     let mut waiting = BinaryHeap::new();
@@ -94,20 +97,20 @@ pub fn can_land(flights: &[Flight], room: &[u32]) -> bool {
     })
 }
 
-/// What is left of each period after these holds of the first flights.
+/// What is left of each period, the closing period last, after these holds of the first flights.
 pub fn room_after(day: &Day, holds: &[u32]) -> Vec<u32> {
-    let mut room = day.capacities.clone();
+    let mut room = day.places();
     for (f, &hold) in day.flights.iter().zip(holds) {
-        if let Some(places) = room.get_mut((f.due + hold) as usize - 1) {
-            *places -= 1;
-        }
+        room[(f.due + hold) as usize - 1] -= 1;
     }
     room
 }
 
 /// The day that is left after these holds of the first flights.
 pub fn rest_of(day: &Day, holds: &[u32]) -> Day {
-    Day { capacities: room_after(day, holds), flights: day.flights[holds.len()..].to_vec() }
+    let mut capacities = room_after(day, holds);
+    let closing = capacities.pop();
+    Day { capacities, flights: day.flights[holds.len()..].to_vec(), curfew: closing.filter(|_| day.curfew.is_some()) }
 }
 
 /// Whether the flights that have no hold yet can still land.
@@ -187,7 +190,8 @@ fn refused_for(day: &Day, text: &[u8], offset: usize) -> String {
         _ => return format!("behind the total {}", behind(&text[offset..])),
     };
     if !rest_can_land(day, &[]) {
-        return format!("no legal plan, {}", first_line(day, text));
+        let unlimited = Day { curfew: None, ..day.clone() };
+        return format!("no legal plan{}, {}", if rest_can_land(&unlimited, &[]) { " under a curfew" } else { "" }, first_line(day, text));
     }
     let Some((_, line)) = lines_of(&text[offset..]).next() else {
         return format!("ends before {which}");
@@ -327,8 +331,9 @@ fn right_in_itself(day: &Day, f: &Flight, holds: &[u32], hold: u128) -> String {
     if let Some(limit) = over {
         return format!("right in itself, {} its limit", if hold == limit as u128 + 1 { "one over" } else { "over" });
     }
-    if lands <= p && room_after(day, holds)[lands as usize - 1] == 0 {
-        return format!("right in itself, in {} period", if day.capacities[lands as usize - 1] == 0 { "a closed" } else { "a full" });
+    if room_after(day, holds)[lands as usize - 1] == 0 {
+        let (closed, which) = (day.places()[lands as usize - 1] == 0, if lands > p { "the closing" } else { "a" });
+        return format!("right in itself, in {which} period, which {}", if closed { "takes nobody" } else { "is full" });
     }
     let stuck: Vec<u32> = [holds, &[hold as u32]].concat();
     assert!(!rest_can_land(day, &stuck), "a line is refused that is right");
@@ -336,6 +341,9 @@ fn right_in_itself(day: &Day, f: &Flight, holds: &[u32], hold: u128) -> String {
     let room = room_after(day, &stuck);
     let alone = |g: &Flight| !can_land(std::slice::from_ref(g), &room);
     let later = &day.flights[stuck.len()..];
+    if can_land(later, &[&room[..p as usize], &[u32::MAX]].concat()) {
+        return format!("right in itself, but the closing period cannot take later flights, {}", if lands > p { "since this one lands there" } else { "since this one lands elsewhere" });
+    }
     match (alone(&later[0]), later.iter().any(alone)) {
         (true, _) => "right in itself, but the next flight cannot land".into(),
         (_, true) => "right in itself, but a later flight cannot land".into(),
@@ -346,12 +354,15 @@ fn right_in_itself(day: &Day, f: &Flight, holds: &[u32], hold: u128) -> String {
 /// What an accepted call has met.
 pub fn met(day: &Day, text: &[u8], holds: &[u32], least: impl FnOnce() -> Option<u64>) -> BTreeSet<String> {
     let flights = || day.flights.iter().zip(holds);
-    let closing = flights().filter(|(f, &hold)| f.due + hold == day.periods() + 1).count();
+    let closing = closing_landings(day, holds) as usize;
     let total = day.total(holds);
     let more = [
         (true, "a plan"),
         (day.flights.is_empty(), "no flight"),
         (closing > 2, "several in the closing period"),
+        (closing > 0 && day.curfew == Some(closing as u32), "as many in the closing period as may be"),
+        (closing > 0 && day.curfew > Some(closing as u32), "fewer in the closing period than may be"),
+        (day.curfew == Some(0), "nobody may land in the closing period"),
         (closing == FLIGHTS, "128 flights in the closing period"),
         (day.flights.len() > 1 && closing == 0, "none in the closing period"),
         (flights().any(|(f, &hold)| hold == 0 && f.cost(0) > 0), "a jump at hold 0"),

@@ -13,6 +13,7 @@ use hold_desk_client::full_plan;
 pub fn tight_day(seed: &Seed, periods: u64, flights: u64) -> Day {
     let mut day = inputs::day_of_size(seed, periods, flights);
     day.capacities.fill(0);
+    let mut closing = 0;
     let (limited, longest) = (seed.pick(&[1, 2, 8]), seed.pick(&[0, 1, 3, 6, 96]));
     for f in &mut day.flights {
         if !seed.one_in(limited + 1) {
@@ -20,20 +21,19 @@ pub fn tight_day(seed: &Seed, periods: u64, flights: u64) -> Day {
         }
         let last = f.last(periods as u32);
         let lands = seed.pick(&[f.due, last, seed.between(f.due as u64, last as u64) as u32]);
-        if let Some(places) = day.capacities.get_mut(lands as usize - 1) {
-            *places += 1;
-        }
+        *day.capacities.get_mut(lands as usize - 1).unwrap_or(&mut closing) += 1;
     }
+    day.curfew = seed.pick(&[None, Some(closing), Some(closing), Some(closing + seed.below(3) as u32)]);
     for _ in 0..seed.below(3) {
         day.capacities[seed.place(periods as usize)] += 1;
     }
     day
 }
 
-/// A day of which one plan has the longest text there is, 2,859 bytes: nobody lands before the closing period.
+/// A day of which one plan has the longest text there is, 2,859 bytes: nobody lands before the closing period, which may just take all.
 pub fn longest_day(seed: &Seed) -> Day {
     let flight = |i: u32| Flight { number: 9_999 - i, due: 10, rate: 10_000, after: seed.edged(0, 86), jump: 1_000_000, limit: None, late: seed.edged(10, 255) };
-    Day { capacities: vec![0; PERIODS], flights: (0..FLIGHTS as u32).map(flight).collect() }
+    Day { capacities: vec![0; PERIODS], flights: (0..FLIGHTS as u32).map(flight).collect(), curfew: seed.pick(&[None, Some(128), Some(255)]) }
 }
 
 // ---- legal plans
@@ -62,9 +62,9 @@ fn some_plan(seed: &Seed, day: &Day) -> Option<Vec<u32>> {
 pub fn plans(seed: &Seed, day: &Day, others: u64) -> Vec<Vec<u32>> {
     const MARGIN: usize = 16;
     let rows = day.rows();
-    let (n, periods) = (day.flights.len(), day.capacities.len());
-    let (mut holds, mut prices) = (vec![0; n + 2 * MARGIN], vec![0; periods + 2 * MARGIN]);
-    let planned = full_plan(&rows.capacities, &rows.flights, &mut holds[MARGIN..][..n], &mut prices[MARGIN..][..periods]).number == 0;
+    let (n, priced) = (day.flights.len(), day.priced());
+    let (mut holds, mut prices) = (vec![0; n + 2 * MARGIN], vec![0; priced + 2 * MARGIN]);
+    let planned = full_plan(&rows.capacities, &rows.flights, rows.closing, &mut holds[MARGIN..][..n], &mut prices[MARGIN..][..priced]).number == 0;
     let mut plans = vec![holds[MARGIN..][..n].to_vec(), quick_by_sorting(day).0];
     for _ in 0..if planned { others } else { 0 } {
         plans.extend(some_plan(seed, day));

@@ -5,9 +5,9 @@ use hold_desk_client::Answer;
 /// A reason, and its answer's number.
 pub type Reason = (&'static str, u64);
 
-/// The reasons that apply, each with its answer: those that find something that is not good, and what each of them gives first.
-pub fn applying(reasons: &[Reason], good: &[bool], firsts: &[u64]) -> Vec<(&'static str, Answer)> {
-    let all = reasons.iter().zip(firsts).map(|(&(why, number), &first)| (why, answer(number, first, 0)));
+/// The reasons that apply, each with its answer: those that find something that is not good, and the two values that each of them gives.
+pub fn applying(reasons: &[Reason], good: &[bool], values: &[(u64, u64)]) -> Vec<(&'static str, Answer)> {
+    let all = reasons.iter().zip(values).map(|(&(why, number), &(first, second))| (why, answer(number, first, second)));
     all.zip(good).filter(|(_, good)| !**good).map(|(refusal, _)| refusal).collect()
 }
 
