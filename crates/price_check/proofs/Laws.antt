@@ -12,8 +12,9 @@ use Rattle.assignment.specs.Sum.{count}
 use Rattle.assignment.proofs.Tests.{eq?, gate-eq, gate-ne}
 use Rattle.assignment.proofs.Sums.{count-suc, count-zero}
 use Rattle.day.specs.declared.Flight.{Flight}
-use Rattle.day.specs.Day.{Day, day, unlimited, P, N, column, flightAt, holdCost, latestOf, due, ofPeriod, takes, counted, cost, latest, hold, landOf, land, landings, valid, width}
+use Rattle.day.specs.Day.{Day, day, unlimited, mostPeriods, countedOf, P, N, column, flightAt, holdCost, latestOf, due, ofPeriod, takes, counted, cost, latest, hold, landOf, land, landings, valid, width}
 use Rattle.day.specs.Plan.{Legal, Cheapest, Accepted}
+use Rattle.day.proofs.Costs.{counted-to}
 use Rattle.day.proofs.Flights.{due-read}
 use Rattle.day.proofs.Instance.{hold-le, cost-le, accepted-is-cheapest}
 use Rattle.day.specs.Valid.{Valid}
@@ -64,6 +65,10 @@ module _ {f h : List ℕ} {k n i : ℕ} (s : Counted f h k n i) where
   counted-end done = let e : i ≡ length h = omega (arith, s .upto) in s .counts ∙ ap (λ m. count m (landOf f h) k) e
 
 -- ---- periods that are not full
+
+-- few periods are counted, whatever the closing number
+pub counted-most : (p closing : ℕ) → p ≤ mostPeriods → countedOf p closing ≤ 97
+counted-most p closing few = omega (arith, counted-to p closing)
 
 abbrev pub UnsoldTo : Day → (h p : List ℕ) → ℕ → Type 0
 UnsoldTo d h p k = (j : ℕ) → 1 ≤ j → j < k → Unsold d h p j

@@ -1,14 +1,12 @@
 -- The periods passed are full or have no price.
 -- Assumes nothing.
-use Rattle.day.proofs.Costs.{counted-to}
 use Rattle.day.proofs.Valid.{valid-means}
 use borrow.Author.Needs.{needs}
 use Prim.Native.Nat.{_≤_, _+_, _-_}
 use native.Mathlib.Omega.{arith}
-use lib.ListN.{length}
 use Rattle.day.specs.Day.{day}
 use Rattle.answers.proofs.Decides.{say-yes, say-no}
-use Rattle.price_check.proofs.Laws.{UnsoldTo, unsold-free, unsold-full, unsold-not}
+use Rattle.price_check.proofs.Laws.{counted-most, UnsoldTo, unsold-free, unsold-full, unsold-not}
 use Rattle.price_check.proofs.are_unsold.Statement.{statement}
 use Rattle.price_check.proofs.are_unsold.Tie as tie
 
@@ -26,7 +24,7 @@ abbrev at-start : Ready → tie.Start Inv-loop μ-loop
 at-start s = s .before .before .before .before .before
 
 last-to : (s : Ready) → s .counted-of .result ≤ 97
-last-to s = let a = at-start s in omega (arith, s .counted-of .ensures, counted-to (length (a .args .capacities .now)) (a .args .closing), valid-means (a .pre .0) .periods-to)
+last-to s = rw (s .counted-of .ensures) (counted-most _ _ (valid-means (at-start s .pre .0) .periods-to))
 
 counted-of-requires : tie.Need-counted-of-requires Inv-loop μ-loop
 counted-of-requires c κs = valid-means (c .before .before .before .before .pre .0) .periods-to
