@@ -9,10 +9,10 @@ use crate::sheets::run_sheet;
 use crate::show::put_code;
 
 // ` back number,first,second`, then the holds
-pub fn read_back(capacities: &[u32], flights: &[u32], text: &[u8], count: usize) {
+pub fn read_back(capacities: &[u32], flights: &[u32], closing: u32, text: &[u8], count: usize) {
     let mut space = hold_row();
     let holds = front_mut(&mut space, count);
-    let code = desk::hold_desk_read_plan(capacities, flights, text, holds);
+    let code = desk::hold_desk_read_plan(capacities, flights, closing, text, holds);
     put_code(b" back ", code);
     show_filled(code, b" holds", holds);
 }

@@ -44,14 +44,14 @@ fn twice(periods: usize) -> usize {
 }
 
 // The board of a plan; the day's own capacities may not allow it.
-fn show_board(code: Code, capacities: &[u32], flights: &[u32], holds: &[u32]) {
+fn show_board(code: Code, capacities: &[u32], flights: &[u32], closing: u32, holds: &[u32]) {
     let number = code.number;
     if number == 0 {
-        board(capacities, flights, holds, holds.len());
+        board(capacities, flights, closing, holds, holds.len());
     }
 }
 
-fn forecast_plan(capacities: &[u32], flights: &[u32], odds: Odds, lent: Lengths) {
+fn forecast_plan(capacities: &[u32], flights: &[u32], closing: u32, odds: Odds, lent: Lengths) {
     let mut hold_space = hold_row();
     let holds = front_mut(&mut hold_space, lent.holds);
     let weights = [odds.weight, odds.other_weight, 0];
@@ -61,6 +61,7 @@ fn forecast_plan(capacities: &[u32], flights: &[u32], odds: Odds, lent: Lengths)
     let code = desk::hold_desk_forecast_plan(
         capacities,
         flights,
+        closing,
         odds.count,
         odds.factor,
         front(&weights, lent.weights),
@@ -69,7 +70,7 @@ fn forecast_plan(capacities: &[u32], flights: &[u32], odds: Odds, lent: Lengths)
     );
     put_code(b" forecasts ", code);
     show_filled(code, b" holds", holds);
-    show_board(code, capacities, flights, holds);
+    show_board(code, capacities, flights, closing, holds);
 }
 
 // As the report has it: capacity 1 or 2 by odds of 4 to 6, and an air factor of 2.
@@ -85,14 +86,14 @@ fn reported() -> Odds {
 }
 
 // Beside every other call, with a hold row of any length.
-pub fn forecast_plan_of(capacities: &[u32], flights: &[u32], count: usize) {
+pub fn forecast_plan_of(capacities: &[u32], flights: &[u32], closing: u32, count: usize) {
     let mut lent = asked(capacities, flights);
     lent.holds = count;
-    forecast_plan(capacities, flights, reported(), lent);
+    forecast_plan(capacities, flights, closing, reported(), lent);
 }
 
 // ` capacities first second weights weight other_weight air factor:`, then the call
-fn run_odds(capacities: &[u32], flights: &[u32], odds: Odds) {
+fn run_odds(capacities: &[u32], flights: &[u32], closing: u32, odds: Odds) {
     put_number(b"\n capacities ", day::wide(odds.first) as u64);
     put_number(b" ", day::wide(odds.second) as u64);
     put_number(b" weights ", day::wide(odds.weight) as u64);
@@ -100,70 +101,83 @@ fn run_odds(capacities: &[u32], flights: &[u32], odds: Odds) {
     put_number(b" count ", day::wide(odds.count) as u64);
     put_number(b" air factor ", day::wide(odds.factor) as u64);
     put(b":");
-    forecast_plan(capacities, flights, odds, asked(capacities, flights));
+    forecast_plan(
+        capacities,
+        flights,
+        closing,
+        odds,
+        asked(capacities, flights),
+    );
 }
 
-fn run_plans(capacities: &[u32], flights: &[u32]) {
+fn run_plans(capacities: &[u32], flights: &[u32], closing: u32) {
     let mut odds = reported();
-    run_odds(capacities, flights, odds);
+    run_odds(capacities, flights, closing, odds);
     odds.weight = 600;
     odds.other_weight = 400;
-    run_odds(capacities, flights, odds);
+    run_odds(capacities, flights, closing, odds);
     odds.weight = 1000;
     odds.other_weight = 0;
-    run_odds(capacities, flights, odds);
+    run_odds(capacities, flights, closing, odds);
     odds.first = 0;
-    run_odds(capacities, flights, odds);
+    run_odds(capacities, flights, closing, odds);
     odds.weight = 500;
     odds.other_weight = 500;
     odds.factor = 1;
-    run_odds(capacities, flights, odds);
+    run_odds(capacities, flights, closing, odds);
     odds.factor = 10;
-    run_odds(capacities, flights, odds);
+    run_odds(capacities, flights, closing, odds);
     odds.second = 255;
-    run_odds(capacities, flights, odds);
+    run_odds(capacities, flights, closing, odds);
 }
 
 // Refusal 13: the count and the air factor at the ends of their ranges and past them.
-fn run_terms(capacities: &[u32], flights: &[u32]) {
+fn run_terms(capacities: &[u32], flights: &[u32], closing: u32) {
     let mut odds = reported();
     odds.count = 0;
-    run_odds(capacities, flights, odds);
+    run_odds(capacities, flights, closing, odds);
     odds.count = 9;
-    run_odds(capacities, flights, odds);
+    run_odds(capacities, flights, closing, odds);
     odds.count = 4294967295;
-    run_odds(capacities, flights, odds);
+    run_odds(capacities, flights, closing, odds);
     odds.count = 2;
     odds.factor = 0;
-    run_odds(capacities, flights, odds);
+    run_odds(capacities, flights, closing, odds);
     odds.factor = 11;
-    run_odds(capacities, flights, odds);
+    run_odds(capacities, flights, closing, odds);
 }
 
 // Refusal 12: weights that add up to less, to more, and to 1,000 in 32 bits only; a capacity that is too high, of a forecast that
 // does not count.
-fn run_forecasts_refused(capacities: &[u32], flights: &[u32]) {
+fn run_forecasts_refused(capacities: &[u32], flights: &[u32], closing: u32) {
     let mut odds = reported();
     odds.weight = 399;
-    run_odds(capacities, flights, odds);
+    run_odds(capacities, flights, closing, odds);
     odds.weight = 401;
-    run_odds(capacities, flights, odds);
+    run_odds(capacities, flights, closing, odds);
     odds.weight = 4294967295;
     odds.other_weight = 1001;
-    run_odds(capacities, flights, odds);
+    run_odds(capacities, flights, closing, odds);
     odds.weight = 1000;
     odds.other_weight = 0;
     odds.second = 256;
-    run_odds(capacities, flights, odds);
+    run_odds(capacities, flights, closing, odds);
 }
 
-fn run_with(name: &[u8], capacities: &[u32], flights: &[u32], odds: Odds, lent: Lengths) {
+fn run_with(
+    name: &[u8],
+    capacities: &[u32],
+    flights: &[u32],
+    closing: u32,
+    odds: Odds,
+    lent: Lengths,
+) {
     put(name);
-    forecast_plan(capacities, flights, odds, lent);
+    forecast_plan(capacities, flights, closing, odds, lent);
 }
 
 // Refusal 7 for each row, before 12 and behind 13, and the rows in their order.
-fn run_row_lengths(capacities: &[u32], flights: &[u32]) {
+fn run_row_lengths(capacities: &[u32], flights: &[u32], closing: u32) {
     let odds = reported();
     let mut wrong = odds;
     wrong.weight = 399;
@@ -173,6 +187,7 @@ fn run_row_lengths(capacities: &[u32], flights: &[u32]) {
         b"\n forecast row of 1, weights of 999:",
         capacities,
         flights,
+        closing,
         wrong,
         lent,
     );
@@ -181,6 +196,7 @@ fn run_row_lengths(capacities: &[u32], flights: &[u32]) {
         b"\n besides, weight row of 3:",
         capacities,
         flights,
+        closing,
         wrong,
         lent,
     );
@@ -189,6 +205,7 @@ fn run_row_lengths(capacities: &[u32], flights: &[u32]) {
         b"\n besides, hold row of 129:",
         capacities,
         flights,
+        closing,
         wrong,
         lent,
     );
@@ -197,17 +214,25 @@ fn run_row_lengths(capacities: &[u32], flights: &[u32]) {
         b"\n besides, air factor 11:",
         capacities,
         flights,
+        closing,
         wrong,
         lent,
     );
     lent = asked(capacities, flights);
     lent.weights = 1;
-    run_with(b"\n weight row of 1:", capacities, flights, odds, lent);
+    run_with(
+        b"\n weight row of 1:",
+        capacities,
+        flights,
+        closing,
+        odds,
+        lent,
+    );
 }
 
-pub fn run_forecasts(capacities: &[u32], flights: &[u32]) {
-    run_plans(capacities, flights);
-    run_terms(capacities, flights);
-    run_forecasts_refused(capacities, flights);
-    run_row_lengths(capacities, flights);
+pub fn run_forecasts(capacities: &[u32], flights: &[u32], closing: u32) {
+    run_plans(capacities, flights, closing);
+    run_terms(capacities, flights, closing);
+    run_forecasts_refused(capacities, flights, closing);
+    run_row_lengths(capacities, flights, closing);
 }

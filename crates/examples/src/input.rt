@@ -37,12 +37,12 @@ pub struct Size {
 }
 
 pub fn size_at(input: &[u8], at: usize) -> Size
-    ensures { λ r. ⌜ (r .value ≤ 100000) × (r .end ≤ 60005) ⌝ }
+    ensures { λ r. ⌜ (r .value ≤ 100000) × (r .end ≤ 130005) ⌝ }
 {
-    if 60000 < at {
+    if 130000 < at {
         return Size {
             value: 0,
-            end: 60000,
+            end: 130000,
         };
     }
     let mut value = 0;

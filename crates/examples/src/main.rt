@@ -6,6 +6,9 @@
 // every call for days in memory that differ from the sheet's in a value or a length; `unfit` the reader with rows of other lengths;
 // `program` the text that the program writes.
 // What a call changed though it had to leave it is reported as `CHANGED`, and a text that is not the expected one as `OTHER`.
+ghost use mathlib.Core.Path.{_≡_};
+ghost use lib.ListN.{length};
+
 mod back;
 mod calls;
 mod factors;
@@ -29,7 +32,7 @@ use show::put;
 use show::put_number;
 
 // More bytes than a sheet and the rest of the examples have.
-const BEYOND: usize = 65536;
+const BEYOND: usize = 131072;
 
 // The text that the program writes for the first bytes of a buffer. It is the same where the buffer ends with them and the count goes
 // beyond it; a text's buffer that is a byte too short gives no text.
@@ -78,11 +81,11 @@ fn run_example(input: &[u8], at: usize) -> usize {
     start + length + 1
 }
 
-// At most a hundred and fifty examples.
+// At most two hundred examples.
 fn run_all(input: &[u8]) {
     let mut at: usize = 0;
     let mut examples: usize = 0;
-    while examples < 150 {
+    while examples < 200 {
         examples += 1;
         if at < input.len() {
             at = run_example(input, at);
@@ -90,8 +93,15 @@ fn run_all(input: &[u8]) {
     }
 }
 
+// Room for all examples.
+fn input_buffer() -> [u8; 131072]
+    ensures { λ r. ⌜ 131072 ≡ length r ⌝ }
+{
+    [0; 131072]
+}
+
 fn main() {
-    let mut space = io::large_buffer();
+    let mut space = input_buffer();
     let read = io::read_full(0, &mut space);
     run_all(&space[0..read]);
 }

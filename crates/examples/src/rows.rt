@@ -21,6 +21,9 @@ const MORE_PERIODS: usize = PERIODS + 1;
 
 pub const MORE_FLIGHTS: usize = FLIGHTS + 1;
 
+// One more than the periods of a day and its closing period.
+const MORE_PRICES: usize = PERIODS + 2;
+
 const LONGER_ROW: usize = FLIGHT_ROW + WIDTH;
 
 pub fn capacity_row(value: u32) -> [u32; MORE_PERIODS]
@@ -29,10 +32,24 @@ pub fn capacity_row(value: u32) -> [u32; MORE_PERIODS]
     [value; MORE_PERIODS]
 }
 
-pub fn price_row() -> [u32; MORE_PERIODS]
+pub fn rubbish_row() -> [u32; MORE_PERIODS]
     ensures { λ r. ⌜ mostPeriods + 1 ≡ length r ⌝ }
 {
     capacity_row(RUBBISH)
+}
+
+pub fn price_row() -> [u32; MORE_PRICES]
+    ensures { λ r. ⌜ mostPeriods + 2 ≡ length r ⌝ }
+{
+    [RUBBISH; MORE_PRICES]
+}
+
+// How many prices a day has; for a row that is no day's, some number.
+pub fn price_count(capacities: &[u32], closing: u32) -> usize {
+    if PERIODS < capacities.len() {
+        return 0;
+    }
+    day::counted_of(capacities.len(), closing)
 }
 
 // Two rows of one capacity for all periods, one behind the other.
@@ -57,6 +74,13 @@ pub fn due_row() -> [u32; MORE_FLIGHTS]
     ensures { λ r. ⌜ mostFlights + 1 ≡ length r ⌝ }
 {
     [0; MORE_FLIGHTS]
+}
+
+// Everyone is held for one period.
+pub fn later_row() -> [u32; MORE_FLIGHTS]
+    ensures { λ r. ⌜ mostFlights + 1 ≡ length r ⌝ }
+{
+    [1; MORE_FLIGHTS]
 }
 
 pub fn text_buffer() -> [u8; 4096]

@@ -10,17 +10,17 @@ use crate::rows::expect_row_kept;
 use crate::rows::flight_row;
 use crate::rows::front;
 use crate::rows::front_mut;
-use crate::rows::price_row;
-use crate::show::put_code;
+use crate::rows::rubbish_row;
 use crate::show::put_number;
-use answers::Code;
+use crate::show::put_reading;
 use day::FLIGHT_ROW;
 use day::FLIGHTS;
 use day::PERIODS;
 use day::WIDTH;
+use desk::ReadingCode;
 
 // Past the day the rows are as they were; of a sheet that was refused, all of them.
-fn expect_kept(code: Code, capacities: &[u32], flights: &[u32]) {
+fn expect_kept(code: ReadingCode, capacities: &[u32], flights: &[u32]) {
     let number = code.number;
     let periods = code.first as usize;
     let count = code.second as usize;
@@ -35,16 +35,16 @@ fn expect_kept(code: Code, capacities: &[u32], flights: &[u32]) {
     }
 }
 
-// ` rows periods flights: number,first,second`
+// ` rows periods flights: number,first,second closing number`
 fn read_into(sheet: &[u8], periods: usize, entries: usize) {
-    let mut capacity_space = price_row();
+    let mut capacity_space = rubbish_row();
     let mut flight_space = flight_row();
     let capacities = front_mut(&mut capacity_space, periods);
     let flights = front_mut(&mut flight_space, entries);
     let code = desk::hold_desk_read_sheet(sheet, capacities, flights);
     put_number(b"\n rows ", periods as u64);
     put_number(b" ", entries as u64);
-    put_code(b": ", code);
+    put_reading(b": ", code);
     expect_kept(code, capacities, flights);
 }
 
@@ -63,25 +63,44 @@ pub fn run_reader(sheet: &[u8]) {
 }
 
 // What the example's kind asks for a day that was read; the text is for the kind `text`.
-fn run_read(kind: u8, capacities: &[u32], flights: &[u32], sheet: &[u8], text: &[u8]) {
+fn run_read(
+    kind: u8,
+    capacities: &[u32],
+    flights: &[u32],
+    closing: u32,
+    sheet: &[u8],
+    text: &[u8],
+) {
     match kind {
-        b'd' => run_day(capacities, flights, sheet),
-        b'l' => run_lengths(capacities, flights),
-        b'v' => run_values(capacities, flights),
-        b'o' => run_forecasts(capacities, flights),
-        b'g' => run_growths(capacities, flights),
-        b't' => read_back(capacities, flights, text, day::flight_count(flights)),
+        b'd' => run_day(capacities, flights, closing, sheet),
+        b'l' => run_lengths(capacities, flights, closing),
+        b'v' => run_values(capacities, flights, closing),
+        b'o' => run_forecasts(capacities, flights, closing),
+        b'g' => run_growths(capacities, flights, closing),
+        b't' => read_back(
+            capacities,
+            flights,
+            closing,
+            text,
+            day::flight_count(flights),
+        ),
         _ => (),
     }
 }
 
+// The closing number as the calls take it; one that no day has where it is none.
+fn closing_of(code: ReadingCode) -> u32 {
+    let closing = code.closing;
+    if closing <= 256 { closing as u32 } else { 257 }
+}
+
 pub fn run_sheet(kind: u8, sheet: &[u8], text: &[u8]) {
-    let mut capacity_space = price_row();
+    let mut capacity_space = rubbish_row();
     let mut flight_space = flight_row();
     let capacities = front_mut(&mut capacity_space, PERIODS);
     let flights = front_mut(&mut flight_space, FLIGHT_ROW);
     let code = desk::hold_desk_read_sheet(sheet, capacities, flights);
-    put_code(b" read ", code);
+    put_reading(b" read ", code);
     expect_kept(code, capacities, flights);
     let number = code.number;
     let periods = code.first as usize;
@@ -92,6 +111,7 @@ pub fn run_sheet(kind: u8, sheet: &[u8], text: &[u8]) {
                 kind,
                 front(capacities, periods),
                 front(flights, count * WIDTH),
+                closing_of(code),
                 sheet,
                 text,
             );

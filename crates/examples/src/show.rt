@@ -1,5 +1,6 @@
 // What the examples print.
 use answers::Code;
+use desk::ReadingCode;
 
 pub fn put(text: &[u8]) {
     io::write_all(1, text);
@@ -15,6 +16,14 @@ pub fn put_code(name: &[u8], code: Code) {
     put_number(name, code.number);
     put_number(b",", code.first);
     put_number(b",", code.second);
+}
+
+// ` name number,first,second closing number`
+pub fn put_reading(name: &[u8], read: ReadingCode) {
+    put_number(name, read.number);
+    put_number(b",", read.first);
+    put_number(b",", read.second);
+    put_number(b" closing ", read.closing);
 }
 
 // The name, then each entry after a space.

@@ -11,6 +11,7 @@ use Rattle.assignment.specs.Rows.{row}
 use Rattle.assignment.proofs.Sums.{sum-ext}
 use Rattle.assignment.proofs.Rows.{row-ext}
 use Rattle.day.specs.Day.{Day, day, unlimited, P, N, due, capacity, valid}
+use Rattle.day.proofs.Curfew.{open-valid}
 use Rattle.day.proofs.Valid.{valid-means, means-valid}
 use Rattle.quick_plan.specs.Quick.{ahead, goingBefore, highest, eligible, operates, lands, quickBy}
 use Rattle.quick_plan.specs.Loop.{withoutLine}
@@ -73,15 +74,4 @@ module _ (d : Day) (next : ℕ → ℕ → ℕ) where
 
 -- and a valid day is valid without it
 pub valid-rows : (d : Day) → valid d ≡ true → valid (withoutLine d) ≡ true
-valid-rows d v =
-    let w = valid-means v in
-    means-valid (record {
-      periods-from = w .periods-from;
-      periods-to = w .periods-to;
-      whole = w .whole;
-      flights-to = w .flights-to;
-      closing-to = omega arith;
-      capacity-to = w .capacity-to;
-      flight = w .flight;
-      distinct = w .distinct;
-    })
+valid-rows d v = means-valid (open-valid (valid-means v))

@@ -1,4 +1,4 @@
--- The loop ends after a hundred and fifty examples.
+-- The loop ends after two hundred examples.
 -- Assumes nothing.
 use borrow.Author.Needs.{needs}
 use Prim.Native.Nat.{_≤_, _-_}
@@ -6,10 +6,10 @@ use Rattle.examples.proofs.run_all.Statement.{statement}
 use Rattle.examples.proofs.run_all.Tie as tie
 
 abbrev Inv-loop : tie.InvT-loop
-Inv-loop input at₀ examples₀ at examples = examples ≤ 150
+Inv-loop input at₀ examples₀ at examples = examples ≤ 200
 
 abbrev μ-loop : tie.MeasureT-loop
-μ-loop input at₀ examples₀ at examples = 150 - examples
+μ-loop input at₀ examples₀ at examples = 200 - examples
 
 loop-holds : tie.Need-loop-holds Inv-loop μ-loop
 loop-holds c = search needs

@@ -6,10 +6,10 @@ use Rattle.examples.proofs.plans.run_cards.Statement.{statement}
 use Rattle.examples.proofs.plans.run_cards.Tie as tie
 
 abbrev Inv-loop : tie.InvT-loop
-Inv-loop capacities flights period₀ period = (1 ≤ period) × (period ≤ 98)
+Inv-loop capacities flights closing period₀ period = (1 ≤ period) × (period ≤ 98)
 
 abbrev μ-loop : tie.MeasureT-loop
-μ-loop capacities flights period₀ period = 98 - period
+μ-loop capacities flights closing period₀ period = 98 - period
 
 slice-aggregate-put : tie.Need-slice-aggregate-put Inv-loop μ-loop
 slice-aggregate-put c = search needs
