@@ -6,11 +6,11 @@ use Prim.Native.Nat.{ℕ}
 use native.Mathlib.Omega.{arith}
 use Rattle.answers.specs.Decides.{Decides}
 
-pub true-false : true ≡ false → ⊥
-true-false e = omega (arith, ap {B = ℕ} (λ b. cond b 1 0) e)
+pub true_false : true ≡ false → ⊥
+true_false e = omega (arith, ap {B = ℕ} (λ b. cond b 1 0) e)
 
-pub say-yes : {A : Type 0} → A → Decides true A
-say-yes a = record { yes = λ _. a; no = λ e. absurd (true-false e) }
+pub say_yes : {A : Type 0} → A → Decides true A
+say_yes a = record { yes = λ _. a; no = λ e. absurd (true_false e) }
 
-pub say-no : {A : Type 0} → (A → ⊥) → Decides false A
-say-no n = record { yes = λ e. absurd (true-false (sym e)); no = λ _. n }
+pub say_no : {A : Type 0} → (A → ⊥) → Decides false A
+say_no n = record { yes = λ e. absurd (true_false (sym e)); no = λ _. n }

@@ -10,5 +10,5 @@ pub says : {o : Outcome} {a : Answer} {x : List ℕ} → o ≡ outcome a x → (
 says e = (ap (λ o. o.answer) (sym e), ap (λ o. o.holds) (sym e))
 
 -- and one that is another
-pub says-as : {o other : Outcome} {a : Answer} {x : List ℕ} → o ≡ other → (a ≡ other.answer) × (x ≡ other.holds) → (a ≡ o.answer) × (x ≡ o.holds)
-says-as e s = (s.0 ∙ ap (λ o. o.answer) (sym e), s.1 ∙ ap (λ o. o.holds) (sym e))
+pub says_as : {o other : Outcome} {a : Answer} {x : List ℕ} → o ≡ other → (a ≡ other.answer) × (x ≡ other.holds) → (a ≡ o.answer) × (x ≡ o.holds)
+says_as e s = (s.0 ∙ ap (λ o. o.answer) (sym e), s.1 ∙ ap (λ o. o.holds) (sym e))

@@ -7,31 +7,31 @@ use Prim.Native.Nat.{ℕ, suc, ◌+◌, ◌≤◌, ◌<◌}
 use native.Mathlib.Omega.{arith}
 use lib.Dec.{eqb}
 use Rattle.assignment.specs.Sum.{gate, sum}
-use Rattle.assignment.specs.Assignment.{Instance, In, Legal, total, mustLand, room, Short}
+use Rattle.assignment.specs.Assignment.{Instance, In, Legal, total, must_land, room, Short}
 use Rattle.assignment.specs.Instances.{opened}
 use Rattle.assignment.specs.Insertion.{Sound}
-use Rattle.assignment.proofs.Tests.{eq?, gate-eq, gate-ne}
-use Rattle.assignment.proofs.Sums.{sum-ext, sum-member, count-member}
+use Rattle.assignment.proofs.Tests.{eq?, gate_eq, gate_ne}
+use Rattle.assignment.proofs.Sums.{sum_ext, sum_member, count_member}
 
 module _ (d : Instance) (more : ℕ) where
-  pub open-cost : (i k : ℕ) → 0 < d.cap k → (opened d more).cost i k ≡ d.cost i k
-  open-cost i k some = omega (arith, gate-ne (d.cap k) 0 more (omega arith))
+  pub open_cost : (i k : ℕ) → 0 < d.cap k → (opened d more).cost i k ≡ d.cost i k
+  open_cost i k some = omega (arith, gate_ne (d.cap k) 0 more (omega arith))
 
-  pub shut-cost : (i k : ℕ) → d.cap k ≡ 0 → more ≤ (opened d more).cost i k
-  shut-cost i k none = omega (arith, gate-eq (d.cap k) 0 more none)
+  pub shut_cost : (i k : ℕ) → d.cap k ≡ 0 → more ≤ (opened d more).cost i k
+  shut_cost i k none = omega (arith, gate_eq (d.cap k) 0 more none)
 
-  pub opened-short : {a b : ℕ} → Short (opened d more) a b → Short d a b
-  unfolding mustLand room
-  opened-short s = record { short = s.short }
+  pub opened_short : {a b : ℕ} → Short (opened d more) a b → Short d a b
+  unfolding must_land room
+  opened_short s = record { short = s.short }
 
 -- whoever lands, lands in an open period
-pub lands-open : {d : Instance} {x : ℕ → ℕ} → Legal d x → (i : ℕ) → i < d.n → 0 < d.cap (x i)
-lands-open {d} {x} legal i l = omega (arith, legal.room (x i), count-member d.n i (x i) x l refl)
+pub lands_open : {d : Instance} {x : ℕ → ℕ} → Legal d x → (i : ℕ) → i < d.n → 0 < d.cap (x i)
+lands_open {d} {x} legal i l = omega (arith, legal.room (x i), count_member d.n i (x i) x l refl)
 
-pub opened-total : (d : Instance) (more : ℕ) (x : ℕ → ℕ) → Legal (opened d more) x → total (opened d more) x ≡ total d x
+pub opened_total : (d : Instance) (more : ℕ) (x : ℕ → ℕ) → Legal (opened d more) x → total (opened d more) x ≡ total d x
 unfolding total
-opened-total d more x legal =
-    sum-ext d.n (λ i. (opened d more).cost i (x i)) (λ i. d.cost i (x i)) (λ i l. open-cost d more i (x i) (lands-open legal i l))
+opened_total d more x legal =
+    sum_ext d.n (λ i. (opened d more).cost i (x i)) (λ i. d.cost i (x i)) (λ i l. open_cost d more i (x i) (lands_open legal i l))
 
 -- some flight may as well land in k
 pub record Tied (d : Instance) (x p q : ℕ → ℕ) (k : ℕ) : Type 0 where
@@ -48,25 +48,25 @@ module _ (d : Instance) (more : ℕ) {x p q : ℕ → ℕ} (s : Sound (opened d 
     (high : (i k : ℕ) → i < d.n → In d i k → d.cap k ≡ 0 → d.cost i (x i) + p (x i) ≤ d.cost i k + q k)
     (low : (k : ℕ) → d.cap k ≡ 0 → (q k ≡ 0) ⊎ Tied d x p q k) where
   lands : (i : ℕ) → i < d.n → 0 < d.cap (x i)
-  lands = lands-open s.accepted.legal
+  lands = lands_open s.accepted.legal
 
   here : (i : ℕ) → i < d.n → (opened d more).cost i (x i) + p (x i) ≡ d.cost i (x i) + q (x i)
-  here i l = omega (arith, open-cost d more i (x i) (lands i l), same (x i) (lands i l))
+  here i l = omega (arith, open_cost d more i (x i) (lands i l), same (x i) (lands i l))
 
   -- closed periods stand above all others
   height : ℕ → ℕ
   height k = s.height k + gate (eqb (d.cap k) 0) (suc (sum d.n (λ i. s.height (x i))))
 
-  height-open : (k : ℕ) → 0 < d.cap k → height k ≡ s.height k
+  height_open : (k : ℕ) → 0 < d.cap k → height k ≡ s.height k
   unfolding height
-  height-open k some = omega (arith, gate-ne (d.cap k) 0 (suc (sum d.n (λ i. s.height (x i)))) (omega arith))
+  height_open k some = omega (arith, gate_ne (d.cap k) 0 (suc (sum d.n (λ i. s.height (x i)))) (omega arith))
 
-  height-shut : (i k : ℕ) → i < d.n → d.cap k ≡ 0 → s.height (x i) < height k
+  height_shut : (i k : ℕ) → i < d.n → d.cap k ≡ 0 → s.height (x i) < height k
   unfolding height
-  height-shut i k l none = omega (
+  height_shut i k l none = omega (
     arith,
-    gate-eq (d.cap k) 0 (suc (sum d.n (λ i. s.height (x i)))) none,
-    sum-member d.n i (λ i. s.height (x i)) l,
+    gate_eq (d.cap k) 0 (suc (sum d.n (λ i. s.height (x i)))) none,
+    sum_member d.n i (λ i. s.height (x i)) l,
   )
 
   pub priced : Sound d x q
@@ -78,11 +78,11 @@ module _ (d : Instance) (more : ℕ) {x p q : ℕ → ℕ} (s : Sound (opened d 
       };
       unsold = λ k free. same k (omega arith) ∙ s.accepted.unsold k free;
       best = λ i k l w. elim (eq? (d.cap k) 0) [
-        | inl none ↦ omega (arith, here i l, open-cost d more i (x i) (lands i l), high i k l w none)
+        | inl none ↦ omega (arith, here i l, open_cost d more i (x i) (lands i l), high i k l w none)
         | inr some ↦ omega (
           arith,
           here i l,
-          open-cost d more i k (omega arith),
+          open_cost d more i k (omega arith),
           same k (omega arith),
           s.accepted.best i k l (record { from = w.from; to = w.to }),
         )
@@ -96,7 +96,7 @@ module _ (d : Instance) (more : ℕ) {x p q : ℕ → ℕ} (s : Sound (opened d 
           by = t.by;
           who = t.who;
           fits = t.fits;
-          lower = omega (arith, height-open (x t.by) (lands t.by t.who), height-shut t.by k t.who none);
+          lower = omega (arith, height_open (x t.by) (lands t.by t.who), height_shut t.by k t.who none);
           tie = omega (arith, t.tie, same (x t.by) (lands t.by t.who));
         })
       ]
@@ -106,8 +106,8 @@ module _ (d : Instance) (more : ℕ) {x p q : ℕ → ℕ} (s : Sound (opened d 
           by = a.by;
           who = a.who;
           fits = record { from = a.fits.from; to = a.fits.to };
-          lower = omega (arith, a.lower, height-open k (omega arith), height-open (x a.by) (lands a.by a.who));
-          tie = omega (arith, a.tie, here a.by a.who, open-cost d more a.by k (omega arith), same k (omega arith));
+          lower = omega (arith, a.lower, height_open k (omega arith), height_open (x a.by) (lands a.by a.who));
+          tie = omega (arith, a.tie, here a.by a.who, open_cost d more a.by k (omega arith), same k (omega arith));
         })
       ]
     ];

@@ -9,13 +9,13 @@ use lib.Dec.{ltb, eqb}
 use Rattle.assignment.specs.Sum.{gate, count}
 use Rattle.assignment.specs.Assignment.{Instance, In, Plan, Legal, total, Cheapest, Accepted}
 use Rattle.assignment.specs.Instances.{more}
-use Rattle.assignment.proofs.Tests.{lt?, gate-ge}
-use Rattle.assignment.proofs.Sums.{sum-le, sum-add, sum-pick, exchange-all, gate-one}
+use Rattle.assignment.proofs.Tests.{lt?, gate_ge}
+use Rattle.assignment.proofs.Sums.{sum_le, sum_add, sum_pick, exchange_all, gate_one}
 
 -- a plan is legal where windows and capacities are no smaller
-pub legal-in : (a b : Instance) {x : Plan} → a.n ≡ b.n → ((i : ℕ) → b.lo i ≤ a.lo i) → ((i : ℕ) → a.hi i ≤ b.hi i)
+pub legal_in : (a b : Instance) {x : Plan} → a.n ≡ b.n → ((i : ℕ) → b.lo i ≤ a.lo i) → ((i : ℕ) → a.hi i ≤ b.hi i)
     → ((k : ℕ) → a.cap k ≤ b.cap k) → Legal a x → Legal b x
-legal-in a b {x} same lo hi cap legal = record {
+legal_in a b {x} same lo hi cap legal = record {
   window = λ i l. let w = legal.window i (omega arith) in record { from = omega (arith, lo i, w.from); to = omega (arith, hi i, w.to) };
   room = λ k. omega (arith, legal.room k, cap k, ap (λ n. count n x k) same);
 }
@@ -25,18 +25,18 @@ legal-in a b {x} same lo hi cap legal = record {
 -- period are they worth more in z than in x, but for one price of a: where x leaves room the price is 0, and where x fills the period, z
 -- lands no more there, and one more in a. So the costs of x are at most those of z and the price of a.
 module _ (d : Instance) (x p z : ℕ → ℕ) (a : ℕ) (said : Accepted d x p) (legal : Legal (more d a) z) where
-  in-day : (y : ℕ → ℕ) → ((i : ℕ) → i < d.n → In d i (y i)) → (i : ℕ) → i < d.n → y i < d.m
-  in-day y w i l = omega (arith, (w i l).to, d.within i)
+  in_day : (y : ℕ → ℕ) → ((i : ℕ) → i < d.n → In d i (y i)) → (i : ℕ) → i < d.n → y i < d.m
+  in_day y w i l = omega (arith, (w i l).to, d.within i)
 
-  z-window : (i : ℕ) → i < d.n → In d i (z i)
-  z-window i l = record { from = (legal.window i l).from; to = (legal.window i l).to }
+  z_window : (i : ℕ) → i < d.n → In d i (z i)
+  z_window i l = record { from = (legal.window i l).from; to = (legal.window i l).to }
 
   worth : (k : ℕ) → k < d.m → p k * count d.n z k ≤ p k * count d.n x k + gate (eqb a k) (p k)
   worth k l = elim (lt? (count d.n x k) (d.cap k)) [
     | inl free ↦ rw (said.unsold k free) (omega arith)
     | inr full ↦ omega (
       arith,
-      gate-one (eqb a k) (p k) (count d.n x k),
+      gate_one (eqb a k) (p k) (count d.n x k),
       mul-le-mul_left (p k) (fits k full),
     )
   ]
@@ -48,19 +48,19 @@ module _ (d : Instance) (x p z : ℕ → ℕ) (a : ℕ) (said : Accepted d x p) 
   unfolding total
   dual = omega (
     arith,
-    sum-le d.n (λ i. d.cost i (x i) + p (x i)) (λ i. d.cost i (z i) + p (z i)) (λ i l. said.best i (z i) l (z-window i l)),
-    sum-add d.n (λ i. d.cost i (x i)) (λ i. p (x i)),
-    sum-add d.n (λ i. d.cost i (z i)) (λ i. p (z i)),
-    exchange-all d.n d.m x p (in-day x said.legal.window),
-    exchange-all d.n d.m z p (in-day z z-window),
-    sum-le d.m (λ k. p k * count d.n z k) (λ k. p k * count d.n x k + gate (eqb a k) (p k)) worth,
-    sum-add d.m (λ k. p k * count d.n x k) (λ k. gate (eqb a k) (p k)),
-    sum-pick d.m a p,
+    sum_le d.n (λ i. d.cost i (x i) + p (x i)) (λ i. d.cost i (z i) + p (z i)) (λ i l. said.best i (z i) l (z_window i l)),
+    sum_add d.n (λ i. d.cost i (x i)) (λ i. p (x i)),
+    sum_add d.n (λ i. d.cost i (z i)) (λ i. p (z i)),
+    exchange_all d.n d.m x p (in_day x said.legal.window),
+    exchange_all d.n d.m z p (in_day z z_window),
+    sum_le d.m (λ k. p k * count d.n z k) (λ k. p k * count d.n x k + gate (eqb a k) (p k)) worth,
+    sum_add d.m (λ k. p k * count d.n x k) (λ k. gate (eqb a k) (p k)),
+    sum_pick d.m a p,
   )
 
 -- weak duality: the case in which a is no period of the day, so that nothing is added
-pub accepted-is-cheapest : (d : Instance) (x p : ℕ → ℕ) → Accepted d x p → Cheapest d x
-accepted-is-cheapest d x p said = record {
+pub accepted_is_cheapest : (d : Instance) (x p : ℕ → ℕ) → Accepted d x p → Cheapest d x
+accepted_is_cheapest d x p said = record {
   legal = said.legal;
-  least = λ z legal. omega (arith, dual d x p z d.m said (legal-in d (more d d.m) refl (λ i. omega arith) (λ i. omega arith) (λ j. omega arith) legal), gate-ge d.m d.m (p d.m) (omega arith));
+  least = λ z legal. omega (arith, dual d x p z d.m said (legal_in d (more d d.m) refl (λ i. omega arith) (λ i. omega arith) (λ j. omega arith) legal), gate_ge d.m d.m (p d.m) (omega arith));
 }

@@ -7,13 +7,13 @@ use Prim.Native.Nat.{ℕ, zero, suc, ◌+◌, ◌≤◌, ◌<◌}
 use native.Mathlib.Omega.{arith}
 use lib.Dec.{T, leb, eqb, leb→le, le→leb}
 use Rattle.assignment.specs.Sum.{gate, sum, count}
-use Rattle.assignment.specs.Assignment.{Instance, In, Plan, Legal, mustLand, room, Short}
+use Rattle.assignment.specs.Assignment.{Instance, In, Plan, Legal, must_land, room, Short}
 use Rattle.assignment.specs.Moves.{Moved, put}
 use Rattle.assignment.specs.Instances.{grown}
-use Rattle.assignment.proofs.Tests.{gate-eq, gate-ne, and_T, T_and, lt?, eq?}
-use Rattle.assignment.proofs.Sums.{count-ext, count-suc, count-zero}
-use Rattle.assignment.proofs.Moves.{moved-count, moved-window, put-moved}
-use Rattle.assignment.proofs.Stuck.{Stuck, ShortIn, stuck-is-short}
+use Rattle.assignment.proofs.Tests.{gate_eq, gate_ne, and_t, T_and, lt?, eq?}
+use Rattle.assignment.proofs.Sums.{count_ext, count_suc, count_zero}
+use Rattle.assignment.proofs.Moves.{moved_count, moved_window, put_moved}
+use Rattle.assignment.proofs.Stuck.{Stuck, ShortIn, stuck_is_short}
 
 pub record HasPlan (d : Instance) : Type 0 where
   pub plan : Plan
@@ -50,30 +50,30 @@ module _ (d : Instance) (x : Plan) (c : ℕ) where
 
   -- flight i goes to k, which has room
   module _ {y : Plan} (s : Nearly y) (i k : ℕ) (l : i < suc d.n) (w : In (grown d) i k) (free : count (suc d.n) y k < d.cap k) where
-    moved-room : (j : ℕ) → count (suc d.n) (put y i k) j + gate (eqb (y i) j) 1 ≤ d.cap j + gate (eqb c j) 1
-    moved-room j =
-        let counts = moved-count (grown d) (put-moved y i k) l j in
+    moved_room : (j : ℕ) → count (suc d.n) (put y i k) j + gate (eqb (y i) j) 1 ≤ d.cap j + gate (eqb c j) 1
+    moved_room j =
+        let counts = moved_count (grown d) (put_moved y i k) l j in
         elim (eq? k j) [
-          | inl e ↦ omega (arith, gate-eq k j 1 e, rw e at free)
-          | inr e ↦ omega (arith, gate-ne k j 1 e, s.room j)
+          | inl e ↦ omega (arith, gate_eq k j 1 e, rw e at free)
+          | inr e ↦ omega (arith, gate_ne k j 1 e, s.room j)
         ]
 
     window : (o : ℕ) → o < suc d.n → In (grown d) o (put y i k o)
-    window = moved-window (grown d) (put-moved y i k) l w s.window
+    window = moved_window (grown d) (put_moved y i k) l w s.window
 
-    moved-nearly : Nearly (put y i k)
-    moved-nearly = record { window = window; room = λ j. omega (arith, moved-room j) }
+    moved_nearly : Nearly (put y i k)
+    moved_nearly = record { window = window; room = λ j. omega (arith, moved_room j) }
 
     -- from c
-    moved-plan : y i ≡ c → HasPlan (grown d)
-    moved-plan e = record {
+    moved_plan : y i ≡ c → HasPlan (grown d)
+    moved_plan e = record {
       plan = put y i k;
-      legal = record { window = window; room = λ j. omega (arith, moved-room j, ap (λ o. gate (eqb o j) 1) e) };
+      legal = record { window = window; room = λ j. omega (arith, moved_room j, ap (λ o. gate (eqb o j) 1) e) };
     }
 
     -- from another period, which has room then
-    moved-free : (p : ℕ) → y i ≡ p → c ≢ p → count (suc d.n) (put y i k) p < d.cap p
-    moved-free p e o = omega (arith, moved-room p, gate-eq (y i) p 1 e, gate-ne c p 1 o)
+    moved_free : (p : ℕ) → y i ≡ p → c ≢ p → count (suc d.n) (put y i k) p < d.cap p
+    moved_free p e o = omega (arith, moved_room p, gate_eq (y i) p 1 e, gate_ne c p 1 o)
 
   -- if one of those who land in a .. b can go to a period k that has room, a legal plan exists
   abbrev Open : ℕ → ℕ → Type 0
@@ -138,14 +138,14 @@ module _ (d : Instance) (x : Plan) (c : ℕ) where
         from = from;
         to = to;
         full = λ k l h. elim (cover k l h) [
-          | inl e ↦ rw e (omega (arith, gate-ne c p 1 other))
+          | inl e ↦ rw e (omega (arith, gate_ne c p 1 other))
           | inr m ↦ t.full k m.0 m.1
         ];
         opened = λ y fine stay o k l h m w free. elim (cover (x o) h m) [
           | inr old ↦ t.opened y fine (λ q u v. stay q (omega arith) (omega arith)) o k l old.0 old.1 w free
-          | inl e ↦ t.opened (put y o k) (moved-nearly fine o k l w free)
-              (λ q u v. (put-moved y o k).others q (λ same. out (rw (same, e) at u) (rw (same, e) at v)) ∙ stay q (omega arith) (omega arith))
-              f.i p f.who f.from f.to fits (moved-free fine o k l w free p (stay o h m ∙ e) other)
+          | inl e ↦ t.opened (put y o k) (moved_nearly fine o k l w free)
+              (λ q u v. (put_moved y o k).others q (λ same. out (rw (same, e) at u) (rw (same, e) at v)) ∙ stay q (omega arith) (omega arith))
+              f.i p f.who f.from f.to fits (moved_free fine o k l w free p (stay o h m ∙ e) other)
         ];
       })
     ]
@@ -154,8 +154,8 @@ module _ (d : Instance) (x : Plan) (c : ℕ) where
         other e = out (omega (arith, t.low)) (omega (arith, t.high))
 
     -- the stretch grows no more
-    closed-is-short : {a b : ℕ} → Growing a b → Closed a b (suc d.n) → HasShort (grown d)
-    closed-is-short {a} {b} t closed = record {
+    closed_is_short : {a b : ℕ} → Growing a b → Closed a b (suc d.n) → HasShort (grown d)
+    closed_is_short {a} {b} t closed = record {
       a = short.a;
       b = short.b;
       from = short.from;
@@ -168,7 +168,7 @@ module _ (d : Instance) (x : Plan) (c : ℕ) where
         r k = leb a k && leb k b
 
         inside : (k : ℕ) → T (r k) → (a ≤ k) × (k ≤ b)
-        inside k q = let both = and_T (leb a k) (leb k b) q in (leb→le a k both.0, leb→le k b both.1)
+        inside k q = let both = and_t (leb a k) (leb k b) q in (leb→le a k both.0, leb→le k b both.1)
 
         must : (i k : ℕ) → i < suc d.n → a ≤ x i → x i ≤ b → In d i k → T (r k)
         must i k l h m w =
@@ -182,7 +182,7 @@ module _ (d : Instance) (x : Plan) (c : ℕ) where
           full = λ k q. omega (
             arith,
             t.full k (inside k q).0 (inside k q).1,
-            count-suc d.n x k,
+            count_suc d.n x k,
             ap (λ o. gate (eqb o k) 1) new,
           );
           closed = λ i k l q w. must i k (omega arith) (inside (x i) q).0 (inside (x i) q).1 w;
@@ -191,14 +191,14 @@ module _ (d : Instance) (x : Plan) (c : ℕ) where
         }
 
         short : ShortIn d r
-        short = stuck-is-short stuck
+        short = stuck_is_short stuck
 
     -- f counts the periods that are left
-    search-stretch : (f a b : ℕ) → a + d.m ≤ f + b → Growing a b → HasPlan (grown d) ⊎ HasShort (grown d)
-    search-stretch zero a b fuel t = absurd (omega (arith, t.to))
-    search-stretch (suc f) zero b fuel t = absurd (omega (arith, t.from))
-    search-stretch (suc f) (suc p) b fuel t = elim (leaver (suc p) b (suc d.n) (omega arith)) [
-      | inr closed ↦ inr (closed-is-short t closed)
+    search_stretch : (f a b : ℕ) → a + d.m ≤ f + b → Growing a b → HasPlan (grown d) ⊎ HasShort (grown d)
+    search_stretch zero a b fuel t = absurd (omega (arith, t.to))
+    search_stretch (suc f) zero b fuel t = absurd (omega (arith, t.from))
+    search_stretch (suc f) (suc p) b fuel t = elim (leaver (suc p) b (suc d.n) (omega arith)) [
+      | inr closed ↦ inr (closed_is_short t closed)
       | inl g ↦
           let w = near.window g.i g.who in
           let positive = proper.from g.i g.who in
@@ -208,41 +208,41 @@ module _ (d : Instance) (x : Plan) (c : ℕ) where
                 elim (grow t g p p b fits (omega arith) (omega arith) (omega arith) (omega arith) t.to
                 (λ k l h. elim (eq? k p) [ inl e ↦ inl e | inr e ↦ inr (omega arith, h) ])) [
                   | inl plan ↦ inl plan
-                  | inr more ↦ search-stretch f p b (omega arith) more
+                  | inr more ↦ search_stretch f p b (omega arith) more
                 ]
             | inr up ↦
                 let fits : In (grown d) g.i (suc b) = record { from = omega arith; to = up } in
                 elim (grow t g (suc b) (suc p) (suc b) fits (omega arith) (omega arith) (omega arith) (omega arith) (omega (arith, d.within g.i))
                 (λ k l h. elim (eq? k (suc b)) [ inl e ↦ inl e | inr e ↦ inr (l, omega arith) ])) [
                   | inl plan ↦ inl plan
-                  | inr more ↦ search-stretch f (suc p) (suc b) (omega arith) more
+                  | inr more ↦ search_stretch f (suc p) (suc b) (omega arith) more
                 ]
           ]
     ]
 
-    insert-new : HasPlan (grown d) ⊎ HasShort (grown d)
-    insert-new = elim (lt? (count (suc d.n) x c) (d.cap c + 1)) [
+    insert_new : HasPlan (grown d) ⊎ HasShort (grown d)
+    insert_new = elim (lt? (count (suc d.n) x c) (d.cap c + 1)) [
       | inl less ↦ inl (record {
         plan = x;
         legal = record {
           window = near.window;
-          room = λ k. elim (eq? c k) [ inl e ↦ rw (← e) (omega arith) | inr e ↦ omega (arith, near.room k, gate-ne c k 1 e) ];
+          room = λ k. elim (eq? c k) [ inl e ↦ rw (← e) (omega arith) | inr e ↦ omega (arith, near.room k, gate_ne c k 1 e) ];
         };
       })
       | inr full ↦
           let w = near.window d.n (omega arith) in
-          search-stretch d.m c c (omega arith) (record {
+          search_stretch d.m c c (omega arith) (record {
             low = omega arith;
             high = omega arith;
             from = omega (arith, proper.from d.n (omega arith), rw new at w.from);
             to = omega (arith, d.within d.n, rw new at w.to);
-            full = λ k l h. let e : c ≡ k = omega arith in rw (← e) (omega (arith, gate-eq c c 1 refl));
-            opened = λ y fine stay i k l h m fits free. moved-plan fine i k l fits free (stay i h m ∙ omega arith);
+            full = λ k l h. let e : c ≡ k = omega arith in rw (← e) (omega (arith, gate_eq c c 1 refl));
+            opened = λ y fine stay i k l h m fits free. moved_plan fine i k l fits free (stay i h m ∙ omega arith);
           })
     ]
 
 insert : (d : Instance) → Proper (grown d) → HasPlan d → HasPlan (grown d) ⊎ HasShort (grown d)
-insert d proper p = insert-new d x c proper (record { window = window; room = counts }) v.here
+insert d proper p = insert_new d x c proper (record { window = window; room = counts }) v.here
   where
     c : ℕ
     c = d.lo d.n
@@ -251,7 +251,7 @@ insert d proper p = insert-new d x c proper (record { window = window; room = co
     x = put p.plan d.n c
 
     v : Moved p.plan x d.n c
-    v = put-moved p.plan d.n c
+    v = put_moved p.plan d.n c
 
     old : (i : ℕ) → i < d.n → x i ≡ p.plan i
     old i l = v.others i (omega arith)
@@ -259,9 +259,9 @@ insert d proper p = insert-new d x c proper (record { window = window; room = co
     counts : (k : ℕ) → count (suc d.n) x k ≤ d.cap k + gate (eqb c k) 1
     counts k = omega (
       arith,
-      count-suc d.n x k,
+      count_suc d.n x k,
       ap (λ o. gate (eqb o k) 1) v.here,
-      count-ext d.n p.plan x old k,
+      count_ext d.n p.plan x old k,
       p.legal.room k,
     )
 
@@ -271,9 +271,9 @@ insert d proper p = insert-new d x c proper (record { window = window; room = co
       | inr e ↦ let w = p.legal.window i (omega arith) in rw (old i (omega arith)) (record { from = w.from; to = w.to })
     ]
 
-short-grows : {d : Instance} → HasShort d → HasShort (grown d)
-unfolding room mustLand sum
-short-grows s = record {
+short_grows : {d : Instance} → HasShort d → HasShort (grown d)
+unfolding room must_land sum
+short_grows s = record {
   a = s.a;
   b = s.b;
   from = s.from;
@@ -286,17 +286,17 @@ short-grows s = record {
 abbrev first : Instance → ℕ → Instance
 first d n = record { n = n; m = d.m; lo = d.lo; hi = d.hi; cost = d.cost; cap = d.cap; within = d.within }
 
-pub plan-or-short : (d : Instance) → Proper d → HasPlan d ⊎ HasShort d
-plan-or-short d proper = build d.n (omega arith)
+pub plan_or_short : (d : Instance) → Proper d → HasPlan d ⊎ HasShort d
+plan_or_short d proper = build d.n (omega arith)
   where
     build : (n : ℕ) → n ≤ d.n → HasPlan (first d n) ⊎ HasShort (first d n)
     build zero h = inl (record {
       plan = d.lo;
-      legal = record { window = λ i l. absurd (omega arith); room = λ k. omega (arith, count-zero d.lo k) };
+      legal = record { window = λ i l. absurd (omega arith); room = λ k. omega (arith, count_zero d.lo k) };
     })
     build (suc n) h =
         let fits : Proper (first d (suc n)) = record { from = λ i l. proper.from i (omega arith); some = λ i l. proper.some i (omega arith) } in
         elim (build n (omega arith)) [
           | inl p ↦ insert (first d n) fits p
-          | inr s ↦ inr (short-grows s)
+          | inr s ↦ inr (short_grows s)
         ]

@@ -12,9 +12,9 @@ use Rattle.assignment.specs.Moves.{Settled, Moved, put}
 use Rattle.assignment.specs.Instances.{grown}
 use Rattle.assignment.specs.Search.{Near}
 use Rattle.assignment.specs.Insertion.{Link, Sound, Root, Hop, Tree, Firm, Going}
-use Rattle.assignment.proofs.Tests.{gate-eq, gate-ne, gate-lt, gate-ge, lt?, eq?}
-use Rattle.assignment.proofs.Sums.{count-suc, count-ext, count-zero, sum-ext}
-use Rattle.assignment.proofs.Moves.{moved-count, moved-total, moved-settled, put-moved}
+use Rattle.assignment.proofs.Tests.{gate_eq, gate_ne, gate_lt, gate_ge, lt?, eq?}
+use Rattle.assignment.proofs.Sums.{count_suc, count_ext, count_zero, sum_ext}
+use Rattle.assignment.proofs.Moves.{moved_count, moved_total, moved_settled, put_moved}
 
 -- ---- the walk back from z: `at` is to take the next flight
 
@@ -58,7 +58,7 @@ going_start {d} {x} {q} {order} {via} {u} {z} s none tree chain = record {
     height₁ = put height₀ z 0
 
     v : Moved height₀ height₁ z 0
-    v = put-moved height₀ z 0
+    v = put_moved height₀ z 0
 
     less : {k : ℕ} (a : Link d x q order k) (j : ℕ) → k ≢ z → height₁ (x a.by) < height₁ k
     less {k} a j e = elim (eq? (x a.by) z) [
@@ -72,9 +72,9 @@ module _ {d : Instance} {x₀ x q order via : ℕ → ℕ} {u z at : ℕ} (s : G
 
   pub going_step : {y : ℕ → ℕ} → via at ≢ d.n → Moved x y (via at) at → Going d x₀ y q order via u z (x (via at))
   going_step {y} new v = record {
-    settled = moved-settled d v a.who a.fits a.tie s.settled;
-    counts = λ l. omega (arith, s.counts l, moved-count d v a.who l);
-    costs = omega (arith, s.costs, moved-total d v a.who, a.tie);
+    settled = moved_settled d v a.who a.fits a.tie s.settled;
+    counts = λ l. omega (arith, s.counts l, moved_count d v a.who l);
+    costs = omega (arith, s.costs, moved_total d v a.who, a.tie);
     tree = λ k b. elim (s.tree k (omega (arith, a.lower))) [
       | inl r ↦ inl r
       | inr o ↦
@@ -99,7 +99,7 @@ module _ {d : Instance} {x₀ x q order via : ℕ → ℕ} {u z at : ℕ} (s : G
         | inl f ↦ inl f
         | inr f ↦ inr (elim f [
           | inl g ↦ inl (g.0, omega (arith, g.1, r.others k e))
-          | inr g ↦ inr (elim (eq? g.link.by i) [ inl h ↦ moved-firm k e g h | inr h ↦ kept-firm k e g h ])
+          | inr g ↦ inr (elim (eq? g.link.by i) [ inl h ↦ moved_firm k e g h | inr h ↦ kept_firm k e g h ])
         ])
       ]
     ];
@@ -118,7 +118,7 @@ module _ {d : Instance} {x₀ x q order via : ℕ → ℕ} {u z at : ℕ} (s : G
       height₂ = put s.height j (suc (s.height at))
 
       r : Moved s.height height₂ j (suc (s.height at))
-      r = put-moved s.height j (suc (s.height at))
+      r = put_moved s.height j (suc (s.height at))
 
       away : at ≢ j
       away f = omega (arith, a.lower, ap order f)
@@ -128,8 +128,8 @@ module _ {d : Instance} {x₀ x q order via : ℕ → ℕ} {u z at : ℕ} (s : G
       ahead k g low = elim (lt? (order z) (s.height k)) [ inl b ↦ b | inr b ↦ absurd (omega (arith, g.apart b, a.lower)) ]
 
       -- held up by the flight that moves
-      moved-firm : (k : ℕ) → k ≢ j → (g : Firm d x q order s.height z at k) → g.link.by ≡ i → Firm d y q order height₂ z j k
-      moved-firm k e g h =
+      moved_firm : (k : ℕ) → k ≢ j → (g : Firm d x q order s.height z at k) → g.link.by ≡ i → Firm d y q order height₂ z j k
+      moved_firm k e g h =
           let far = ahead k g (rw h (omega arith)) in
           record {
             link = record {
@@ -143,8 +143,8 @@ module _ {d : Instance} {x₀ x q order via : ℕ → ℕ} {u z at : ℕ} (s : G
           }
 
       -- by one that stays
-      kept-firm : (k : ℕ) → k ≢ j → (g : Firm d x q order s.height z at k) → g.link.by ≢ i → Firm d y q order height₂ z j k
-      kept-firm k e g h =
+      kept_firm : (k : ℕ) → k ≢ j → (g : Firm d x q order s.height z at k) → g.link.by ≢ i → Firm d y q order height₂ z j k
+      kept_firm k e g h =
           let same = v.others g.link.by h in
           record {
             link = record {
@@ -167,11 +167,11 @@ pub record Ground (d : Instance) (x q : ℕ → ℕ) (u z : ℕ) : Type 0 where
   pub free : count d.n x z < d.cap z
   pub level : (k : ℕ) → In d d.n k → u ≤ d.cost d.n k + q k
 
-grow-in : {d : Instance} {i k : ℕ} → In d i k → In (grown d) i k
-grow-in w = record { from = w.from; to = w.to }
+grow_in : {d : Instance} {i k : ℕ} → In d i k → In (grown d) i k
+grow_in w = record { from = w.from; to = w.to }
 
-thin-in : {d : Instance} {i k : ℕ} → In (grown d) i k → In d i k
-thin-in w = record { from = w.from; to = w.to }
+thin_in : {d : Instance} {i k : ℕ} → In (grown d) i k → In d i k
+thin_in w = record { from = w.from; to = w.to }
 
 -- The new flight takes the last place, at cost and price u, which is least in its window. All landings are as before, but for one more in z,
 -- which had room. Periods that the new flight could have taken at u are held up by it.
@@ -183,34 +183,34 @@ module _ {d : Instance} {x₀ x y q order via : ℕ → ℕ} {u z at : ℕ} (s :
   old : (i : ℕ) → i < d.n → y i ≡ x i
   old i l = v.others i (omega arith)
 
-  pub going-count : (j : ℕ) → count (suc d.n) y j ≡ count d.n x₀ j + gate (eqb z j) 1
-  going-count j = omega (arith, count-suc d.n y j, ap (λ k. gate (eqb k j) 1) v.here, count-ext d.n x y old j, s.counts j)
+  pub going_count : (j : ℕ) → count (suc d.n) y j ≡ count d.n x₀ j + gate (eqb z j) 1
+  going_count j = omega (arith, count_suc d.n y j, ap (λ k. gate (eqb k j) 1) v.here, count_ext d.n x y old j, s.counts j)
 
-  at-z : (j : ℕ) → gate (eqb z j) 1 + count d.n x₀ j ≤ d.cap j
-  at-z j = elim (eq? z j) [
-    | inl e ↦ rw (← e) (omega (arith, gate-eq z z 1 refl, g.free))
-    | inr e ↦ omega (arith, gate-ne z j 1 e, g.room j)
+  at_z : (j : ℕ) → gate (eqb z j) 1 + count d.n x₀ j ≤ d.cap j
+  at_z j = elim (eq? z j) [
+    | inl e ↦ rw (← e) (omega (arith, gate_eq z z 1 refl, g.free))
+    | inr e ↦ omega (arith, gate_ne z j 1 e, g.room j)
   ]
 
-  pub going-accepted : Accepted (grown d) y q
-  going-accepted = record {
+  pub going_accepted : Accepted (grown d) y q
+  going_accepted = record {
     legal = record {
       window = λ i l. elim (eq? i d.n) [
-        | inl e ↦ rw (e, v.here) (grow-in root.fits)
-        | inr e ↦ rw (old i (omega arith)) (grow-in (s.settled.window i (omega arith)))
+        | inl e ↦ rw (e, v.here) (grow_in root.fits)
+        | inr e ↦ rw (old i (omega arith)) (grow_in (s.settled.window i (omega arith)))
       ];
-      room = λ j. omega (arith, going-count j, at-z j);
+      room = λ j. omega (arith, going_count j, at_z j);
     };
-    unsold = λ j free. g.unsold j (omega (arith, going-count j));
+    unsold = λ j free. g.unsold j (omega (arith, going_count j));
     best = λ i k l w. elim (eq? i d.n) [
-      | inl e ↦ rw (e, v.here) (omega (arith, root.pays, g.level k (thin-in (rw e at w))))
-      | inr e ↦ rw (old i (omega arith)) (s.settled.best i k (omega arith) (thin-in w))
+      | inl e ↦ rw (e, v.here) (omega (arith, root.pays, g.level k (thin_in (rw e at w))))
+      | inr e ↦ rw (old i (omega arith)) (s.settled.best i k (omega arith) (thin_in w))
     ];
   }
 
   pub going_end : Sound (grown d) y q
   going_end = record {
-    accepted = going-accepted;
+    accepted = going_accepted;
     height = s.height;
     held = λ k. elim (s.held k) [
       | inl e ↦ inl e
@@ -218,14 +218,14 @@ module _ {d : Instance} {x₀ x y q order via : ℕ → ℕ} {u z at : ℕ} (s :
         | inl r ↦ record {
           by = d.n;
           who = omega arith;
-          fits = grow-in r.0.fits;
+          fits = grow_in r.0.fits;
           lower = rw v.here (omega (arith, r.1, s.low));
           tie = rw v.here (r.0.pays ∙ sym root.pays);
         }
         | inr a ↦ let b = a.link in let same = old b.by b.who in record {
           by = b.by;
           who = omega (arith, b.who);
-          fits = grow-in b.fits;
+          fits = grow_in b.fits;
           lower = rw same b.lower;
           tie = rw same b.tie;
         }
@@ -233,14 +233,14 @@ module _ {d : Instance} {x₀ x y q order via : ℕ → ℕ} {u z at : ℕ} (s :
     ];
   }
 
-  pub going-total : q z ≡ 0 → total (grown d) y ≡ total d x₀ + u
+  pub going_total : q z ≡ 0 → total (grown d) y ≡ total d x₀ + u
   unfolding total sum
-  going-total none = omega (
+  going_total none = omega (
     arith,
     s.costs,
     root.pays,
     ap (d.cost d.n) v.here,
-    sum-ext d.n (λ i. d.cost i (y i)) (λ i. d.cost i (x i)) (λ i l. ap (d.cost i) (old i l)),
+    sum_ext d.n (λ i. d.cost i (y i)) (λ i. d.cost i (x i)) (λ i l. ap (d.cost i) (old i l)),
   )
 
 -- ---- the raise
@@ -267,20 +267,20 @@ module _ {d : Instance} {x p q root dist turn via : ℕ → ℕ} {t u z : ℕ} (
   close : (k : ℕ) → 0 < turn k → dist k ≤ u
   close k some = omega (arith, f.near.order k z some f.fresh, f.here)
 
-  far-off : (k : ℕ) → turn k ≡ 0 → q k ≡ p k
-  far-off k none = omega (arith, rise k, f.least k none)
+  far_off : (k : ℕ) → turn k ≡ 0 → q k ≡ p k
+  far_off k none = omega (arith, rise k, f.least k none)
 
-  rise-settled : Settled d x q
-  rise-settled = record {
+  rise_settled : Settled d x q
+  rise_settled = record {
     window = s.accepted.legal.window;
     best = λ i k l b. elim (lt? 0 (turn (x i))) [
       | inl some ↦ omega (arith, f.near.near i k l b some (inr (omega arith)), rise k, rise (x i), close (x i) some, f.here)
-      | inr none ↦ omega (arith, s.accepted.best i k l b, rise k, far-off (x i) (omega arith))
+      | inr none ↦ omega (arith, s.accepted.best i k l b, rise k, far_off (x i) (omega arith))
     ];
   }
 
-  pub z-free : q z ≡ 0
-  z-free = far-off z f.fresh ∙ s.accepted.unsold z f.free
+  pub z_free : q z ≡ 0
+  z_free = far_off z f.fresh ∙ s.accepted.unsold z f.free
 
   pub ground : Ground d x q u z
   ground = record {
@@ -288,7 +288,7 @@ module _ {d : Instance} {x p q root dist turn via : ℕ → ℕ} {t u z : ℕ} (
     free = f.free;
     unsold = λ k less. elim (lt? 0 (turn k)) [
       | inl some ↦ absurd (omega (arith, f.full k some))
-      | inr none ↦ far-off k (omega arith) ∙ s.accepted.unsold k less
+      | inr none ↦ far_off k (omega arith) ∙ s.accepted.unsold k less
     ];
     level = λ k b. omega (arith, rise k, f.reach k b, f.near.low k);
   }
@@ -297,37 +297,37 @@ module _ {d : Instance} {x p q root dist turn via : ℕ → ℕ} {t u z : ℕ} (
   unfoldable pub order : ℕ → ℕ
   order k = gate (ltb u (dist k)) (suc (suc t) + s.height k) + gate (ltb (dist k) (suc u)) (turn k + gate (ltb (turn k) 1) (suc t))
 
-  order-reached : (k : ℕ) → 0 < turn k → order k ≡ turn k
+  order_reached : (k : ℕ) → 0 < turn k → order k ≡ turn k
   unfolding order
-  order-reached k some = omega (
+  order_reached k some = omega (
     arith,
     close k some,
-    gate-ge u (dist k) (suc (suc t) + s.height k) (close k some),
-    gate-lt (dist k) (suc u) (turn k + gate (ltb (turn k) 1) (suc t)) (omega (arith, close k some)),
-    gate-ge (turn k) 1 (suc t) some,
+    gate_ge u (dist k) (suc (suc t) + s.height k) (close k some),
+    gate_lt (dist k) (suc u) (turn k + gate (ltb (turn k) 1) (suc t)) (omega (arith, close k some)),
+    gate_ge (turn k) 1 (suc t) some,
   )
 
-  order-next : (k : ℕ) → turn k ≡ 0 → dist k ≤ u → order k ≡ suc t
+  order_next : (k : ℕ) → turn k ≡ 0 → dist k ≤ u → order k ≡ suc t
   unfolding order
-  order-next k none b = omega (
+  order_next k none b = omega (
     arith,
-    gate-ge u (dist k) (suc (suc t) + s.height k) b,
-    gate-lt (dist k) (suc u) (turn k + gate (ltb (turn k) 1) (suc t)) (omega arith),
-    gate-lt (turn k) 1 (suc t) (omega arith),
+    gate_ge u (dist k) (suc (suc t) + s.height k) b,
+    gate_lt (dist k) (suc u) (turn k + gate (ltb (turn k) 1) (suc t)) (omega arith),
+    gate_lt (turn k) 1 (suc t) (omega arith),
   )
 
-  order-rest : (k : ℕ) → u < dist k → order k ≡ suc (suc t) + s.height k
+  order_rest : (k : ℕ) → u < dist k → order k ≡ suc (suc t) + s.height k
   unfolding order
-  order-rest k b = omega (
+  order_rest k b = omega (
     arith,
-    gate-lt u (dist k) (suc (suc t) + s.height k) b,
-    gate-ge (dist k) (suc u) (turn k + gate (ltb (turn k) 1) (suc t)) b,
+    gate_lt u (dist k) (suc (suc t) + s.height k) b,
+    gate_ge (dist k) (suc u) (turn k + gate (ltb (turn k) 1) (suc t)) b,
   )
 
   order_le : (k : ℕ) → dist k ≤ u → order k ≤ suc t
   order_le k b = elim (lt? 0 (turn k)) [
-    | inl some ↦ omega (arith, order-reached k some, f.near.top k)
-    | inr none ↦ omega (arith, order-next k (omega arith) b)
+    | inl some ↦ omega (arith, order_reached k some, f.near.top k)
+    | inr none ↦ omega (arith, order_next k (omega arith) b)
   ]
 
   tree : (k : ℕ) → dist k ≤ u → Tree d x q order via u k
@@ -341,8 +341,8 @@ module _ {d : Instance} {x p q root dist turn via : ℕ → ℕ} {t u z : ℕ} (
           who = a.who;
           fits = a.fits;
           lower = elim (lt? 0 (turn k)) [
-            | inl some ↦ omega (arith, order-reached k some, order-reached (x i) a.from, a.lower some)
-            | inr none ↦ omega (arith, order-next k (omega arith) b, order-reached (x i) a.from, f.near.top (x i))
+            | inl some ↦ omega (arith, order_reached k some, order_reached (x i) a.from, a.lower some)
+            | inr none ↦ omega (arith, order_next k (omega arith) b, order_reached (x i) a.from, f.near.top (x i))
           ];
           tie = omega (arith, a.far, rise k, rise (x i), close (x i) a.from);
         })
@@ -356,13 +356,13 @@ module _ {d : Instance} {x p q root dist turn via : ℕ → ℕ} {t u z : ℕ} (
     ])
     | inl b ↦ elim (s.held k) [
       | inl e ↦ inl (omega (arith, rise k))
-      | inr a ↦ inr (inr (rest k b a (not-near k b a)))
+      | inr a ↦ inr (inr (rest k b a (not_near k b a)))
     ]
   ]
     where
       -- a price that does not rise is not held up by one that does
-      not-near : (k : ℕ) → u < dist k → (a : Link d x p s.height k) → u ≤ dist (x a.by)
-      not-near k b a = elim (lt? 0 (turn (x a.by))) [
+      not_near : (k : ℕ) → u < dist k → (a : Link d x p s.height k) → u ≤ dist (x a.by)
+      not_near k b a = elim (lt? 0 (turn (x a.by))) [
         | inl some ↦ omega (arith, f.near.near a.by k a.who a.fits some (inr (omega arith)), a.tie, f.here)
         | inr none ↦ f.least (x a.by) (omega arith)
       ]
@@ -374,28 +374,28 @@ module _ {d : Instance} {x p q root dist turn via : ℕ → ℕ} {t u z : ℕ} (
         fits = a.fits;
         tie = omega (arith, a.tie, rise k, rise (x a.by));
         lower = elim (lt? u (dist (x a.by))) [
-          | inl e ↦ omega (arith, order-rest k b, order-rest (x a.by) e, a.lower)
-          | inr e ↦ omega (arith, order-rest k b, order_le (x a.by) e)
+          | inl e ↦ omega (arith, order_rest k b, order_rest (x a.by) e, a.lower)
+          | inr e ↦ omega (arith, order_rest k b, order_le (x a.by) e)
         ];
       }
 
   -- the start of the walk back
   pub going : Going d x x q order via u z z
-  going = going_start rise-settled z-free (λ k b. tree k (near-z k b)) chain
+  going = going_start rise_settled z_free (λ k b. tree k (near_z k b)) chain
     where
-      near-z : (k : ℕ) → order k ≤ order z → dist k ≤ u
-      near-z k b = elim (lt? u (dist k)) [
+      near_z : (k : ℕ) → order k ≤ order z → dist k ≤ u
+      near_z k b = elim (lt? u (dist k)) [
         | inr e ↦ e
-        | inl e ↦ absurd (omega (arith, order-rest k e, order_le z (omega (arith, f.here))))
+        | inl e ↦ absurd (omega (arith, order_rest k e, order_le z (omega (arith, f.here))))
       ]
 
 -- no flights yet, and no prices
-pub sound-start : {d : Instance} {x q : ℕ → ℕ} → d.n ≡ 0 → ((k : ℕ) → q k ≡ 0) → Sound d x q
-sound-start {d} {x} {q} empty none = record {
+pub sound_start : {d : Instance} {x q : ℕ → ℕ} → d.n ≡ 0 → ((k : ℕ) → q k ≡ 0) → Sound d x q
+sound_start {d} {x} {q} empty none = record {
   accepted = record {
     legal = record {
       window = λ i l. absurd (omega arith);
-      room = λ k. omega (arith, ap (λ n. count n x k) empty, count-zero x k);
+      room = λ k. omega (arith, ap (λ n. count n x k) empty, count_zero x k);
     };
     unsold = λ k _. none k;
     best = λ i k l w. absurd (omega arith);

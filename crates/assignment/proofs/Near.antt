@@ -10,10 +10,10 @@ use Rattle.assignment.specs.Moves.{Settled, Moved}
 use Rattle.assignment.specs.Search.{Near, Took, Offered}
 use Rattle.assignment.proofs.Tests.{lt?, eq?}
 
-pub near-start : {d : Instance} {x p root dist turn via : ℕ → ℕ} {z : ℕ} → Settled d x p → ((k : ℕ) → dist k ≡ root k)
+pub near_start : {d : Instance} {x p root dist turn via : ℕ → ℕ} {z : ℕ} → Settled d x p → ((k : ℕ) → dist k ≡ root k)
     → ((k : ℕ) → In d d.n k → root k ≡ d.cost d.n k + p k → via k ≡ d.n) → ((k : ℕ) → turn k ≡ 0)
     → Near d x p root dist turn via z 0 0
-near-start {x = x} s same new none = record {
+near_start {x = x} s same new none = record {
   settled = s;
   low = λ k. omega (arith, same k);
   how = λ k. inl (same k, new k);
@@ -28,9 +28,9 @@ near-start {x = x} s same new none = record {
 -- that is reached; and what is reached later is no nearer than what was reached before.
 module _ {d : Instance} {x p root dist turn via : ℕ → ℕ} {z t m : ℕ} (s : Near d x p root dist turn via z t m) where
   -- the nearest period that is not reached is reached
-  pub near-reach : {turn₂ : ℕ → ℕ} {at : ℕ} → m ≡ 0 → turn at ≡ 0 → ((k : ℕ) → turn k ≡ 0 → dist at ≤ dist k) → Moved turn turn₂ at (t + 1)
+  pub near_reach : {turn₂ : ℕ → ℕ} {at : ℕ} → m ≡ 0 → turn at ≡ 0 → ((k : ℕ) → turn k ≡ 0 → dist at ≤ dist k) → Moved turn turn₂ at (t + 1)
       → Near d x p root dist turn₂ via z (t + 1) d.n
-  near-reach {turn₂} {at} all fresh least v = record {
+  near_reach {turn₂} {at} all fresh least v = record {
     settled = s.settled;
     low = s.low;
     how = λ k. elim (s.how k) [
@@ -69,8 +69,8 @@ module _ {d : Instance} {x p root dist turn via : ℕ → ℕ} {z t m : ℕ} (s 
 
 module _ {d : Instance} {x p root dist turn via : ℕ → ℕ} {z t m : ℕ} (s : Near d x p root dist turn via z t (m + 1)) where
   -- flight m does not land in the last period reached
-  pub near-pass : turn (x m) ≢ t → Near d x p root dist turn via z t m
-  near-pass away = record {
+  pub near_pass : turn (x m) ≢ t → Near d x p root dist turn via z t m
+  near_pass away = record {
     settled = s.settled;
     low = s.low;
     how = s.how;
@@ -85,11 +85,11 @@ module _ {d : Instance} {x p root dist turn via : ℕ → ℕ} {z t m : ℕ} (s 
 
   -- it lands there, and offers the periods of its window
   module _ {dist₂ via₂ : ℕ → ℕ} {hi from base : ℕ} (l : m < d.n) (some : 0 < t) (here : turn (x m) ≡ t) (to : hi ≡ d.hi m)
-      (from_is : from ≡ dist (x m)) (base-is : base ≡ d.cost m (x m) + p (x m))
+      (from_is : from ≡ dist (x m)) (base_is : base ≡ d.cost m (x m) + p (x m))
       (o : Offered (d.lo m) hi (λ k. d.cost m k + p k) m from base (dist z) dist dist₂ via via₂) where
     -- a reached period is no farther than the last, and flight m pays least where it lands
     own : (k : ℕ) → Took (d.lo m) hi (λ k. d.cost m k + p k) m from base dist dist₂ via₂ k → base ≤ d.cost m k + p k
-    own k c = omega (arith, s.settled.best m k l (record { from = c.from-lo; to = omega (arith, c.to-hi) }), base-is)
+    own k c = omega (arith, s.settled.best m k l (record { from = c.from_lo; to = omega (arith, c.to_hi) }), base_is)
 
     -- what comes nearer is not reached
     fresh : (k : ℕ) → Took (d.lo m) hi (λ k. d.cost m k + p k) m from base dist dist₂ via₂ k → turn k ≡ 0
@@ -98,29 +98,29 @@ module _ {d : Instance} {x p root dist turn via : ℕ → ℕ} {z t m : ℕ} (s 
       | inr q ↦ omega arith
     ]
 
-    pub offer-kept : (j : ℕ) → 0 < turn j → dist₂ j ≡ dist j
-    offer-kept j q = elim (o j) [ inl c ↦ absurd (omega (arith, fresh j c)) | inr e ↦ e.far ]
+    pub offer_kept : (j : ℕ) → 0 < turn j → dist₂ j ≡ dist j
+    offer_kept j q = elim (o j) [ inl c ↦ absurd (omega (arith, fresh j c)) | inr e ↦ e.far ]
 
-    pub offer-falls : (k : ℕ) → dist₂ k ≤ dist k
-    offer-falls k = elim (o k) [ inl c ↦ omega (arith, c.less, c.far) | inr e ↦ omega (arith, e.far) ]
+    pub offer_falls : (k : ℕ) → dist₂ k ≤ dist k
+    offer_falls k = elim (o k) [ inl c ↦ omega (arith, c.less, c.far) | inr e ↦ omega (arith, e.far) ]
 
     reaches : (k : ℕ) → In d m k → min (dist₂ k) (dist₂ z) + base ≤ from + (d.cost m k + p k)
     reaches k w = elim (o k) [
       | inl c ↦ omega (arith, c.far)
-      | inr e ↦ omega (arith, e.far, offer-falls z, e.no-nearer w.from (omega (arith, w.to)))
+      | inr e ↦ omega (arith, e.far, offer_falls z, e.no_nearer w.from (omega (arith, w.to)))
     ]
 
-    pub near-offer : Near d x p root dist₂ turn via₂ z t m
-    near-offer = record {
+    pub near_offer : Near d x p root dist₂ turn via₂ z t m
+    near_offer = record {
       settled = s.settled;
-      low = λ k. omega (arith, offer-falls k, s.low k);
+      low = λ k. omega (arith, offer_falls k, s.low k);
       how = λ k. elim (o k) [
         | inl c ↦ rw c.by (inr (record {
           who = l;
-          fits = record { from = c.from-lo; to = omega (arith, c.to-hi) };
+          fits = record { from = c.from_lo; to = omega (arith, c.to_hi) };
           from = omega (arith, here);
           lower = λ q. absurd (omega (arith, fresh k c));
-          far = omega (arith, c.far, from_is, base-is, offer-kept (x m) (omega (arith, here)));
+          far = omega (arith, c.far, from_is, base_is, offer_kept (x m) (omega (arith, here)));
         }))
         | inr e ↦ rw e.by (elim (s.how k) [
           | inl f ↦ inl (e.far ∙ f.0, f.1)
@@ -129,23 +129,23 @@ module _ {d : Instance} {x p root dist turn via : ℕ → ℕ} {z t m : ℕ} (s 
             fits = a.fits;
             from = a.from;
             lower = a.lower;
-            far = omega (arith, e.far, offer-kept (x (via k)) a.from, a.far);
+            far = omega (arith, e.far, offer_kept (x (via k)) a.from, a.far);
           })
         ])
       ];
       top = s.top;
       order = λ j k q r. elim (o k) [
-        | inl c ↦ omega (arith, c.far, own k c, offer-kept j q, s.last j (x m) q here, from_is)
-        | inr e ↦ omega (arith, e.far, offer-kept j q, s.order j k q r)
+        | inl c ↦ omega (arith, c.far, own k c, offer_kept j q, s.last j (x m) q here, from_is)
+        | inr e ↦ omega (arith, e.far, offer_kept j q, s.order j k q r)
       ];
-      last = λ j k q r. omega (arith, offer-kept j q, offer-kept k (omega arith), s.last j k q r);
+      last = λ j k q r. omega (arith, offer_kept j q, offer_kept k (omega arith), s.last j k q r);
       near = λ i k b w q f. elim (eq? i m) [
-        | inl e ↦ rw e (omega (arith, reaches k (rw e at w), from_is, base-is, offer-kept (x m) (omega (arith, here))))
+        | inl e ↦ rw e (omega (arith, reaches k (rw e at w), from_is, base_is, offer_kept (x m) (omega (arith, here))))
         | inr e ↦ omega (
           arith,
-          offer-falls k,
-          offer-falls z,
-          offer-kept (x i) q,
+          offer_falls k,
+          offer_falls z,
+          offer_kept (x i) q,
           s.near i k b w q (elim f [ inl g ↦ inl g | inr g ↦ inr (omega arith) ]),
         )
       ];

@@ -30,11 +30,11 @@ row-ext zero g h e = refl
 row-ext (suc n) g h e = rw (row-ext n g h (λ i l. e i (omega arith)), e n (omega arith))
 
 -- a blank row has 0 at every index, past its end too
-pub blank-at : (m k : ℕ) → el (replicate m 0) k ≡ 0
-blank-at m k = elim (lt? k m) [
+pub blank_at : (m k : ℕ) → el (replicate m 0) k ≡ 0
+blank_at m k = elim (lt? k m) [
   | inl l ↦ get_or-replicate {A = ℕ} m k 0 0 l
   | inr l ↦ get_or-eq_default (replicate m 0) 0 (omega (arith, length-replicate {A = ℕ} m 0))
 ]
 
-pub set-moved : (l : List ℕ) (i v : ℕ) → i < length l → Moved (el l) (el (set l i v)) i v
-set-moved l i v b = record { here = get_or-set_same l i v 0 b; others = λ o e. get_or-set_other l i o v 0 e }
+pub set_moved : (l : List ℕ) (i v : ℕ) → i < length l → Moved (el l) (el (set l i v)) i v
+set_moved l i v b = record { here = get_or-set_same l i v 0 b; others = λ o e. get_or-set_other l i o v 0 e }

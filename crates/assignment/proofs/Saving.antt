@@ -10,7 +10,7 @@ use Rattle.assignment.specs.Assignment.{Instance, In, Plan, Legal, total}
 use Rattle.assignment.specs.Moves.{Moved, put}
 use Rattle.assignment.specs.Instances.{more}
 use Rattle.assignment.specs.Insertion.{Link, Held, Sound}
-use Rattle.assignment.proofs.Moves.{moved-count, moved-total, moved-window, put-moved}
+use Rattle.assignment.proofs.Moves.{moved_count, moved_total, moved_window, put_moved}
 
 -- a plan of the day with one more place in k, which saves the price of k
 pub record Saved (d : Instance) (x q : ℕ → ℕ) (k : ℕ) : Type 0 where
@@ -34,8 +34,8 @@ module _ (d : Instance) (q height : ℕ → ℕ) where
     | inl free ↦ record { plan = x; window = w; counts = λ j. omega arith; saves = omega arith }
     | inr a ↦
         let i = a.by in
-        let v = put-moved x i k in
-        let s : Saved d (put x i k) q (x i) = save t (x i) (put x i k) (omega (arith, a.lower)) (moved-window d v a.who a.fits w)
+        let v = put_moved x i k in
+        let s : Saved d (put x i k) q (x i) = save t (x i) (put x i k) (omega (arith, a.lower)) (moved_window d v a.who a.fits w)
         (λ j low. elim (held j (omega (arith, a.lower))) [
           | inl free ↦ inl free
           | inr o ↦ inr (stays v o (λ e. omega (arith, o.lower, ap (λ z. height (x z)) e)))
@@ -43,8 +43,8 @@ module _ (d : Instance) (q height : ℕ → ℕ) where
         record {
           plan = s.plan;
           window = s.window;
-          counts = λ j. omega (arith, s.counts j, moved-count d v a.who j);
-          saves = omega (arith, s.saves, moved-total d v a.who, a.tie);
+          counts = λ j. omega (arith, s.counts j, moved_count d v a.who j);
+          saves = omega (arith, s.saves, moved_total d v a.who, a.tie);
         }
   ]
 
@@ -53,12 +53,12 @@ module _ {d : Instance} {x q : ℕ → ℕ} (s : Sound d x q) where
   pub saved : (k : ℕ) → Saved d x q k
   saved k = save d q s.height (suc (s.height k)) k x (omega arith) s.accepted.legal.window (λ j _. s.held j)
 
-  pub saved-legal : (k : ℕ) → Legal (more d k) (saved k).plan
-  saved-legal k = record {
+  pub saved_legal : (k : ℕ) → Legal (more d k) (saved k).plan
+  saved_legal k = record {
     window = λ i l. let w = (saved k).window i l in record { from = w.from; to = w.to };
     room = λ j. omega (arith, (saved k).counts j, s.accepted.legal.room j);
   }
 
   -- no price is above the total
-  pub price-le : (k : ℕ) → q k ≤ total d x
-  price-le k = omega (arith, (saved k).saves)
+  pub price_le : (k : ℕ) → q k ≤ total d x
+  price_le k = omega (arith, (saved k).saves)

@@ -5,9 +5,9 @@ use Prim.Native.Nat.{ℕ, ◌+◌, ◌*◌, ◌≤◌, ◌<◌}
 use native.Mathlib.Omega.{arith}
 use lib.Dec.{T, leb, ltb, leb→le, le→leb}
 use Rattle.assignment.specs.Sum.{gate, count}
-use Rattle.assignment.specs.Assignment.{Instance, Plan, Legal, mustLand, room, Short}
-use Rattle.assignment.proofs.Tests.{gate-on, gate-le, gate-lt, gate-mul-le, and_T}
-use Rattle.assignment.proofs.Sums.{sum-le, exchange}
+use Rattle.assignment.specs.Assignment.{Instance, Plan, Legal, must_land, room, Short}
+use Rattle.assignment.proofs.Tests.{gate_on, gate_le, gate_lt, gate_mul_le, and_t}
+use Rattle.assignment.proofs.Sums.{sum_le, exchange}
 
 -- The proof on paper. In a legal plan whoever must land in a .. b does: his window lies in it. So those who must land there are at most those
 -- who land there, and counted period by period these are at most the capacities.
@@ -17,17 +17,17 @@ module _ {d : Instance} {a b : ℕ} (s : Short d a b) (y : Plan) (legal : Legal 
       let low = leb→le a (d.lo i) t.0 in
       let high = leb→le (d.hi i) b t.1 in
       let w = legal.window i l in
-      rw (gate-lt (y i) (b + 1) _ (omega (arith, w.to)), gate-on (leb a (y i)) 1 (le→leb a (y i) (omega (arith, w.from)))) (omega arith)
+      rw (gate_lt (y i) (b + 1) _ (omega (arith, w.to)), gate_on (leb a (y i)) 1 (le→leb a (y i) (omega (arith, w.from)))) (omega arith)
 
-  pub short-has-no-plan : ⊥
-  unfolding mustLand room
-  short-has-no-plan =
+  pub short_has_no_plan : ⊥
+  unfolding must_land room
+  short_has_no_plan =
       omega (
         arith,
         s.short,
-        sum-le d.n (λ i. gate (leb a (d.lo i) && leb (d.hi i) b) 1) (λ i. gate (ltb (y i) (b + 1)) (gate (leb a (y i)) 1))
-            (λ i l. gate-le (leb a (d.lo i) && leb (d.hi i) b) 1 _ (λ t. inside i l (and_T (leb a (d.lo i)) (leb (d.hi i) b) t))),
+        sum_le d.n (λ i. gate (leb a (d.lo i) && leb (d.hi i) b) 1) (λ i. gate (ltb (y i) (b + 1)) (gate (leb a (y i)) 1))
+            (λ i l. gate_le (leb a (d.lo i) && leb (d.hi i) b) 1 _ (λ t. inside i l (and_t (leb a (d.lo i)) (leb (d.hi i) b) t))),
         exchange d.n (b + 1) y (λ k. gate (leb a k) 1),
-        sum-le (b + 1) (λ k. gate (leb a k) 1 * count d.n y k) (λ k. gate (leb a k) (d.cap k))
-            (λ k l. gate-mul-le (leb a k) _ _ (λ t. legal.room k)),
+        sum_le (b + 1) (λ k. gate (leb a k) 1 * count d.n y k) (λ k. gate (leb a k) (d.cap k))
+            (λ k l. gate_mul_le (leb a k) _ _ (λ t. legal.room k)),
       )

@@ -8,64 +8,64 @@ use native.Mathlib.Omega.{arith}
 use lib.Dec.{T, ltb, eqb, ltb→lt, lt→ltb, nltb→le, eqb→eq, eqb_refl, not_T}
 use Rattle.assignment.specs.Sum.{gate}
 
-pub gate-on : (b : Bool) (x : ℕ) → T b → gate b x ≡ x
-gate-on true x t = refl
-gate-on false x t = absurd t
+pub gate_on : (b : Bool) (x : ℕ) → T b → gate b x ≡ x
+gate_on true x t = refl
+gate_on false x t = absurd t
 
-pub gate-off : (b : Bool) (x : ℕ) → T (not b) → gate b x ≡ 0
-gate-off true x t = absurd t
-gate-off false x t = refl
+pub gate_off : (b : Bool) (x : ℕ) → T (not b) → gate b x ≡ 0
+gate_off true x t = absurd t
+gate_off false x t = refl
 
-pub gate-le : (b : Bool) (x y : ℕ) → (T b → x ≤ y) → gate b x ≤ y
-gate-le true x y h = h tt
-gate-le false x y h = zero-le
+pub gate_le : (b : Bool) (x y : ℕ) → (T b → x ≤ y) → gate b x ≤ y
+gate_le true x y h = h tt
+gate_le false x y h = zero-le
 
-pub gate-mul-le : (b : Bool) (x y : ℕ) → (T b → x ≤ y) → gate b 1 * x ≤ gate b y
-gate-mul-le true x y h = omega (arith, h tt)
-gate-mul-le false x y h = omega arith
+pub gate_mul_le : (b : Bool) (x y : ℕ) → (T b → x ≤ y) → gate b 1 * x ≤ gate b y
+gate_mul_le true x y h = omega (arith, h tt)
+gate_mul_le false x y h = omega arith
 
-pub gate-mul-ge : (b : Bool) (x y : ℕ) → (T b → y ≤ x) → gate b y ≤ gate b 1 * x
-gate-mul-ge true x y h = omega (arith, h tt)
-gate-mul-ge false x y h = zero-le
+pub gate_mul_ge : (b : Bool) (x y : ℕ) → (T b → y ≤ x) → gate b y ≤ gate b 1 * x
+gate_mul_ge true x y h = omega (arith, h tt)
+gate_mul_ge false x y h = zero-le
 
-pub cond-on : (b : Bool) (x y : ℕ) → T b → cond b x y ≡ x
-cond-on true x y t = refl
-cond-on false x y t = absurd t
+pub cond_on : (b : Bool) (x y : ℕ) → T b → cond b x y ≡ x
+cond_on true x y t = refl
+cond_on false x y t = absurd t
 
-pub cond-off : (b : Bool) (x y : ℕ) → T (not b) → cond b x y ≡ y
-cond-off true x y t = absurd t
-cond-off false x y t = refl
+pub cond_off : (b : Bool) (x y : ℕ) → T (not b) → cond b x y ≡ y
+cond_off true x y t = absurd t
+cond_off false x y t = refl
 
-pub and_T : (a b : Bool) → T (a && b) → T a × T b
-and_T true b t = (tt, t)
-and_T false b t = absurd t
+pub and_t : (a b : Bool) → T (a && b) → T a × T b
+and_t true b t = (tt, t)
+and_t false b t = absurd t
 
 pub T_and : (a b : Bool) → T a → T b → T (a && b)
 T_and true b s t = t
 T_and false b s t = s
 
 -- the same of tests that are said to come out true
-pub and-true : {a b : Bool} → (a && b) ≡ true → (a ≡ true) × (b ≡ true)
-and-true {a} {b} e = both a b e
+pub and_true : {a b : Bool} → (a && b) ≡ true → (a ≡ true) × (b ≡ true)
+and_true {a} {b} e = both a b e
   where
     both : (a b : Bool) → (a && b) ≡ true → (a ≡ true) × (b ≡ true)
     both true b e = (refl, e)
     both false b e = (e, absurd (omega (arith, ap {B = ℕ} (λ b. cond b 1 0) e)))
 
-pub true-and : {a b : Bool} → a ≡ true → b ≡ true → (a && b) ≡ true
-true-and e f = rw (e, f)
+pub true_and : {a b : Bool} → a ≡ true → b ≡ true → (a && b) ≡ true
+true_and e f = rw (e, f)
 
 pub and_assoc : (a b c : Bool) → (a && (b && c)) ≡ (a && b && c)
 and_assoc true b c = refl
 and_assoc false b c = refl
 
-pub and-false : (a : Bool) → (a && false) ≡ false
-and-false true = refl
-and-false false = refl
+pub and_false : (a : Bool) → (a && false) ≡ false
+and_false true = refl
+and_false false = refl
 
-pub or-T : (a b : Bool) → T (a || b) → T a ⊎ T b
-or-T true b t = inl tt
-or-T false b t = inr t
+pub or_t : (a b : Bool) → T (a || b) → T a ⊎ T b
+or_t true b t = inl tt
+or_t false b t = inr t
 
 pub T-or-l : (a b : Bool) → T a → T (a || b)
 T-or-l true b t = tt
@@ -103,14 +103,14 @@ eq? a b = elim (lt? a b) [ inl l ↦ inr (omega arith) | inr g ↦ elim (lt? b a
 
 -- a gate that a comparison opens or shuts
 module _ (a b x : ℕ) where
-  pub gate-lt : a < b → gate (ltb a b) x ≡ x
-  gate-lt h = gate-on (ltb a b) x (lt→ltb a b h)
+  pub gate_lt : a < b → gate (ltb a b) x ≡ x
+  gate_lt h = gate_on (ltb a b) x (lt→ltb a b h)
 
-  pub gate-ge : b ≤ a → gate (ltb a b) x ≡ 0
-  gate-ge h = gate-off (ltb a b) x (not_T (ltb a b) (λ t. omega (arith, ltb→lt a b t)))
+  pub gate_ge : b ≤ a → gate (ltb a b) x ≡ 0
+  gate_ge h = gate_off (ltb a b) x (not_T (ltb a b) (λ t. omega (arith, ltb→lt a b t)))
 
-  pub gate-eq : a ≡ b → gate (eqb a b) x ≡ x
-  gate-eq h = gate-on (eqb a b) x (rw h (eqb_refl b))
+  pub gate_eq : a ≡ b → gate (eqb a b) x ≡ x
+  gate_eq h = gate_on (eqb a b) x (rw h (eqb_refl b))
 
-  pub gate-ne : a ≢ b → gate (eqb a b) x ≡ 0
-  gate-ne h = gate-off (eqb a b) x (not_T (eqb a b) (λ t. h (eqb→eq a b t)))
+  pub gate_ne : a ≢ b → gate (eqb a b) x ≡ 0
+  gate_ne h = gate_off (eqb a b) x (not_T (eqb a b) (λ t. h (eqb→eq a b t)))

@@ -42,12 +42,12 @@ pub record Accepted (d : Instance) (x p : ℕ → ℕ) : Type 0 where
   pub best : (i k : ℕ) → i < d.n → In d i k → d.cost i (x i) + p (x i) ≤ d.cost i k + p k
 
 -- how many flights can land in the periods a .. b alone, and how many landings those periods take
-unfoldable pub mustLand : Instance → ℕ → ℕ → ℕ
-mustLand d a b = sum d.n (λ i. gate (leb a (d.lo i) && leb (d.hi i) b) 1)
+unfoldable pub must_land : Instance → ℕ → ℕ → ℕ
+must_land d a b = sum d.n (λ i. gate (leb a (d.lo i) && leb (d.hi i) b) 1)
 
 unfoldable pub room : Instance → ℕ → ℕ → ℕ
 room d a b = sum (b + 1) (λ k. gate (leb a k) (d.cap k))
 
 -- more flights must land in a .. b than can
 pub record Short (d : Instance) (a b : ℕ) : Type 0 where
-  pub short : room d a b < mustLand d a b
+  pub short : room d a b < must_land d a b

@@ -26,9 +26,9 @@ ordered d π n = record {
 unfoldable pub until : ℕ → ℕ → ℕ → ℕ
 until f lo hi = min hi (cond (leb lo f) f hi)
 
-pub until-le : (f lo hi : ℕ) → until f lo hi ≤ hi
+pub until_le : (f lo hi : ℕ) → until f lo hi ≤ hi
 unfolding until
-until-le f lo hi = omega arith
+until_le f lo hi = omega arith
 
 -- no window reaches beyond f, but those that begin there
 abbrev pub restricted : Instance → ℕ → Instance
@@ -39,7 +39,7 @@ restricted d f = record {
   hi = λ i. until f (d.lo i) (d.hi i);
   cost = d.cost;
   cap = d.cap;
-  within = λ i. omega (arith, d.within i, until-le f (d.lo i) (d.hi i));
+  within = λ i. omega (arith, d.within i, until_le f (d.lo i) (d.hi i));
 }
 
 -- a landing in a closed period costs so much more

@@ -31,8 +31,8 @@ pub record Near (d : Instance) (x p root dist turn via : ℕ → ℕ) (z t m : �
 
 -- period k comes nearer, by way of flight i
 pub record Took (lo hi : ℕ) (pays : ℕ → ℕ) (i from base : ℕ) (dist dist₂ via₂ : ℕ → ℕ) (k : ℕ) : Type 0 where
-  pub from-lo : lo ≤ k
-  pub to-hi : k ≤ hi
+  pub from_lo : lo ≤ k
+  pub to_hi : k ≤ hi
   pub less : from + pays k < dist k + base
   pub far : dist₂ k + base ≡ from + pays k
   pub by : via₂ k ≡ i
@@ -41,7 +41,7 @@ pub record Took (lo hi : ℕ) (pays : ℕ → ℕ) (i from base : ℕ) (dist dis
 pub record Kept (lo hi : ℕ) (pays : ℕ → ℕ) (from base goal : ℕ) (dist dist₂ via via₂ : ℕ → ℕ) (k : ℕ) : Type 0 where
   pub far : dist₂ k ≡ dist k
   pub by : via₂ k ≡ via k
-  pub no-nearer : lo ≤ k → k ≤ hi → min (dist k) goal + base ≤ from + pays k
+  pub no_nearer : lo ≤ k → k ≤ hi → min (dist k) goal + base ≤ from + pays k
 
 abbrev pub Offered : (lo hi : ℕ) (pays : ℕ → ℕ) (i from base goal : ℕ) (dist dist₂ via via₂ : ℕ → ℕ) → Type 0
 Offered lo hi pays i from base goal dist dist₂ via via₂ =

@@ -3,7 +3,7 @@
 -- Assumes nothing.
 use Rattle.std.specs.Prelude.{◌≡◌, cond, List, ℕ, leb}
 use Rattle.day.specs.Day.{Day}
-use Rattle.legality.specs.Check.{planCheck, onPlan}
+use Rattle.legality.specs.Check.{plan_check, onPlan}
 use Rattle.legality.specs.declared.PlanCheck.{PlanCheck}
 use Rattle.choice.specs.declared.Which.{Which}
 use Rattle.choice.specs.declared.Which.TheVariants.{First, Second, Neither}
@@ -13,7 +13,7 @@ cheaper a b =
     onPlan a (λ s. onPlan b (λ t. cond (leb s t) First Second) (λ refusal. First)) (λ refusal. onPlan b (λ t. Second) (λ refusal. Neither))
 
 unfoldable pub choice : Day → (one other : List ℕ) → Which
-choice d one other = cheaper (planCheck d one) (planCheck d other)
+choice d one other = cheaper (plan_check d one) (plan_check d other)
 
 -- r is that row itself; where it is neither, what is said of r instead
 abbrev pub Chosen {ℓ} : {A : Type ℓ} → Which → (r one other : A) → Type ℓ → Type ℓ

@@ -1,7 +1,7 @@
 // The cheaper of two hold rows for a day, handed back itself.
 ghost use Rattle.std.specs.Prelude.{◌≡◌, []};
 ghost use Rattle.day.specs.Day.{lent};
-ghost use Rattle.legality.specs.Check.{planCheck, onPlan};
+ghost use Rattle.legality.specs.Check.{plan_check, onPlan};
 ghost use Rattle.choice.specs.Choice.{choice, Chosen};
 
 use legality::{PlanCheck, check_plan};
@@ -18,7 +18,7 @@ const NO_TOTAL: usize = 250880001;
 
 // The total of a legal plan; a number above every total for a row that is not legal.
 fn legal_total(capacities: &[u32], flights: &[u32], closing: u32, holds: &[u32]) -> usize
-    ensures { result ≡ onPlan (planCheck (lent capacities.entry flights.entry closing) holds.now) (λ t. t) (λ _. 250880001) }
+    ensures { result ≡ onPlan (plan_check (lent capacities.entry flights.entry closing) holds.now) (λ t. t) (λ _. 250880001) }
 {
     let found = check_plan(capacities, flights, closing, holds);
     match found {

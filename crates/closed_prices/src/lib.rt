@@ -1,6 +1,6 @@
 // The prices of the closed periods, those of capacity 0, for a plan whose other prices are known: a search leaves such periods out.
 ghost use Rattle.std.specs.Prelude.{◌<◌};
-ghost use Rattle.day.specs.Day.{lent, unlimited, flightCount};
+ghost use Rattle.day.specs.Day.{lent, unlimited, flight_count};
 ghost use Rattle.closed_prices.specs.ClosedPrices.{CanPay, Shortfall, LeastPrice, CanPrice, Priced};
 
 use day::{flight_at, flight_count, hold_cost, latest_of, of_period, wide};
@@ -15,7 +15,7 @@ fn shortfall(
     k: usize,
 ) -> usize
     requires can_pay { CanPay periods flights.now holds.now prices.now k }
-    requires i_bound { i < flightCount flights.now }
+    requires i_bound { i < flight_count flights.now }
     ensures { Shortfall periods flights.now holds.now prices.now i k result }
 {
     let f = flight_at(flights, i);

@@ -1,17 +1,17 @@
 -- What is known while flights get their holds one after another, and while holds are taken back. Only inner contracts cite it.
 -- Assumes nothing.
 use Rattle.std.specs.Prelude.{◌≡◌, Bool, true, false, List, ℕ, ◌+◌, ◌≤◌, ◌<◌, length}
-use Rattle.day.specs.Day.{Day, N, ofPeriod, takesOf, countedOf, valid}
+use Rattle.day.specs.Day.{Day, N, of_period, takes_of, counted_of, valid}
 use Rattle.day.specs.Plan.{breaks}
 use Rattle.completion.specs.declared.Most.{Most}
 use Rattle.completion.specs.declared.Most.TheVariants.{Flights, NoPlan}
-use Rattle.completion.specs.Rest.{Completed, Unbroken, placesLeft}
+use Rattle.completion.specs.Rest.{Completed, Unbroken, places_left}
 
 -- the front of the row has what each of the n counted periods takes
 pub record AllPlaces (capacities : List ℕ) (closing : ℕ) (left : List ℕ) (n : ℕ) : Type 0 where
-  pub counted_is : n ≡ countedOf (length capacities) closing
+  pub counted_is : n ≡ counted_of (length capacities) closing
   pub there : n ≤ length left
-  pub each : (k : ℕ) → 1 ≤ k → k ≤ n → ofPeriod left k ≡ takesOf capacities closing k
+  pub each : (k : ℕ) → 1 ≤ k → k ≤ n → of_period left k ≡ takes_of capacities closing k
 
 -- the first i flights of a valid day have holds that break nothing, and the row has the places that they leave; holds from i on are free
 pub record Partial (d : Day) (holds left : List ℕ) (i : ℕ) : Type 0 where
@@ -19,7 +19,7 @@ pub record Partial (d : Day) (holds left : List ℕ) (i : ℕ) : Type 0 where
   pub each : length holds ≡ N d
   pub upto : i ≤ N d
   pub unbroken : Unbroken d holds i
-  pub left_is : left ≡ placesLeft d holds i
+  pub left_is : left ≡ places_left d holds i
 
 -- the flight at table place i has landed too, or its hold breaks the row and nothing changed
 abbrev pub Landed : Day → (holds left : List ℕ) → ℕ → Bool → Type 0

@@ -2,7 +2,7 @@
 // in its periods and the flights behind them, is a day too, and the search for a short stretch decides whether that has a legal plan.
 ghost use Rattle.std.specs.Prelude.{◌≡◌, true, cond, ◌+◌, ◌*◌, ◌<◌, ◌≤◌, length, get_or};
 ghost use Rattle.answers.specs.Decides.{Decides};
-ghost use Rattle.day.specs.Day.{lent, mostPeriods, width, countedOf, hasLine, valid, N};
+ghost use Rattle.day.specs.Day.{lent, most_periods, width, counted_of, has_line, valid, N};
 ghost use Rattle.day.specs.Plan.{HasPlan};
 ghost use Rattle.completion.specs.Rest.{rest_of};
 ghost use Rattle.completion.specs.Loop.{AllPlaces, Partial, Landed, MostCompleted};
@@ -20,7 +20,7 @@ pub enum Most {
 
 // The places of a day before any flight has landed, at the front of a row; how many periods are counted.
 pub fn all_places(capacities: &[u32], closing: u32, left: &mut [u32]) -> usize
-    requires { (length capacities.now ≤ mostPeriods) × (length capacities.now < length left.old) }
+    requires { (length capacities.now ≤ most_periods) × (length capacities.now < length left.old) }
     ensures { AllPlaces capacities.now closing left.new result }
 {
     let periods = capacities.len();
@@ -77,8 +77,8 @@ fn give_back(
 
 // How many may land in the closing period yet, on a day of so many periods: any number, if there is no closing line.
 fn closing_left(periods: usize, closing: u32, left: &[u32]) -> u32
-    requires { (periods ≤ mostPeriods) × (length left.now ≡ countedOf periods closing) }
-    ensures { result ≡ cond (hasLine closing) (get_or left.now periods 0) closing }
+    requires { (periods ≤ most_periods) × (length left.now ≡ counted_of periods closing) }
+    ensures { result ≡ cond (has_line closing) (get_or left.now periods 0) closing }
 {
     if closing < UNLIMITED {
         return left[periods];
@@ -88,7 +88,7 @@ fn closing_left(periods: usize, closing: u32, left: &[u32]) -> u32
 
 // Whether the flights from table place i on have a legal plan of their own in the places left, on a day of so many periods.
 fn rest_has_plan(periods: usize, flights: &[u32], closing: u32, i: usize, left: &[u32]) -> bool
-    requires { (periods ≤ mostPeriods) × (length left.now ≡ countedOf periods closing) × (i * width ≤ length flights.now) × (valid (rest_of left.now flights.now periods closing i) ≡ true) }
+    requires { (periods ≤ most_periods) × (length left.now ≡ counted_of periods closing) × (i * width ≤ length flights.now) × (valid (rest_of left.now flights.now periods closing i) ≡ true) }
     ensures { Decides result (HasPlan (rest_of left.now flights.now periods closing i)) }
 {
     let start = i * WIDTH;

@@ -6,60 +6,60 @@ use mathlib.Core.Bool.{Bool, true, false, cond}
 use Prim.Native.Nat.{ℕ, zero, suc, ◌+◌, ◌≤◌, ◌<◌, zero-le}
 use native.Mathlib.Omega.{arith}
 use native.Mathlib.Numerals.{add-one}
-use Rattle.assignment.proofs.Tests.{eq?, and-true, true-and, and-false}
+use Rattle.assignment.proofs.Tests.{eq?, and_true, true_and, and_false}
 use Rattle.day.specs.Day.{all}
 use Rattle.day.specs.Plan.{first_of}
 
 -- ---- all
 
-pub all-next : (n : ℕ) (f : ℕ → Bool) → all n f ≡ true → f n ≡ true → all (n + 1) f ≡ true
+pub all_next : (n : ℕ) (f : ℕ → Bool) → all n f ≡ true → f n ≡ true → all (n + 1) f ≡ true
 unfolding all
-all-next n f e h = rw (add-one, e, h)
+all_next n f e h = rw (add-one, e, h)
 
-pub all-at : (n : ℕ) (f : ℕ → Bool) → all n f ≡ true → (i : ℕ) → i < n → f i ≡ true
+pub all_at : (n : ℕ) (f : ℕ → Bool) → all n f ≡ true → (i : ℕ) → i < n → f i ≡ true
 unfolding all
-all-at zero f e i l = absurd (omega arith)
-all-at (suc n) f e i l = elim (eq? i n) [ inl s ↦ rw s (and-true {a = all n f} {b = f n} e).1 | inr o ↦ all-at n f (and-true {a = all n f} {b = f n} e).0 i (omega arith) ]
+all_at zero f e i l = absurd (omega arith)
+all_at (suc n) f e i l = elim (eq? i n) [ inl s ↦ rw s (and_true {a = all n f} {b = f n} e).1 | inr o ↦ all_at n f (and_true {a = all n f} {b = f n} e).0 i (omega arith) ]
 
 pub all_from : (n : ℕ) (f : ℕ → Bool) → ((i : ℕ) → i < n → f i ≡ true) → all n f ≡ true
 unfolding all
 all_from zero f h = refl
-all_from (suc n) f h = true-and (all_from n f (λ i l. h i (omega arith))) (h n (omega arith))
+all_from (suc n) f h = true_and (all_from n f (λ i l. h i (omega arith))) (h n (omega arith))
 
-pub all-not : (n : ℕ) (f : ℕ → Bool) (i : ℕ) → i < n → f i ≡ false → all n f ≡ false
+pub all_not : (n : ℕ) (f : ℕ → Bool) (i : ℕ) → i < n → f i ≡ false → all n f ≡ false
 unfolding all
-all-not zero f i l e = absurd (omega arith)
-all-not (suc n) f i l e = elim (eq? i n) [
-  | inl s ↦ rw (ap f (sym s) ∙ e) (and-false (all n f))
-  | inr o ↦ rw (all-not n f i (omega arith) e)
+all_not zero f i l e = absurd (omega arith)
+all_not (suc n) f i l e = elim (eq? i n) [
+  | inl s ↦ rw (ap f (sym s) ∙ e) (and_false (all n f))
+  | inr o ↦ rw (all_not n f i (omega arith) e)
 ]
 
 -- ---- the first
 
-pub first-at : (n : ℕ) (f : ℕ → Bool) (i : ℕ) → i < n → ((j : ℕ) → j < i → f j ≡ false) → f i ≡ true → first_of n f ≡ i
+pub first_at : (n : ℕ) (f : ℕ → Bool) (i : ℕ) → i < n → ((j : ℕ) → j < i → f j ≡ false) → f i ≡ true → first_of n f ≡ i
 unfolding first_of
-first-at zero f i l h e = absurd (omega arith)
-first-at (suc n) f zero l h e = rw e
-first-at (suc n) f (suc i) l h e = rw (h 0 (omega arith)) (ap suc (first-at n (λ j. f (suc j)) i (omega arith) (λ j b. h (suc j) (omega arith)) e))
+first_at zero f i l h e = absurd (omega arith)
+first_at (suc n) f zero l h e = rw e
+first_at (suc n) f (suc i) l h e = rw (h 0 (omega arith)) (ap suc (first_at n (λ j. f (suc j)) i (omega arith) (λ j b. h (suc j) (omega arith)) e))
 
-pub first-none : (n : ℕ) (f : ℕ → Bool) → ((j : ℕ) → j < n → f j ≡ false) → first_of n f ≡ n
+pub first_none : (n : ℕ) (f : ℕ → Bool) → ((j : ℕ) → j < n → f j ≡ false) → first_of n f ≡ n
 unfolding first_of
-first-none zero f h = refl
-first-none (suc n) f h = rw (h 0 (omega arith)) (ap suc (first-none n (λ j. f (suc j)) (λ j b. h (suc j) (omega arith))))
+first_none zero f h = refl
+first_none (suc n) f h = rw (h 0 (omega arith)) (ap suc (first_none n (λ j. f (suc j)) (λ j b. h (suc j) (omega arith))))
 
-pub first-le : (n : ℕ) (f : ℕ → Bool) → first_of n f ≤ n
+pub first_le : (n : ℕ) (f : ℕ → Bool) → first_of n f ≤ n
 unfolding first_of
-first-le zero f = zero-le
-first-le (suc n) f = elim (f 0) as (λ t. cond t 0 (suc (first_of n (λ i. f (suc i)))) ≤ suc n) [
+first_le zero f = zero-le
+first_le (suc n) f = elim (f 0) as (λ t. cond t 0 (suc (first_of n (λ i. f (suc i)))) ≤ suc n) [
   | true ↦ zero-le
-  | false ↦ omega (arith, first-le n (λ i. f (suc i)))
+  | false ↦ omega (arith, first_le n (λ i. f (suc i)))
 ]
 
 -- it is the same for tests that agree
-pub first-same : (n : ℕ) (f g : ℕ → Bool) → ((i : ℕ) → i < n → f i ≡ g i) → first_of n f ≡ first_of n g
+pub first_same : (n : ℕ) (f g : ℕ → Bool) → ((i : ℕ) → i < n → f i ≡ g i) → first_of n f ≡ first_of n g
 unfolding first_of
-first-same zero f g h = refl
-first-same (suc n) f g h = rw (h 0 (omega arith), first-same n (λ i. f (suc i)) (λ i. g (suc i)) (λ i l. h (suc i) (omega arith)))
+first_same zero f g h = refl
+first_same (suc n) f g h = rw (h 0 (omega arith), first_same n (λ i. f (suc i)) (λ i. g (suc i)) (λ i l. h (suc i) (omega arith)))
 
 -- where the first is none, none passes
 pub none_passes : (n : ℕ) (f : ℕ → Bool) → first_of n f ≡ n → (i : ℕ) → i < n → f i ≡ false

@@ -3,30 +3,30 @@
 -- Assumes nothing.
 use Rattle.std.specs.Prelude.{◌≡◌, ◌≢◌, ℕ, zero, suc, ◌+◌, ◌*◌, ◌<◌, List, [], ◌∷◌, ◌++◌, length, take, drop}
 use Rattle.day.specs.declared.Flight.{Flight}
-use Rattle.day.specs.Day.{Day, N, width, column, flightAt, flightCount}
+use Rattle.day.specs.Day.{Day, N, width, column, flight_at, flight_count}
 
 -- the first n flights of a row
-unfoldable pub firstFlights : ℕ → List ℕ → List Flight
-firstFlights zero row = []
-firstFlights (suc n) row = firstFlights n row ++ (flightAt row n ∷ [])
+unfoldable pub first_flights : ℕ → List ℕ → List Flight
+first_flights zero row = []
+first_flights (suc n) row = first_flights n row ++ (flight_at row n ∷ [])
 
-unfoldable pub flightsOf : Day → List Flight
-flightsOf d = firstFlights (N d) d.flights
+unfoldable pub flights_of : Day → List Flight
+flights_of d = first_flights (N d) d.flights
 
 -- a flight's numbers, in sheet order
-abbrev pub numbersOf : Flight → List ℕ
-numbersOf f = f.number ∷ f.due ∷ f.rate ∷ f.after ∷ f.jump ∷ f.limit ∷ f.late ∷ []
+abbrev pub numbers_of : Flight → List ℕ
+numbers_of f = f.number ∷ f.due ∷ f.rate ∷ f.after ∷ f.jump ∷ f.limit ∷ f.late ∷ []
 
 -- the row of a list of flights
 unfoldable pub row_of : List Flight → List ℕ
 row_of [] = []
-row_of (f ∷ fs) = numbersOf f ++ row_of fs
+row_of (f ∷ fs) = numbers_of f ++ row_of fs
 
 -- two rows of as many flights that differ in column j alone, if at all
 pub record SameBut (j : ℕ) (flights others : List ℕ) : Type 0 where
   pub as_many : length flights ≡ length others
-  pub columns : (c i : ℕ) → c < width → c ≢ j → i < flightCount flights → column c flights i ≡ column c others i
+  pub columns : (c i : ℕ) → c < width → c ≢ j → i < flight_count flights → column c flights i ≡ column c others i
 
 -- the row with this flight at table place i
-unfoldable pub withFlight : List ℕ → ℕ → Flight → List ℕ
-withFlight row i f = take (i * width) row ++ (numbersOf f ++ drop (i * width + width) row)
+unfoldable pub with_flight : List ℕ → ℕ → Flight → List ℕ
+with_flight row i f = take (i * width) row ++ (numbers_of f ++ drop (i * width + width) row)

@@ -6,9 +6,9 @@ use Rattle.std.proofs.Common.{arith}
 use Rattle.assignment.specs.Assignment as A
 use Rattle.day.specs.Day.{Day, P, N, due, takes, cost, last_of, last}
 
-pub last-to : (d : Day) (i : ℕ) → last d i ≤ P d + 1
+pub last_to : (d : Day) (i : ℕ) → last d i ≤ P d + 1
 unfolding last_of
-last-to d i = omega arith
+last_to d i = omega arith
 
 abbrev pub instance : Day → A.Instance
 instance d = record {
@@ -18,5 +18,5 @@ instance d = record {
   hi = last d;
   cost = λ i k. cost d i (k - due d i);
   cap = takes d;
-  within = λ i. omega (arith, last-to d i);
+  within = λ i. omega (arith, last_to d i);
 }

@@ -1,7 +1,7 @@
 // The day in two lent rows and its closing number: its numbers, its check (refusal 6), and what a hold costs and where it lands.
 ghost use Rattle.std.specs.Prelude.{◌≡◌, true, false, ◌&&◌, ◌||◌, ◌+◌, ◌*◌, ◌/◌, ◌%◌, ◌^◌, ◌<◌, ◌≤◌, ◌++◌, length, take, drop, leb};
-ghost use Rattle.day.specs.Day.{lent, unlimited, mostPeriods, mostFlights, column, number_of, dueOf, rateOf, limitOf, width, flightAt, flightCount, ofPeriod, takesOf, countedOf, holdCost, landOf, latestOf, last_of, all, inside, missing, flightFits, capacitiesFit, in_range, isNew, valid};
-ghost use Rattle.day.specs.Flights.{withFlight};
+ghost use Rattle.day.specs.Day.{lent, unlimited, most_periods, most_flights, column, number_of, due_of, rate_of, limit_of, width, flight_at, flight_count, of_period, takes_of, counted_of, hold_cost, land_of, latest_of, last_of, all, inside, missing, flight_fits, capacities_fit, in_range, is_new, valid};
+ghost use Rattle.day.specs.Flights.{with_flight};
 ghost use Rattle.day.specs.Chains.{chains, Linked, Passed};
 
 // The most periods and the most flights of a day.
@@ -55,7 +55,7 @@ pub fn copy_front(from: &[u32], to: &mut [u32], n: usize)
 
 // How many flights the row has.
 pub fn flight_count(flights: &[u32]) -> usize
-    ensures { result ≡ flightCount flights.now }
+    ensures { result ≡ flight_count flights.now }
 {
     flights.len() / WIDTH
 }
@@ -78,21 +78,21 @@ pub fn number_of(flights: &[u32], i: usize) -> usize
 
 pub fn due_of(flights: &[u32], i: usize) -> usize
     requires { (i + 1) * width ≤ length flights.now }
-    ensures { (result ≡ dueOf flights.now i) × (result < 2 ^ 32) }
+    ensures { (result ≡ due_of flights.now i) × (result < 2 ^ 32) }
 {
     field(flights, i, 1)
 }
 
 pub fn rate_of(flights: &[u32], i: usize) -> usize
     requires { (i + 1) * width ≤ length flights.now }
-    ensures { (result ≡ rateOf flights.now i) × (result < 2 ^ 32) }
+    ensures { (result ≡ rate_of flights.now i) × (result < 2 ^ 32) }
 {
     field(flights, i, 2)
 }
 
 pub fn limit_of(flights: &[u32], i: usize) -> usize
     requires { (i + 1) * width ≤ length flights.now }
-    ensures { (result ≡ limitOf flights.now i) × (result < 2 ^ 32) }
+    ensures { (result ≡ limit_of flights.now i) × (result < 2 ^ 32) }
 {
     field(flights, i, 5)
 }
@@ -100,7 +100,7 @@ pub fn limit_of(flights: &[u32], i: usize) -> usize
 // The flight at table place i.
 pub fn flight_at(flights: &[u32], i: usize) -> Flight
     requires { (i + 1) * width ≤ length flights.now }
-    ensures { result ≡ flightAt flights.now i }
+    ensures { result ≡ flight_at flights.now i }
 {
     let at = i * WIDTH;
     Flight {
@@ -117,7 +117,7 @@ pub fn flight_at(flights: &[u32], i: usize) -> Flight
 // Stores a flight at table place i.
 pub fn put_flight(flights: &mut [u32], i: usize, f: Flight)
     requires { (i + 1) * width ≤ length flights.old }
-    ensures { flights.new ≡ withFlight flights.old i f }
+    ensures { flights.new ≡ with_flight flights.old i f }
 {
     let at = i * WIDTH;
     flights[at] = f.number;
@@ -131,7 +131,7 @@ pub fn put_flight(flights: &mut [u32], i: usize, f: Flight)
 
 // What a row of an entry for each period has for period k: 0 for a period that it has not.
 pub fn of_period(row: &[u32], k: usize) -> usize
-    ensures { (result ≡ ofPeriod row.now k) × (result < 2 ^ 32) }
+    ensures { (result ≡ of_period row.now k) × (result < 2 ^ 32) }
 {
     if k == 0 {
         return 0;
@@ -145,8 +145,8 @@ pub fn of_period(row: &[u32], k: usize) -> usize
 
 // How many flights period k takes, the closing period included.
 pub fn capacity_of(capacities: &[u32], closing: u32, k: usize) -> usize
-    requires { length capacities.now ≤ mostPeriods }
-    ensures { result ≡ takesOf capacities.now closing k }
+    requires { length capacities.now ≤ most_periods }
+    ensures { result ≡ takes_of capacities.now closing k }
 {
     if k <= capacities.len() {
         return of_period(capacities, k);
@@ -160,8 +160,8 @@ pub fn capacity_of(capacities: &[u32], closing: u32, k: usize) -> usize
 // The last period whose landings are counted against a number, on a day of so many periods: the closing period, if there is a closing
 // line. A price row has an entry for each of them.
 pub fn counted_of(periods: usize, closing: u32) -> usize
-    requires { periods ≤ mostPeriods }
-    ensures { result ≡ countedOf periods closing }
+    requires { periods ≤ most_periods }
+    ensures { result ≡ counted_of periods closing }
 {
     if closing < UNLIMITED {
         return periods + 1;
@@ -172,7 +172,7 @@ pub fn counted_of(periods: usize, closing: u32) -> usize
 // The period in which the flight at table place i lands.
 pub fn land_of(flights: &[u32], holds: &[u32], i: usize) -> usize
     requires { (i < length holds.now) × ((i + 1) * width ≤ length flights.now) }
-    ensures { (result ≡ landOf flights.now holds.now i) × (result < 2 ^ 33) }
+    ensures { (result ≡ land_of flights.now holds.now i) × (result < 2 ^ 33) }
 {
     due_of(flights, i) + wide(holds[i])
 }
@@ -181,7 +181,7 @@ pub fn land_of(flights: &[u32], holds: &[u32], i: usize) -> usize
 // fits.
 pub fn hold_cost(f: Flight, hold: usize) -> usize
     requires { hold < 2 ^ 32 }
-    ensures { result ≡ holdCost f hold }
+    ensures { result ≡ hold_cost f hold }
 {
     let run = wide(f.rate) * hold;
     if wide(f.after) < wide(f.late) + hold {
@@ -193,15 +193,15 @@ pub fn hold_cost(f: Flight, hold: usize) -> usize
 // What a hold costs the flight at table place i.
 pub fn cost_of(flights: &[u32], i: usize, hold: usize) -> usize
     requires { ((i + 1) * width ≤ length flights.now) × (hold < 2 ^ 32) }
-    ensures { result ≡ holdCost (flightAt flights.now i) hold }
+    ensures { result ≡ hold_cost (flight_at flights.now i) hold }
 {
     hold_cost(flight_at(flights, i), hold)
 }
 
 // The last period that a flight's limit allows, on a day of so many periods.
 pub fn latest_of(periods: usize, f: Flight) -> usize
-    requires { periods ≤ mostPeriods }
-    ensures { result ≡ latestOf periods f }
+    requires { periods ≤ most_periods }
+    ensures { result ≡ latest_of periods f }
 {
     if f.limit == MISSING {
         return periods + 1;
@@ -211,7 +211,7 @@ pub fn latest_of(periods: usize, f: Flight) -> usize
 
 // The last period in which a flight may land, on a day of so many periods: the closing period where its limit is missing or reaches further.
 pub fn last_of(periods: usize, f: Flight) -> usize
-    requires { periods ≤ mostPeriods }
+    requires { periods ≤ most_periods }
     ensures { result ≡ last_of periods f }
 {
     let closing = periods + 1;
@@ -243,7 +243,7 @@ fn limit_fits(limit: u32) -> bool
 
 // A flight's numbers are within the table's ranges, on a day of so many periods.
 pub fn flight_fits(periods: usize, f: Flight) -> bool
-    ensures { result ≡ flightFits periods f }
+    ensures { result ≡ flight_fits periods f }
 {
     let named = both(
         is_inside(1, 9999, wide(f.number)),
@@ -256,7 +256,7 @@ pub fn flight_fits(periods: usize, f: Flight) -> bool
 
 // A row of capacities is within the table's range.
 pub fn capacities_fit(capacities: &[u32]) -> bool
-    ensures { result ≡ capacitiesFit capacities.now }
+    ensures { result ≡ capacities_fit capacities.now }
 {
     let mut k = 0;
     while k < capacities.len() {
@@ -306,7 +306,7 @@ fn entry_of(x: u8) -> usize
 // the row `above` for each flight the next above it in its chain.
 fn is_new(flights: &[u32], nearest: &[u8], above: &[u8], i: usize) -> bool
     requires { ((i + 1) * width ≤ length flights.now) × Linked flights.now nearest.now above.now i }
-    ensures { result ≡ isNew flights.now i }
+    ensures { result ≡ is_new flights.now i }
 {
     let number = number_of(flights, i);
     let chain = chain_of(flights, i);
@@ -324,7 +324,7 @@ fn is_new(flights: &[u32], nearest: &[u8], above: &[u8], i: usize) -> bool
 // Each of the n flights has a number of its own, with rows in which those passed are chained on the way.
 fn numbers_differ_in(flights: &[u32], n: usize, nearest: &mut [u8], above: &mut [u8]) -> bool
     requires { Passed flights.now n nearest.old above.old 0 }
-    ensures { result ≡ all n (isNew flights.now) }
+    ensures { result ≡ all n (is_new flights.now) }
 {
     let mut i = 0;
     while i < n {
@@ -340,8 +340,8 @@ fn numbers_differ_in(flights: &[u32], n: usize, nearest: &mut [u8], above: &mut 
 }
 
 fn numbers_differ(flights: &[u32], n: usize) -> bool
-    requires { (n * width ≤ length flights.now) × (n ≤ mostFlights) }
-    ensures { result ≡ all n (isNew flights.now) }
+    requires { (n * width ≤ length flights.now) × (n ≤ most_flights) }
+    ensures { result ≡ all n (is_new flights.now) }
 {
     let mut nearest = [0u8; CHAINS];
     let mut above = [0u8; FLIGHTS];
@@ -350,8 +350,8 @@ fn numbers_differ(flights: &[u32], n: usize) -> bool
 
 // Every flight is in range, and has a number of its own.
 fn flights_fit(periods: usize, flights: &[u32], n: usize) -> bool
-    requires { (n * width ≤ length flights.now) × (n ≤ mostFlights) }
-    ensures { result ≡ (all n (in_range periods flights.now) && all n (isNew flights.now)) }
+    requires { (n * width ≤ length flights.now) × (n ≤ most_flights) }
+    ensures { result ≡ (all n (in_range periods flights.now) && all n (is_new flights.now)) }
 {
     if !flights_in_range(periods, flights, n) {
         return false;

@@ -10,28 +10,28 @@ use Rattle.day.specs.Day.{Day}
 use Rattle.full_plan.specs.FullPlan.{FullPlan}
 use Rattle.period_card.specs.declared.Card.{Card}
 use Rattle.plan_reader.specs.PlanReading.{ReadPlan}
-use Rattle.sheet.specs.Sheet.{Reading, answer_of, closingOf}
+use Rattle.sheet.specs.Sheet.{Reading, answer_of, closing_of}
 use Rattle.desk.specs.declared.CardCode.{CardCode}
 use Rattle.desk.specs.declared.ReadingCode.{ReadingCode}
 
 -- 1 for the first row, 2 for the second, 0 for neither
-abbrev pub rowNumber : Which → ℕ
-rowNumber First = 1
-rowNumber Second = 2
-rowNumber Neither = 0
+abbrev pub row_number : Which → ℕ
+row_number First = 1
+row_number Second = 2
+row_number Neither = 0
 
 -- what the reader answers in numbers: P, N or the refusal, and "beside P and N" the closing number, "0 in a refusal" (#108)
-abbrev pub readingCode : Reading → ReadingCode
-readingCode r = record {
+abbrev pub reading_code : Reading → ReadingCode
+reading_code r = record {
   number = (code_of (answer_of r)).number;
   first = (code_of (answer_of r)).first;
   second = (code_of (answer_of r)).second;
-  closing = closingOf r;
+  closing = closing_of r;
 }
 
 -- the card's answer in numbers, beside its words and its size
-abbrev pub cardCode : Card → CardCode
-cardCode c = record {
+abbrev pub card_code : Card → CardCode
+card_code c = record {
   number = (code_of c.answer).number;
   first = (code_of c.answer).first;
   second = (code_of c.answer).second;

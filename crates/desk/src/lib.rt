@@ -5,17 +5,17 @@ ghost use Rattle.answers.specs.Answers.{code_of};
 ghost use Rattle.answers.specs.Decides.{Decides};
 ghost use Rattle.day.specs.Day.{lent, valid};
 ghost use Rattle.day.specs.Plan.{Cheapest, Accepted};
-ghost use Rattle.sheet.specs.Sheet.{reading, capacitiesAfter, flightsAfter};
-ghost use Rattle.sheet_writer.specs.Write.{writeAnswer, writeAfter};
-ghost use Rattle.quick_plan.specs.Calls.{quickPlan};
-ghost use Rattle.growth_plan.specs.Growing.{growthPlan};
-ghost use Rattle.period_card.specs.PeriodCard.{periodCard};
+ghost use Rattle.sheet.specs.Sheet.{reading, capacities_after, flights_after};
+ghost use Rattle.sheet_writer.specs.Write.{write_answer, write_after};
+ghost use Rattle.quick_plan.specs.Calls.{quick_plan};
+ghost use Rattle.growth_plan.specs.Growing.{growth_plan};
+ghost use Rattle.period_card.specs.PeriodCard.{period_card};
 ghost use Rattle.choice.specs.Choice.{choice};
-ghost use Rattle.board.specs.Board.{boardAnswer, boardAfter};
-ghost use Rattle.plan_text.specs.PlanText.{planTextAnswer, planTextAfter};
+ghost use Rattle.board.specs.Board.{board_answer, board_after};
+ghost use Rattle.plan_text.specs.PlanText.{plan_text_answer, plan_text_after};
 ghost use Rattle.forecast_plan.specs.Forecast.{forecasts};
-ghost use Rattle.forecast_plan.specs.Calls.{forecastPlan};
-ghost use Rattle.desk.specs.Desk.{rowNumber, readingCode, cardCode, Exported, ReadExported};
+ghost use Rattle.forecast_plan.specs.Calls.{forecast_plan};
+ghost use Rattle.desk.specs.Desk.{row_number, reading_code, card_code, Exported, ReadExported};
 
 use answers::{Code, code_of};
 use choice::Which;
@@ -46,9 +46,9 @@ pub extern "C" fn hold_desk_read_sheet(
     capacities: &mut [u32],
     flights: &mut [u32],
 ) -> ReadingCode
-    ensures value { result ≡ readingCode (reading sheet.now capacities.old flights.old) }
-    ensures capacities_after { capacities.new ≡ capacitiesAfter (reading sheet.now capacities.old flights.old) capacities.old }
-    ensures flights_after { flights.new ≡ flightsAfter (reading sheet.now capacities.old flights.old) flights.old }
+    ensures value { result ≡ reading_code (reading sheet.now capacities.old flights.old) }
+    ensures capacities_after { capacities.new ≡ capacities_after (reading sheet.now capacities.old flights.old) capacities.old }
+    ensures flights_after { flights.new ≡ flights_after (reading sheet.now capacities.old flights.old) flights.old }
 {
     let read = sheet_reader::read_sheet(sheet, capacities, flights);
     let answer = read.answer;
@@ -70,8 +70,8 @@ pub extern "C" fn hold_desk_write_sheet(
     text: &mut [u8],
     place: usize,
 ) -> Code
-    ensures value { result ≡ code_of (writeAnswer (lent capacities.entry flights.entry closing) text.old place) }
-    ensures text_after { text.new ≡ writeAfter (lent capacities.entry flights.entry closing) text.old place }
+    ensures value { result ≡ code_of (write_answer (lent capacities.entry flights.entry closing) text.old place) }
+    ensures text_after { text.new ≡ write_after (lent capacities.entry flights.entry closing) text.old place }
 {
     code_of(sheet_writer::write_sheet(capacities, flights, closing, text, place))
 }
@@ -83,8 +83,8 @@ pub extern "C" fn hold_desk_quick_plan(
     closing: u32,
     holds: &mut [u32],
 ) -> Code
-    ensures value { result ≡ code_of (quickPlan (lent capacities.entry flights.entry closing) holds.old).answer }
-    ensures holds_after { holds.new ≡ (quickPlan (lent capacities.entry flights.entry closing) holds.old).holds }
+    ensures value { result ≡ code_of (quick_plan (lent capacities.entry flights.entry closing) holds.old).answer }
+    ensures holds_after { holds.new ≡ (quick_plan (lent capacities.entry flights.entry closing) holds.old).holds }
 {
     code_of(quick_plan::quick_plan(capacities, flights, closing, holds))
 }
@@ -97,8 +97,8 @@ pub extern "C" fn hold_desk_growth_plan(
     growth: u32,
     holds: &mut [u32],
 ) -> Code
-    ensures value { result ≡ code_of (growthPlan growth (lent capacities.entry flights.entry closing) holds.old).answer }
-    ensures holds_after { holds.new ≡ (growthPlan growth (lent capacities.entry flights.entry closing) holds.old).holds }
+    ensures value { result ≡ code_of (growth_plan growth (lent capacities.entry flights.entry closing) holds.old).answer }
+    ensures holds_after { holds.new ≡ (growth_plan growth (lent capacities.entry flights.entry closing) holds.old).holds }
 {
     code_of(growth_plan::growth_plan(capacities, flights, closing, growth, holds))
 }
@@ -110,7 +110,7 @@ pub extern "C" fn hold_desk_period_card(
     closing: u32,
     period: u32,
 ) -> CardCode
-    ensures { result ≡ cardCode (periodCard (lent capacities.entry flights.entry closing) period) }
+    ensures { result ≡ card_code (period_card (lent capacities.entry flights.entry closing) period) }
 {
     let card = period_card::period_card(capacities, flights, closing, period);
     let answer = card.answer;
@@ -161,7 +161,7 @@ pub extern "C" fn hold_desk_choice(
     first: &[u32],
     second: &[u32],
 ) -> u32
-    ensures { result ≡ rowNumber (choice (lent capacities.entry flights.entry closing) first.now second.now) }
+    ensures { result ≡ row_number (choice (lent capacities.entry flights.entry closing) first.now second.now) }
 {
     let chosen = choice::which_row(capacities, flights, closing, first, second);
     match chosen {
@@ -179,8 +179,8 @@ pub extern "C" fn hold_desk_board(
     holds: &[u32],
     board: &mut [u32],
 ) -> Code
-    ensures value { result ≡ code_of (boardAnswer (lent capacities.entry flights.entry closing) holds.now board.old) }
-    ensures board_after { board.new ≡ boardAfter (lent capacities.entry flights.entry closing) holds.now board.old }
+    ensures value { result ≡ code_of (board_answer (lent capacities.entry flights.entry closing) holds.now board.old) }
+    ensures board_after { board.new ≡ board_after (lent capacities.entry flights.entry closing) holds.now board.old }
 {
     code_of(board::make_board(capacities, flights, closing, holds, board))
 }
@@ -194,8 +194,8 @@ pub extern "C" fn hold_desk_plan_text(
     text: &mut [u8],
     place: usize,
 ) -> Code
-    ensures value { result ≡ code_of (planTextAnswer (lent capacities.entry flights.entry closing) holds.now text.old place) }
-    ensures text_after { text.new ≡ planTextAfter (lent capacities.entry flights.entry closing) holds.now text.old place }
+    ensures value { result ≡ code_of (plan_text_answer (lent capacities.entry flights.entry closing) holds.now text.old place) }
+    ensures text_after { text.new ≡ plan_text_after (lent capacities.entry flights.entry closing) holds.now text.old place }
 {
     code_of(plan_text::write_plan(capacities, flights, closing, holds, text, place))
 }
@@ -224,8 +224,8 @@ pub extern "C" fn hold_desk_forecast_plan(
     rows: &[u32],
     holds: &mut [u32],
 ) -> Code
-    ensures value { result ≡ code_of (forecastPlan (lent capacities.entry flights.entry closing) (forecasts count factor weights.entry rows.entry) holds.old).answer }
-    ensures holds_after { holds.new ≡ (forecastPlan (lent capacities.entry flights.entry closing) (forecasts count factor weights.entry rows.entry) holds.old).holds }
+    ensures value { result ≡ code_of (forecast_plan (lent capacities.entry flights.entry closing) (forecasts count factor weights.entry rows.entry) holds.old).answer }
+    ensures holds_after { holds.new ≡ (forecast_plan (lent capacities.entry flights.entry closing) (forecasts count factor weights.entry rows.entry) holds.old).holds }
 {
     code_of(forecast_plan::forecast_plan(
         capacities, flights, closing, count, factor, weights, rows, holds,

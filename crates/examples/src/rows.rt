@@ -1,7 +1,7 @@
 // Rows and buffers of rubbish, made anew for each call, and the comparisons after it. What a call changed though it had to leave it is
 // reported as `CHANGED`.
 ghost use Rattle.std.specs.Prelude.{◌≡◌, ◌+◌, ◌*◌, length};
-ghost use Rattle.day.specs.Day.{mostPeriods, mostFlights, width};
+ghost use Rattle.day.specs.Day.{most_periods, most_flights, width};
 
 use crate::show::{put, put_row};
 use answers::Code;
@@ -22,19 +22,19 @@ const MORE_PRICES: usize = PERIODS + 2;
 const LONGER_ROW: usize = FLIGHT_ROW + WIDTH;
 
 pub fn capacity_row(value: u32) -> [u32; MORE_PERIODS]
-    ensures { mostPeriods + 1 ≡ length result }
+    ensures { most_periods + 1 ≡ length result }
 {
     [value; MORE_PERIODS]
 }
 
 pub fn rubbish_row() -> [u32; MORE_PERIODS]
-    ensures { mostPeriods + 1 ≡ length result }
+    ensures { most_periods + 1 ≡ length result }
 {
     capacity_row(RUBBISH)
 }
 
 pub fn price_row() -> [u32; MORE_PRICES]
-    ensures { mostPeriods + 2 ≡ length result }
+    ensures { most_periods + 2 ≡ length result }
 {
     [RUBBISH; MORE_PRICES]
 }
@@ -53,27 +53,27 @@ pub fn forecast_rows(capacity: u32) -> [u32; 2 * MORE_PERIODS] {
 }
 
 pub fn flight_row() -> [u32; LONGER_ROW]
-    ensures { mostFlights * width + width ≡ length result }
+    ensures { most_flights * width + width ≡ length result }
 {
     [RUBBISH; LONGER_ROW]
 }
 
 pub fn hold_row() -> [u32; MORE_FLIGHTS]
-    ensures { mostFlights + 1 ≡ length result }
+    ensures { most_flights + 1 ≡ length result }
 {
     [RUBBISH; MORE_FLIGHTS]
 }
 
 // Everyone lands when due.
 pub fn due_row() -> [u32; MORE_FLIGHTS]
-    ensures { mostFlights + 1 ≡ length result }
+    ensures { most_flights + 1 ≡ length result }
 {
     [0; MORE_FLIGHTS]
 }
 
 // Everyone is held for one period.
 pub fn later_row() -> [u32; MORE_FLIGHTS]
-    ensures { mostFlights + 1 ≡ length result }
+    ensures { most_flights + 1 ≡ length result }
 {
     [1; MORE_FLIGHTS]
 }

@@ -11,37 +11,37 @@ use lib.ListN.{length, set, take, drop, length-set}
 use Rattle.assignment.specs.Sum.{sum}
 use Rattle.assignment.specs.Rows.{el}
 use Rattle.assignment.specs.Moves.{Moved}
-use Rattle.assignment.proofs.Rows.{set-moved}
-use Rattle.assignment.proofs.Sums.{sum-most}
+use Rattle.assignment.proofs.Rows.{set_moved}
+use Rattle.assignment.proofs.Sums.{sum_most}
 use Rattle.assignment.proofs.Tests.{eq?}
-use Rattle.forecast_plan.specs.Forecast.{forecastAt, firstRoom}
-use Rattle.forecast_plan.specs.Loop.{Adding, waitsOf, airborne, Weighed}
-use Rattle.forecast_plan.proofs.Landing.{room-closing, room-from, room-to, room-same}
-use Rattle.forecast_plan.proofs.Parts.{parted-days, parted-part, part-size, part_at}
+use Rattle.forecast_plan.specs.Forecast.{forecast_at, first_room}
+use Rattle.forecast_plan.specs.Loop.{Adding, waits_of, airborne, Weighed}
+use Rattle.forecast_plan.proofs.Landing.{room_closing, room_from, room_to, room_same}
+use Rattle.forecast_plan.proofs.Parts.{parted_days, parted_part, part_size, part_at}
 
 -- ---- one forecast
 
 module _ {capacities waits : List ℕ} {weight due : ℕ} {air₀ air : List ℕ} {j : ℕ} (a : Adding capacities waits weight due air₀ air j) where
   -- what the period before asks for
-  pub adding-there : {lands : ℕ} → lands ≡ firstRoom (el waits) capacities j → due < j
-      → (1 ≤ j - 1) × (j - 1 ≤ length capacities) × (j - 1 < length waits) × (lands ≡ firstRoom (el waits) capacities (j - 1 + 1))
-  adding-there e l =
+  pub adding_there : {lands : ℕ} → lands ≡ first_room (el waits) capacities j → due < j
+      → (1 ≤ j - 1) × (j - 1 ≤ length capacities) × (j - 1 < length waits) × (lands ≡ first_room (el waits) capacities (j - 1 + 1))
+  adding_there e l =
       let same : j - 1 + 1 ≡ j = omega arith in
       (omega (arith, a.from), omega (arith, a.upto), omega (arith, a.upto, a.waited, a.periods), rw same e)
 
-  module _ {lands : ℕ} (e : lands ≡ firstRoom (el waits) capacities (j - 1)) (l : due < j) where
-    pub adding-lands : j - 1 ≤ lands
-    adding-lands = omega (arith, e, room-from (el waits) capacities (j - 1))
+  module _ {lands : ℕ} (e : lands ≡ first_room (el waits) capacities (j - 1)) (l : due < j) where
+    pub adding_lands : j - 1 ≤ lands
+    adding_lands = omega (arith, e, room_from (el waits) capacities (j - 1))
 
-    pub adding-fits : weight * (lands - (j - 1)) ≤ 97000
-    adding-fits =
-        omega (arith, mul-le-mul {n₁ = weight} {m₁ = lands - (j - 1)} {n₂ = 1000} {m₂ = 97} a.odds (omega (arith, e, a.periods, room-to (el waits) capacities (j - 1) (omega (arith, a.upto)))))
+    pub adding_fits : weight * (lands - (j - 1)) ≤ 97000
+    adding_fits =
+        omega (arith, mul-le-mul {n₁ = weight} {m₁ = lands - (j - 1)} {n₂ = 1000} {m₂ = 97} a.odds (omega (arith, e, a.periods, room_to (el waits) capacities (j - 1) (omega (arith, a.upto)))))
 
-    pub adding-low : el air (j - 1) ≤ 768000
-    adding-low = omega (arith, a.others (j - 1) (omega arith), a.low (j - 1) (omega arith) (omega (arith, a.upto)))
+    pub adding_low : el air (j - 1) ≤ 768000
+    adding_low = omega (arith, a.others (j - 1) (omega arith), a.low (j - 1) (omega arith) (omega (arith, a.upto)))
 
-    pub adding-next : Adding capacities waits weight due air₀ (set air (j - 1) (el air (j - 1) + weight * (lands - (j - 1)))) (j - 1)
-    adding-next = record {
+    pub adding_next : Adding capacities waits weight due air₀ (set air (j - 1) (el air (j - 1) + weight * (lands - (j - 1)))) (j - 1)
+    adding_next = record {
       periods = a.periods;
       waited = a.waited;
       sizes = length-set air (j - 1) _ ∙ a.sizes;
@@ -58,53 +58,53 @@ module _ {capacities waits : List ℕ} {weight due : ℕ} {air₀ air : List ℕ
     }
       where
         m : Moved (el air) (el (set air (j - 1) (el air (j - 1) + weight * (lands - (j - 1))))) (j - 1) (el air (j - 1) + weight * (lands - (j - 1)))
-        m = set-moved air (j - 1) (el air (j - 1) + weight * (lands - (j - 1))) (omega (arith, a.upto, a.sizes, a.periods))
+        m = set_moved air (j - 1) (el air (j - 1) + weight * (lands - (j - 1))) (omega (arith, a.upto, a.sizes, a.periods))
 
-  pub adding-end : j ≤ due → Adding capacities waits weight due air₀ air due
-  adding-end l = subst (λ k. Adding capacities waits weight due air₀ air k) (omega (arith, a.downto)) a
+  pub adding_end : j ≤ due → Adding capacities waits weight due air₀ air due
+  adding_end l = subst (λ k. Adding capacities waits weight due air₀ air k) (omega (arith, a.downto)) a
 
 -- ---- all forecasts
 
 module _ {p : ℕ} {weights rows waits : List ℕ} {due : ℕ} {air : List ℕ} {s : ℕ} (w : Weighed p weights rows waits due air s) where
   -- the periods in the air under s forecasts are at most 96 for each thousandth
-  pub weighed-low : (q : ℕ) → due ≤ q → q ≤ p + 1 → el air q ≤ s * 96000
-  weighed-low q from to =
+  pub weighed_low : (q : ℕ) → due ≤ q → q ≤ p + 1 → el air q ≤ s * 96000
+  weighed_low q from to =
       omega (
         arith,
         w.sums q from to,
-        sum-most s 96000 (λ t. el weights t * (firstRoom (waitsOf waits t) (forecastAt p rows t) q - q)) (λ t b.
-            let days = parted-days w.parted {s = t} (omega (arith, w.upto)) in
-            omega (arith, mul-le-mul {n₁ = el weights t} {m₁ = firstRoom (waitsOf waits t) (forecastAt p rows t) q - q} {n₂ = 1000} {m₂ = 96} (w.odds t) (omega (arith, days, w.from, w.parted.periods, room-to (waitsOf waits t) (forecastAt p rows t) q (omega (arith, days)))))),
+        sum_most s 96000 (λ t. el weights t * (first_room (waits_of waits t) (forecast_at p rows t) q - q)) (λ t b.
+            let days = parted_days w.parted {s = t} (omega (arith, w.upto)) in
+            omega (arith, mul-le-mul {n₁ = el weights t} {m₁ = first_room (waits_of waits t) (forecast_at p rows t) q - q} {n₂ = 1000} {m₂ = 96} (w.odds t) (omega (arith, days, w.from, w.parted.periods, room_to (waits_of waits t) (forecast_at p rows t) q (omega (arith, days)))))),
       )
 
-  pub weighed-all : length weights ≤ s → Weighed p weights rows waits due air (length weights)
-  weighed-all l = subst (λ n. Weighed p weights rows waits due air n) (omega (arith, w.upto)) w
+  pub weighed_all : length weights ≤ s → Weighed p weights rows waits due air (length weights)
+  weighed_all l = subst (λ n. Weighed p weights rows waits due air n) (omega (arith, w.upto)) w
 
 -- the next forecast
 module _ {p : ℕ} {weights rows waits : List ℕ} {due : ℕ} {air : List ℕ} {s : ℕ} (w : Weighed p weights rows waits due air s) (l : s < length weights) where
-  module _ {capacities : List ℕ} (is : capacities ≡ forecastAt p rows s) {v : ℕ} (odds : v ≡ el weights s) where
+  module _ {capacities : List ℕ} (is : capacities ≡ forecast_at p rows s) {v : ℕ} (odds : v ≡ el weights s) where
     days : length capacities ≡ p
-    days = ap length is ∙ parted-days w.parted l
+    days = ap length is ∙ parted_days w.parted l
 
     -- the next forecast's part is yet to be added
-    pub weighed-adding : Adding capacities (take (s * 98 + 98 - s * 98) (drop (s * 98) waits)) v due air air (length capacities + 1)
-    weighed-adding = rw (part-size s) (record {
+    pub weighed_adding : Adding capacities (take (s * 98 + 98 - s * 98) (drop (s * 98) waits)) v due air air (length capacities + 1)
+    weighed_adding = rw (part_size s) (record {
       periods = omega (arith, days, w.parted.periods);
-      waited = parted-part w.parted l;
+      waited = parted_part w.parted l;
       sizes = w.sizes;
       odds = omega (arith, odds, w.odds s);
-      low = λ q from to. omega (arith, weighed-low w q from (omega (arith, days)), w.parted.forecasts);
+      low = λ q from to. omega (arith, weighed_low w q from (omega (arith, days)), w.parted.forecasts);
       from = w.from;
       downto = omega (arith, days, w.to);
       upto = omega arith;
-      added = λ q from to. let last = room-closing (el (take 98 (drop (s * 98) waits))) capacities q (omega arith) in let none : firstRoom (el (take 98 (drop (s * 98) waits))) capacities q - q ≡ 0 = omega (arith, last) in rw none (omega arith);
+      added = λ q from to. let last = room_closing (el (take 98 (drop (s * 98) waits))) capacities q (omega arith) in let none : first_room (el (take 98 (drop (s * 98) waits))) capacities q - q ≡ 0 = omega (arith, last) in rw none (omega arith);
       others = λ q b. refl;
     })
 
     -- and has been
-    pub weighed-next : {air₂ : List ℕ} → Adding capacities (take (s * 98 + 98 - s * 98) (drop (s * 98) waits)) v due air air₂ due → Weighed p weights rows waits due air₂ (s + 1)
+    pub weighed_next : {air₂ : List ℕ} → Adding capacities (take (s * 98 + 98 - s * 98) (drop (s * 98) waits)) v due air air₂ due → Weighed p weights rows waits due air₂ (s + 1)
     unfolding sum
-    weighed-next a = record {
+    weighed_next a = record {
       parted = w.parted;
       odds = w.odds;
       from = w.from;
@@ -115,7 +115,7 @@ module _ {p : ℕ} {weights rows waits : List ℕ} {due : ℕ} {air : List ℕ} 
     }
       where
         next : (q : ℕ) → due ≤ q → q ≤ p + 1
-            → el air q + v * (firstRoom (el (take (s * 98 + 98 - s * 98) (drop (s * 98) waits))) capacities q - q) ≡ airborne p weights rows waits (s + 1) q
+            → el air q + v * (first_room (el (take (s * 98 + 98 - s * 98) (drop (s * 98) waits))) capacities q - q) ≡ airborne p weights rows waits (s + 1) q
         next q from to =
-            let same = room-same (el (take 98 (drop (s * 98) waits))) (waitsOf waits s) (forecastAt p rows s) q (λ k f t. part_at (s * 98) 98 waits k (omega (arith, sym (ap length is) ∙ days, w.parted.periods))) in
-            rw (part-size s, odds, is, same, w.sums q from to, add-one)
+            let same = room_same (el (take 98 (drop (s * 98) waits))) (waits_of waits s) (forecast_at p rows s) q (λ k f t. part_at (s * 98) 98 waits k (omega (arith, sym (ap length is) ∙ days, w.parted.periods))) in
+            rw (part_size s, odds, is, same, w.sums q from to, add-one)

@@ -10,123 +10,123 @@ use native.Mathlib.Omega.{arith}
 use lib.ListN.{length}
 use lib.Dec.{eqb}
 use borrow.Author.Tests.{lt-ltb, eq-eqb, ne_eqb, eqb-true}
-use Rattle.assignment.proofs.Tests.{and-true}
+use Rattle.assignment.proofs.Tests.{and_true}
 use Rattle.answers.specs.Answers.{outcome}
 use Rattle.answers.specs.declared.Answer.TheVariants.{Planned, BadDay, BadLength, BadForecasts, BadTerms}
-use Rattle.day.specs.Day.{Day, day, unlimited, P, N, valid, inside, capacitiesFit}
-use Rattle.day.proofs.Valid.{valid-means, inside-means}
-use Rattle.forecast_plan.specs.Forecast.{Forecasts, forecastHolds, expectedTotal}
-use Rattle.forecast_plan.specs.Calls.{noJumps, termsFit, allWeights, forecastsFit, rowsPlan, forecastPlan}
+use Rattle.day.specs.Day.{Day, day, unlimited, P, N, valid, inside, capacities_fit}
+use Rattle.day.proofs.Valid.{valid_means, inside_means}
+use Rattle.forecast_plan.specs.Forecast.{Forecasts, forecast_holds, expected_total}
+use Rattle.forecast_plan.specs.Calls.{no_jumps, terms_fit, all_weights, forecasts_fit, rows_plan, forecast_plan}
 use Rattle.forecast_plan.specs.Loop.{Fit}
 
 -- ---- the tests
 
 module _ (flights : List ℕ) (count factor : ℕ) where
-  pub has-jump : noJumps flights ≡ false → termsFit flights count factor ≡ false
-  unfolding termsFit
-  has-jump e = rw e
+  pub has_jump : no_jumps flights ≡ false → terms_fit flights count factor ≡ false
+  unfolding terms_fit
+  has_jump e = rw e
 
-  module _ (none : noJumps flights ≡ true) where
-    pub bad-factor : inside 1 10 factor ≡ false → termsFit flights count factor ≡ false
-    unfolding termsFit
-    bad-factor e = rw (none, e)
+  module _ (none : no_jumps flights ≡ true) where
+    pub bad_factor : inside 1 10 factor ≡ false → terms_fit flights count factor ≡ false
+    unfolding terms_fit
+    bad_factor e = rw (none, e)
 
-    pub terms-count : inside 1 10 factor ≡ true → termsFit flights count factor ≡ inside 1 8 count
-    unfolding termsFit
-    terms-count e = rw (none, e)
+    pub terms_count : inside 1 10 factor ≡ true → terms_fit flights count factor ≡ inside 1 8 count
+    unfolding terms_fit
+    terms_count e = rw (none, e)
 
-  pub terms-to : termsFit flights count factor ≡ true → (factor ≤ 10) × (count ≤ 8)
-  unfolding termsFit
-  terms-to e =
-      let both = and-true {a = noJumps flights && inside 1 10 factor} {b = inside 1 8 count} e in
-      ((inside-means 1 10 factor (and-true {a = noJumps flights} {b = inside 1 10 factor} both.0).1).1, (inside-means 1 8 count both.1).1)
+  pub terms_to : terms_fit flights count factor ≡ true → (factor ≤ 10) × (count ≤ 8)
+  unfolding terms_fit
+  terms_to e =
+      let both = and_true {a = no_jumps flights && inside 1 10 factor} {b = inside 1 8 count} e in
+      ((inside_means 1 10 factor (and_true {a = no_jumps flights} {b = inside 1 10 factor} both.0).1).1, (inside_means 1 8 count both.1).1)
 
 module _ (weights rows : List ℕ) where
-  pub bad_sum : {t : ℕ} → t ≡ allWeights weights → t ≢ 1000 → forecastsFit weights rows ≡ false
-  unfolding forecastsFit
-  bad_sum e o = rw (ne_eqb (allWeights weights) 1000 (λ z. o (e ∙ z)))
+  pub bad_sum : {t : ℕ} → t ≡ all_weights weights → t ≢ 1000 → forecasts_fit weights rows ≡ false
+  unfolding forecasts_fit
+  bad_sum e o = rw (ne_eqb (all_weights weights) 1000 (λ z. o (e ∙ z)))
 
-  pub sum_fits : {t : ℕ} → t ≡ allWeights weights → t ≡ 1000 → forecastsFit weights rows ≡ capacitiesFit rows
-  unfolding forecastsFit
-  sum_fits e o = rw (eq-eqb (allWeights weights) 1000 (sym e ∙ o))
+  pub sum_fits : {t : ℕ} → t ≡ all_weights weights → t ≡ 1000 → forecasts_fit weights rows ≡ capacities_fit rows
+  unfolding forecasts_fit
+  sum_fits e o = rw (eq-eqb (all_weights weights) 1000 (sym e ∙ o))
 
-  pub adds-up : forecastsFit weights rows ≡ true → allWeights weights ≡ 1000
-  unfolding forecastsFit
-  adds-up e = eqb-true (allWeights weights) 1000 (and-true {a = eqb (allWeights weights) 1000} {b = capacitiesFit rows} e).0
+  pub adds_up : forecasts_fit weights rows ≡ true → all_weights weights ≡ 1000
+  unfolding forecasts_fit
+  adds_up e = eqb-true (all_weights weights) 1000 (and_true {a = eqb (all_weights weights) 1000} {b = capacities_fit rows} e).0
 
 -- ---- the ways of the call
 
 module _ (d : Day) (f : Forecasts) (h : List ℕ) where
-  pub bad-day : valid d ≡ false → forecastPlan d f h ≡ outcome BadDay h
-  unfolding forecastPlan
-  bad-day e = rw e
+  pub bad_day : valid d ≡ false → forecast_plan d f h ≡ outcome BadDay h
+  unfolding forecast_plan
+  bad_day e = rw e
 
   -- a valid day's closing number is 256, or there is a line
-  pub has-line : valid d ≡ true → d.closing ≢ unlimited → forecastPlan d f h ≡ outcome BadTerms h
-  unfolding forecastPlan
-  has-line v e = rw (v, lt-ltb d.closing unlimited (omega (arith, e, (valid-means v).closing-to)))
+  pub has_line_lem : valid d ≡ true → d.closing ≢ unlimited → forecast_plan d f h ≡ outcome BadTerms h
+  unfolding forecast_plan
+  has_line_lem v e = rw (v, lt-ltb d.closing unlimited (omega (arith, e, (valid_means v).closing_to)))
 
 -- without a line
 module _ (caps flights : List ℕ) {closing : ℕ} (f : Forecasts) (h : List ℕ) (v : valid (day caps flights closing) ≡ true) (no_line : closing ≡ unlimited) where
-  pub open-day : valid (day caps flights unlimited) ≡ true
-  open-day = rw no_line at v
+  pub open_day : valid (day caps flights unlimited) ≡ true
+  open_day = rw no_line at v
 
   -- the count and the air factor as the program widens them
-  module _ {n k : ℕ} (n-is : n ≡ f.count) (k-is : k ≡ f.airFactor) where
-    pub bad-terms : termsFit flights n k ≡ false → forecastPlan (day caps flights closing) f h ≡ outcome BadTerms h
-    unfolding forecastPlan
-    bad-terms e = rw (no_line, open-day, sym n-is, sym k-is, e)
+  module _ {n k : ℕ} (n-is : n ≡ f.count) (k-is : k ≡ f.air_factor) where
+    pub bad_terms : terms_fit flights n k ≡ false → forecast_plan (day caps flights closing) f h ≡ outcome BadTerms h
+    unfolding forecast_plan
+    bad_terms e = rw (no_line, open_day, sym n-is, sym k-is, e)
 
-    pub by_rows : termsFit flights n k ≡ true → forecastPlan (day caps flights closing) f h
-        ≡ rowsPlan (day caps flights unlimited) (record { count = n; airFactor = k; weights = f.weights; rows = f.rows }) h
-    unfolding forecastPlan
-    by_rows e = rw (no_line, open-day, n-is, k-is) (rw (sym n-is, sym k-is, e))
+    pub by_rows : terms_fit flights n k ≡ true → forecast_plan (day caps flights closing) f h
+        ≡ rows_plan (day caps flights unlimited) (record { count = n; air_factor = k; weights = f.weights; rows = f.rows }) h
+    unfolding forecast_plan
+    by_rows e = rw (no_line, open_day, n-is, k-is) (rw (sym n-is, sym k-is, e))
 
 module _ (d : Day) (f : Forecasts) (h : List ℕ) where
   module _ {n : ℕ} (size : n ≡ N d) where
-    pub bad-holds : length h ≢ n → rowsPlan d f h ≡ outcome (BadLength n) h
-    unfolding rowsPlan
-    bad-holds o = rw (size, ne_eqb (length h) (N d) (λ e. o (e ∙ sym size)))
+    pub bad_holds : length h ≢ n → rows_plan d f h ≡ outcome (BadLength n) h
+    unfolding rows_plan
+    bad_holds o = rw (size, ne_eqb (length h) (N d) (λ e. o (e ∙ sym size)))
 
     module _ (each : length h ≡ n) where
-      pub bad-weights : length f.weights ≢ f.count → rowsPlan d f h ≡ outcome (BadLength f.count) h
-      unfolding rowsPlan
-      bad-weights o = rw (eq-eqb (length h) (N d) (each ∙ size), ne_eqb (length f.weights) f.count o)
+      pub bad_weights : length f.weights ≢ f.count → rows_plan d f h ≡ outcome (BadLength f.count) h
+      unfolding rows_plan
+      bad_weights o = rw (eq-eqb (length h) (N d) (each ∙ size), ne_eqb (length f.weights) f.count o)
 
       module _ (w : length f.weights ≡ f.count) where
-        pub bad-rows : length f.rows ≢ f.count * P d → rowsPlan d f h ≡ outcome (BadLength (f.count * P d)) h
-        unfolding rowsPlan
-        bad-rows o =
+        pub bad_rows : length f.rows ≢ f.count * P d → rows_plan d f h ≡ outcome (BadLength (f.count * P d)) h
+        unfolding rows_plan
+        bad_rows o =
             rw (eq-eqb (length h) (N d) (each ∙ size), eq-eqb (length f.weights) f.count w, ne_eqb (length f.rows) (f.count * P d) o)
 
         module _ (r : length f.rows ≡ f.count * P d) where
-          pub bad-forecasts : forecastsFit f.weights f.rows ≡ false → rowsPlan d f h ≡ outcome BadForecasts h
-          unfolding rowsPlan
-          bad-forecasts e =
+          pub bad_forecasts : forecasts_fit f.weights f.rows ≡ false → rows_plan d f h ≡ outcome BadForecasts h
+          unfolding rows_plan
+          bad_forecasts e =
               rw (eq-eqb (length h) (N d) (each ∙ size), eq-eqb (length f.weights) f.count w, eq-eqb (length f.rows) (f.count * P d) r, e)
 
           -- the program counts the weights
-          pub planned : forecastsFit f.weights f.rows ≡ true → {x : List ℕ} {t : ℕ}
-              → x ≡ forecastHolds d (record { count = length f.weights; airFactor = f.airFactor; weights = f.weights; rows = f.rows })
-              → t ≡ expectedTotal d (record { count = length f.weights; airFactor = f.airFactor; weights = f.weights; rows = f.rows }) (forecastHolds d (record { count = length f.weights; airFactor = f.airFactor; weights = f.weights; rows = f.rows }))
-              → rowsPlan d f h ≡ outcome (Planned t) x
-          unfolding rowsPlan
+          pub planned : forecasts_fit f.weights f.rows ≡ true → {x : List ℕ} {t : ℕ}
+              → x ≡ forecast_holds d (record { count = length f.weights; air_factor = f.air_factor; weights = f.weights; rows = f.rows })
+              → t ≡ expected_total d (record { count = length f.weights; air_factor = f.air_factor; weights = f.weights; rows = f.rows }) (forecast_holds d (record { count = length f.weights; air_factor = f.air_factor; weights = f.weights; rows = f.rows }))
+              → rows_plan d f h ≡ outcome (Planned t) x
+          unfolding rows_plan
           planned e x-is t-is =
               rw (eq-eqb (length h) (N d) (each ∙ size), eq-eqb (length f.weights) f.count w, eq-eqb (length f.rows) (f.count * P d) r, e, t-is, x-is, w)
 
 -- ---- what fits where nothing is refused
 
-pub entries_fit : (d : Day) (count factor : ℕ) → valid d ≡ true → termsFit d.flights count factor ≡ true → count * P d ≤ 768
-entries_fit d count factor v terms = mul-le-mul (terms-to d.flights count factor terms).1 (valid-means v).periods-to
+pub entries_fit : (d : Day) (count factor : ℕ) → valid d ≡ true → terms_fit d.flights count factor ≡ true → count * P d ≤ 768
+entries_fit d count factor v terms = mul-le-mul (terms_to d.flights count factor terms).1 (valid_means v).periods_to
 
-pub all-fits : (d : Day) (count factor : ℕ) (weights rows : List ℕ) → valid d ≡ true → termsFit d.flights count factor ≡ true → length weights ≡ count
-    → length rows ≡ count * P d → forecastsFit weights rows ≡ true
-    → Fit d (record { count = length weights; airFactor = factor; weights = weights; rows = rows })
-all-fits d count factor weights rows v terms w r e = record {
-  good = valid-means v;
-  factor-to = (terms-to d.flights count factor terms).0;
-  count-to = omega (arith, w, (terms-to d.flights count factor terms).1);
-  weights-are = refl;
+pub all_fits : (d : Day) (count factor : ℕ) (weights rows : List ℕ) → valid d ≡ true → terms_fit d.flights count factor ≡ true → length weights ≡ count
+    → length rows ≡ count * P d → forecasts_fit weights rows ≡ true
+    → Fit d (record { count = length weights; air_factor = factor; weights = weights; rows = rows })
+all_fits d count factor weights rows v terms w r e = record {
+  good = valid_means v;
+  factor_to = (terms_to d.flights count factor terms).0;
+  count_to = omega (arith, w, (terms_to d.flights count factor terms).1);
+  weights_are = refl;
   rows_are = rw w r;
-  add-up = adds-up weights rows e;
+  add_up = adds_up weights rows e;
 }

@@ -6,11 +6,11 @@ use Prim.Native.Nat.{ℕ, zero, suc, ◌+◌, ◌-◌, ◌*◌, ◌≤◌, ◌<�
 use native.Mathlib.Nat.{mul-le-mul_left}
 use native.Mathlib.Omega.{arith}
 use Rattle.assignment.specs.Sum.{sum, count}
-use Rattle.assignment.proofs.Sums.{sum-ext, count-ext}
+use Rattle.assignment.proofs.Sums.{sum_ext, count_ext}
 use Rattle.day.specs.Day.{Day, due, rate, hold, land}
-use Rattle.forecast_plan.specs.Forecast.{Forecasts, weight, forecast, held, lands, costIf, expected}
-use Rattle.forecast_plan.proofs.Turns.{waiting-same}
-use Rattle.forecast_plan.proofs.Landing.{room-same}
+use Rattle.forecast_plan.specs.Forecast.{Forecasts, weight, forecast, held, lands, cost_if, expected}
+use Rattle.forecast_plan.proofs.Turns.{waiting_same}
+use Rattle.forecast_plan.proofs.Landing.{room_same}
 
 -- ---- sums by weight
 
@@ -21,28 +21,28 @@ weigh zero w x a b = omega arith
 weigh (suc n) w x a b = omega (arith, weigh n w x a b)
 
 -- Σ w x is at most m Σ w where no x is above m
-pub weigh-most : (n : ℕ) (w x : ℕ → ℕ) (m : ℕ) → ((s : ℕ) → s < n → x s ≤ m) → sum n (λ s. w s * x s) ≤ m * sum n w
+pub weigh_most : (n : ℕ) (w x : ℕ → ℕ) (m : ℕ) → ((s : ℕ) → s < n → x s ≤ m) → sum n (λ s. w s * x s) ≤ m * sum n w
 unfolding sum
-weigh-most zero w x m most = omega arith
-weigh-most (suc n) w x m most = omega (arith, weigh-most n w x m (λ s l. most s (omega arith)), mul-le-mul_left (w n) (most n (omega arith)))
+weigh_most zero w x m most = omega arith
+weigh_most (suc n) w x m most = omega (arith, weigh_most n w x m (λ s l. most s (omega arith)), mul-le-mul_left (w n) (most n (omega arith)))
 
 -- ---- the expected cost
 
 module _ (d : Day) (f : Forecasts) where
   -- it depends on the holds of the flights above alone
-  pub expected-same : (holds others : List ℕ) (i h : ℕ) → ((j : ℕ) → j < i → hold holds j ≡ hold others j)
+  pub expected_same : (holds others : List ℕ) (i h : ℕ) → ((j : ℕ) → j < i → hold holds j ≡ hold others j)
       → expected d f holds i h ≡ expected d f others i h
   unfolding expected
-  expected-same holds others i h same =
-      sum-ext f.count _ _ (λ s l. ap (λ k. weight f s * costIf d f.airFactor i h k) (room-same _ _ (forecast d f s) (due d i + h) (λ k from to.
-      waiting-same (held d holds i) (held d others i) (forecast d f s) k (λ j some before. sym (count-ext i (land d holds) (land d others) (λ o b. ap (λ z. due d o + z) (sym (same o b))) j)))))
+  expected_same holds others i h same =
+      sum_ext f.count _ _ (λ s l. ap (λ k. weight f s * cost_if d f.air_factor i h k) (room_same _ _ (forecast d f s) (due d i + h) (λ k from to.
+      waiting_same (held d holds i) (held d others i) (forecast d f s) k (λ j some before. sym (count_ext i (land d holds) (land d others) (λ o b. ap (λ z. due d o + z) (sym (same o b))) j)))))
 
   -- with weights that add up to 1,000, the ground costs 1,000 times what it costs under one forecast
-  pub expected-is : sum f.count (weight f) ≡ 1000 → (holds : List ℕ) (i h : ℕ)
+  pub expected_is : sum f.count (weight f) ≡ 1000 → (holds : List ℕ) (i h : ℕ)
       → expected d f holds i h
       ≡ 1000 * rate d i * h
-      + f.airFactor * rate d i * sum f.count (λ s. weight f s * (lands (held d holds i) (forecast d f s) (due d i + h) - (due d i + h)))
+      + f.air_factor * rate d i * sum f.count (λ s. weight f s * (lands (held d holds i) (forecast d f s) (due d i + h) - (due d i + h)))
   unfolding expected
-  expected-is all holds i h =
-      weigh f.count (weight f) (λ s. lands (held d holds i) (forecast d f s) (due d i + h) - (due d i + h)) (rate d i * h) (f.airFactor * rate d i)
+  expected_is all holds i h =
+      weigh f.count (weight f) (λ s. lands (held d holds i) (forecast d f s) (due d i + h) - (due d i + h)) (rate d i * h) (f.air_factor * rate d i)
       ∙ rw all (omega arith)

@@ -8,49 +8,49 @@ use mathlib.Core.List.{List}
 use Prim.Native.Nat.{ℕ, ◌+◌, ◌-◌, ◌*◌, ◌≤◌, ◌<◌}
 use native.Mathlib.Omega.{arith}
 use lib.ListN.{length}
-use Rattle.assignment.proofs.Sums.{sum-most}
+use Rattle.assignment.proofs.Sums.{sum_most}
 use Rattle.assignment.proofs.Tests.{eq?}
 use Rattle.answers.specs.Answers.{code_of, outcome}
 use Rattle.answers.specs.declared.Answer.{Answer}
 use Rattle.answers.specs.declared.Answer.TheVariants.{Planned}
 use Rattle.day.specs.Day.{Day, P, N, due, Window, hold, land, valid, day, unlimited}
 use Rattle.day.specs.Valid.{Valid}
-use Rattle.forecast_plan.specs.Forecast.{Forecasts, expected, forecastHolds, expectedTotal}
-use Rattle.forecast_plan.specs.Calls.{termsFit, forecastsFit, forecastPlan}
+use Rattle.forecast_plan.specs.Forecast.{Forecasts, expected, forecast_holds, expected_total}
+use Rattle.forecast_plan.specs.Calls.{terms_fit, forecasts_fit, forecast_plan}
 use Rattle.forecast_plan.specs.Loop.{Fit}
-use Rattle.forecast_plan.proofs.Calls.{bad-day, has-line, open-day, bad-terms, by_rows, bad-holds, bad-weights, bad-rows, bad-forecasts, planned, all-fits}
-use Rattle.forecast_plan.proofs.Holds.{holds-length, each-least, only_row, hold-window, window-hold, expected-most}
+use Rattle.forecast_plan.proofs.Calls.{bad_day, has_line_lem, open_day, bad_terms, by_rows, bad_holds, bad_weights, bad_rows, bad_forecasts, planned, all_fits}
+use Rattle.forecast_plan.proofs.Holds.{holds_length, each_least, only_row, hold_window, window_hold, expected_most}
 
 -- a row of holds, each in its flight's window, none of the window less, and every smaller one more, "given those before it"
 pub record EachLeast (d : Day) (f : Forecasts) (holds : List ℕ) : Type 0 where
   pub each : length holds ≡ N d
   pub window : (i : ℕ) → i < N d → Window d i (land d holds i)
-  pub none-less : (i k : ℕ) → i < N d → Window d i k → expected d f holds i (hold holds i) ≤ expected d f holds i (k - due d i)
-  pub smaller-more : (i h : ℕ) → i < N d → h < hold holds i → expected d f holds i (hold holds i) < expected d f holds i h
+  pub none_less : (i k : ℕ) → i < N d → Window d i k → expected d f holds i (hold holds i) ≤ expected d f holds i (k - due d i)
+  pub smaller_more : (i h : ℕ) → i < N d → h < hold holds i → expected d f holds i (hold holds i) < expected d f holds i h
 
 -- the forecast plan is such a row
-pub plan-is-least : {d : Day} (f : Forecasts) → Valid d → EachLeast d f (forecastHolds d f)
-plan-is-least {d} f v = record {
-  each = holds-length d f (N d);
-  window = λ i l. hold-window d i (v.flight i l) (each-least d f i l).within;
-  none-less = λ i k l w. (each-least d f i l).none-less (k - due d i) (window-hold d i (v.flight i l) w);
-  smaller-more = λ i h l b. (each-least d f i l).smaller-more h b;
+pub plan_is_least : {d : Day} (f : Forecasts) → Valid d → EachLeast d f (forecast_holds d f)
+plan_is_least {d} f v = record {
+  each = holds_length d f (N d);
+  window = λ i l. hold_window d i (v.flight i l) (each_least d f i l).within;
+  none_less = λ i k l w. (each_least d f i l).none_less (k - due d i) (window_hold d i (v.flight i l) w);
+  smaller_more = λ i h l b. (each_least d f i l).smaller_more h b;
 }
 
 -- and no other is
-pub only-plan : {d : Day} (f : Forecasts) (holds : List ℕ) → Valid d → EachLeast d f holds → holds ≡ forecastHolds d f
-only-plan {d} f holds v e = only_row d f holds e.each (λ i l. record {
-  within = let same : land d holds i - due d i ≡ hold holds i = omega arith in rw same at (window-hold d i (v.flight i l) (e.window i l));
-  none-less = λ g to. let same : due d i + g - due d i ≡ g = omega arith in rw same at (e.none-less i (due d i + g) l (hold-window d i (v.flight i l) to));
-  smaller-more = λ g b. e.smaller-more i g l b;
+pub only_plan : {d : Day} (f : Forecasts) (holds : List ℕ) → Valid d → EachLeast d f holds → holds ≡ forecast_holds d f
+only_plan {d} f holds v e = only_row d f holds e.each (λ i l. record {
+  within = let same : land d holds i - due d i ≡ hold holds i = omega arith in rw same at (window_hold d i (v.flight i l) (e.window i l));
+  none_less = λ g to. let same : due d i + g - due d i ≡ g = omega arith in rw same at (e.none_less i (due d i + g) l (hold_window d i (v.flight i l) to));
+  smaller_more = λ g b. e.smaller_more i g l b;
 })
 
 -- ---- the total
 
 -- at most 128 flights of 9,600,000,000
-fit-total : {d : Day} {f : Forecasts} → Fit d f → expectedTotal d f (forecastHolds d f) ≤ 1228800000000
-unfolding expectedTotal
-fit-total {d} {f} fit = omega (arith, fit.good.flights-to, sum-most (N d) 9600000000 _ (λ i l. expected-most fit (forecastHolds d f) i l _ (each-least d f i l).within))
+fit_total : {d : Day} {f : Forecasts} → Fit d f → expected_total d f (forecast_holds d f) ≤ 1228800000000
+unfolding expected_total
+fit_total {d} {f} fit = omega (arith, fit.good.flights_to, sum_most (N d) 9600000000 _ (λ i l. expected_most fit (forecast_holds d f) i l _ (each_least d f i l).within))
 
 -- the number of a planned answer is 0, and that of no refusal is
 numbered : {a : Answer} {t : ℕ} → a ≡ Planned t → (code_of a).number ≡ 0
@@ -64,27 +64,27 @@ either true = inl refl
 either false = inr refl
 
 -- "The total is answered in thousandths", and no answered total is greater than this
-pub total-most : (d : Day) (f : Forecasts) (holds : List ℕ) (t : ℕ) → (forecastPlan d f holds).answer ≡ Planned t → t ≤ 1228800000000
-total-most d f holds t e = elim (either (valid d)) [
-  | inr bad ↦ absurd (omega (arith, numbered (way (bad-day d f holds bad))))
+pub total_most : (d : Day) (f : Forecasts) (holds : List ℕ) (t : ℕ) → (forecast_plan d f holds).answer ≡ Planned t → t ≤ 1228800000000
+total_most d f holds t e = elim (either (valid d)) [
+  | inr bad ↦ absurd (omega (arith, numbered (way (bad_day d f holds bad))))
   | inl good ↦ elim (eq? d.closing unlimited) [
-    | inr line ↦ absurd (omega (arith, numbered (way (has-line d f holds good line))))
-    | inl none ↦ elim (either (termsFit d.flights f.count f.airFactor)) [
-      | inr bad ↦ absurd (omega (arith, numbered (way (bad-terms d.capacities d.flights f holds good none refl refl bad))))
+    | inr line ↦ absurd (omega (arith, numbered (way (has_line_lem d f holds good line))))
+    | inl none ↦ elim (either (terms_fit d.flights f.count f.air_factor)) [
+      | inr bad ↦ absurd (omega (arith, numbered (way (bad_terms d.capacities d.flights f holds good none refl refl bad))))
       | inl terms ↦
-          let rows-plan = by_rows d.capacities d.flights f holds good none refl refl terms in
+          let rows_plan_lem = by_rows d.capacities d.flights f holds good none refl refl terms in
           elim (eq? (length holds) (N d)) [
-            | inr bad ↦ absurd (omega (arith, numbered (way (rows-plan ∙ bad-holds u f holds refl bad))))
+            | inr bad ↦ absurd (omega (arith, numbered (way (rows_plan_lem ∙ bad_holds u f holds refl bad))))
             | inl each ↦ elim (eq? (length f.weights) f.count) [
-              | inr bad ↦ absurd (omega (arith, numbered (way (rows-plan ∙ bad-weights u f holds refl each bad))))
+              | inr bad ↦ absurd (omega (arith, numbered (way (rows_plan_lem ∙ bad_weights u f holds refl each bad))))
               | inl weights ↦ elim (eq? (length f.rows) (f.count * P d)) [
-                | inr bad ↦ absurd (omega (arith, numbered (way (rows-plan ∙ bad-rows u f holds refl each weights bad))))
-                | inl rows ↦ elim (either (forecastsFit f.weights f.rows)) [
-                  | inr bad ↦ absurd (omega (arith, numbered (way (rows-plan ∙ bad-forecasts u f holds refl each weights rows bad))))
+                | inr bad ↦ absurd (omega (arith, numbered (way (rows_plan_lem ∙ bad_rows u f holds refl each weights bad))))
+                | inl rows ↦ elim (either (forecasts_fit f.weights f.rows)) [
+                  | inr bad ↦ absurd (omega (arith, numbered (way (rows_plan_lem ∙ bad_forecasts u f holds refl each weights rows bad))))
                   | inl fits ↦ omega (
                     arith,
-                    same_total (way (rows-plan ∙ planned u f holds refl each weights rows fits refl refl)),
-                    fit-total (all-fits u f.count f.airFactor f.weights f.rows (open-day d.capacities d.flights f holds good none) terms weights rows fits),
+                    same_total (way (rows_plan_lem ∙ planned u f holds refl each weights rows fits refl refl)),
+                    fit_total (all_fits u f.count f.air_factor f.weights f.rows (open_day d.capacities d.flights f holds good none) terms weights rows fits),
                   )
                 ]
               ]
@@ -97,5 +97,5 @@ total-most d f holds t e = elim (either (valid d)) [
     u : Day
     u = day d.capacities d.flights unlimited
 
-    way : {a : Answer} {x : List ℕ} → forecastPlan d f holds ≡ outcome a x → a ≡ Planned t
+    way : {a : Answer} {x : List ℕ} → forecast_plan d f holds ≡ outcome a x → a ≡ Planned t
     way is = ap (λ o. o.answer) (sym is) ∙ e

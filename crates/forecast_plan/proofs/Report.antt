@@ -7,13 +7,13 @@ use Prim.Native.Nat.{ℕ}
 use Rattle.assignment.specs.Sum.{sum, count}
 use Rattle.answers.specs.Answers.{outcome}
 use Rattle.answers.specs.declared.Answer.TheVariants.{Planned}
-use Rattle.day.specs.Day.{Day, day, unlimited, flightAt, flightCount, latestOf, last_of, last, all, flightFits, isNew, valid}
-use Rattle.forecast_plan.specs.Forecast.{Forecasts, waiting, firstRoom, expected, leastHold, holdsTo, expectedTotal}
-use Rattle.forecast_plan.specs.Calls.{termsFit, forecastsFit, rowsPlan, forecastPlan}
+use Rattle.day.specs.Day.{Day, day, unlimited, flight_at, flight_count, latest_of, last_of, last, all, flight_fits, is_new, valid}
+use Rattle.forecast_plan.specs.Forecast.{Forecasts, waiting, first_room, expected, least_hold, holds_to, expected_total}
+use Rattle.forecast_plan.specs.Calls.{terms_fit, forecasts_fit, rows_plan, forecast_plan}
 
 -- its four flights; the capacities of the day itself play no part
-abbrev pub reportDay : Day
-reportDay =
+abbrev pub report_day : Day
+report_day =
     day
     (0 ∷ 0 ∷ 0 ∷ 0 ∷ [])
     (4 ∷ 2 ∷ 10 ∷ 0 ∷ 0 ∷ 255 ∷ 0 ∷ 3 ∷ 1 ∷ 5 ∷ 0 ∷ 0 ∷ 255 ∷ 0 ∷ 2 ∷ 1 ∷ 10 ∷ 0 ∷ 0 ∷ 255 ∷ 0 ∷ 1 ∷ 3 ∷ 10 ∷ 0 ∷ 0 ∷ 255 ∷ 0 ∷ [])
@@ -21,15 +21,15 @@ reportDay =
 
 -- capacity 1 in each period, or 2, by these odds
 abbrev pub odds : ℕ → ℕ → Forecasts
-odds one two = record { count = 2; airFactor = 2; weights = one ∷ two ∷ []; rows = 1 ∷ 1 ∷ 1 ∷ 1 ∷ 2 ∷ 2 ∷ 2 ∷ 2 ∷ [] }
+odds one two = record { count = 2; air_factor = 2; weights = one ∷ two ∷ []; rows = 1 ∷ 1 ∷ 1 ∷ 1 ∷ 2 ∷ 2 ∷ 2 ∷ 2 ∷ [] }
 
 module _ (a b c e : ℕ) where
   -- "totals 24,000 thousandths"
-  pub report : forecastPlan reportDay (odds 400 600) (a ∷ b ∷ c ∷ e ∷ []) ≡ outcome (Planned 24000) (0 ∷ 0 ∷ 0 ∷ 0 ∷ [])
-  unfolding sum count flightAt flightCount latestOf last_of all flightFits isNew valid waiting firstRoom expected leastHold holdsTo expectedTotal termsFit forecastsFit rowsPlan forecastPlan
+  pub report : forecast_plan report_day (odds 400 600) (a ∷ b ∷ c ∷ e ∷ []) ≡ outcome (Planned 24000) (0 ∷ 0 ∷ 0 ∷ 0 ∷ [])
+  unfolding sum count flight_at flight_count latest_of last_of all flight_fits is_new valid waiting first_room expected least_hold holds_to expected_total terms_fit forecasts_fit rows_plan forecast_plan
   report = refl
 
   -- "and 30,000 with the odds reversed"
-  pub reversed : forecastPlan reportDay (odds 600 400) (a ∷ b ∷ c ∷ e ∷ []) ≡ outcome (Planned 30000) (0 ∷ 0 ∷ 2 ∷ 1 ∷ [])
-  unfolding sum count flightAt flightCount latestOf last_of all flightFits isNew valid waiting firstRoom expected leastHold holdsTo expectedTotal termsFit forecastsFit rowsPlan forecastPlan
+  pub reversed : forecast_plan report_day (odds 600 400) (a ∷ b ∷ c ∷ e ∷ []) ≡ outcome (Planned 30000) (0 ∷ 0 ∷ 2 ∷ 1 ∷ [])
+  unfolding sum count flight_at flight_count latest_of last_of all flight_fits is_new valid waiting first_room expected least_hold holds_to expected_total terms_fit forecasts_fit rows_plan forecast_plan
   reversed = refl

@@ -4,40 +4,40 @@ use Rattle.std.specs.Prelude.{Bool, cond, not, ◌&&◌, List, ℕ, ◌*◌, len
 use Rattle.assignment.specs.Sum.{sum}
 use Rattle.answers.specs.Answers.{Outcome, outcome}
 use Rattle.answers.specs.declared.Answer.TheVariants.{Planned, BadDay, BadLength, BadForecasts, BadTerms}
-use Rattle.day.specs.Day.{Day, P, N, jumpOf, flightCount, all, inside, capacitiesFit, hasLine, valid}
-use Rattle.forecast_plan.specs.Forecast.{Forecasts, forecastHolds, expectedTotal}
+use Rattle.day.specs.Day.{Day, P, N, jump_of, flight_count, all, inside, capacities_fit, has_line, valid}
+use Rattle.forecast_plan.specs.Forecast.{Forecasts, forecast_holds, expected_total}
 
 -- no flight of the row has "a jump above 0"
-abbrev pub noJumps : List ℕ → Bool
-noJumps flights = all (flightCount flights) (λ i. eqb (jumpOf flights i) 0)
+abbrev pub no_jumps : List ℕ → Bool
+no_jumps flights = all (flight_count flights) (λ i. eqb (jump_of flights i) 0)
 
 -- what 13 tests: "a jump is above 0 or K or the count of forecasts (1 to 8) is out of range"
-unfoldable pub termsFit : (flights : List ℕ) (count airFactor : ℕ) → Bool
-unfolding all flightCount
-termsFit flights count airFactor = noJumps flights && inside 1 10 airFactor && inside 1 8 count
+unfoldable pub terms_fit : (flights : List ℕ) (count air_factor : ℕ) → Bool
+unfolding all flight_count
+terms_fit flights count air_factor = no_jumps flights && inside 1 10 air_factor && inside 1 8 count
 
 -- what the weights add up to
-abbrev pub allWeights : List ℕ → ℕ
-allWeights weights = sum (length weights) (λ s. get_or weights s 0)
+abbrev pub all_weights : List ℕ → ℕ
+all_weights weights = sum (length weights) (λ s. get_or weights s 0)
 
 -- what 12 tests: "weights don't add up to 1,000 or a forecast capacity is above 255"
-unfoldable pub forecastsFit : (weights rows : List ℕ) → Bool
+unfoldable pub forecasts_fit : (weights rows : List ℕ) → Bool
 unfolding all sum
-forecastsFit weights rows = eqb (allWeights weights) 1000 && capacitiesFit rows
+forecasts_fit weights rows = eqb (all_weights weights) 1000 && capacities_fit rows
 
 -- 7 "tests hold, weight, forecast row"; then 12; else the plan
-unfoldable pub rowsPlan : Day → Forecasts → List ℕ → Outcome
-rowsPlan d f holds =
+unfoldable pub rows_plan : Day → Forecasts → List ℕ → Outcome
+rows_plan d f holds =
     cond (not (eqb (length holds) (N d))) (outcome (BadLength (N d)) holds)
     (cond (not (eqb (length f.weights) f.count)) (outcome (BadLength f.count) holds)
     (cond (not (eqb (length f.rows) (f.count * P d))) (outcome (BadLength (f.count * P d)) holds)
-    (cond (not (forecastsFit f.weights f.rows)) (outcome BadForecasts holds)
-    (outcome (Planned (expectedTotal d f (forecastHolds d f))) (forecastHolds d f)))))
+    (cond (not (forecasts_fit f.weights f.rows)) (outcome BadForecasts holds)
+    (outcome (Planned (expected_total d f (forecast_holds d f))) (forecast_holds d f)))))
 
 -- the forecast plan: refusals leave the row as it was; "a day with the line gets 13" (#108)
-unfoldable pub forecastPlan : Day → Forecasts → List ℕ → Outcome
-forecastPlan d f holds =
+unfoldable pub forecast_plan : Day → Forecasts → List ℕ → Outcome
+forecast_plan d f holds =
     cond (not (valid d)) (outcome BadDay holds)
-    (cond (hasLine d.closing) (outcome BadTerms holds)
-    (cond (not (termsFit d.flights f.count f.airFactor)) (outcome BadTerms holds)
-    (rowsPlan d f holds)))
+    (cond (has_line d.closing) (outcome BadTerms holds)
+    (cond (not (terms_fit d.flights f.count f.air_factor)) (outcome BadTerms holds)
+    (rows_plan d f holds)))

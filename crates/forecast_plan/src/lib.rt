@@ -2,9 +2,9 @@
 // capacities of the day are known by forecasts with odds only.
 ghost use Rattle.std.specs.Prelude.{◌≡◌, true, cond, ◌+◌, ◌-◌, ◌*◌, ◌≤◌, ◌<◌, min, length, set, ltb};
 ghost use Rattle.assignment.specs.Rows.{el};
-ghost use Rattle.day.specs.Day.{lent, unlimited, N, valid, mostPeriods, mostFlights, periodRow, ofPeriod, last_of};
-ghost use Rattle.forecast_plan.specs.Forecast.{forecasts, forecastAt, leftOver, waiting, firstRoom, forecastHolds, expectedTotal};
-ghost use Rattle.forecast_plan.specs.Calls.{noJumps, termsFit, allWeights, forecastsFit, rowsPlan, forecastPlan};
+ghost use Rattle.day.specs.Day.{lent, unlimited, N, valid, most_periods, most_flights, period_row, of_period, last_of};
+ghost use Rattle.forecast_plan.specs.Forecast.{forecasts, forecast_at, left_over, waiting, first_room, forecast_holds, expected_total};
+ghost use Rattle.forecast_plan.specs.Calls.{no_jumps, terms_fit, all_weights, forecasts_fit, rows_plan, forecast_plan};
 ghost use Rattle.forecast_plan.specs.Loop.{Stays, Behind, Turn, Turns, Adding, airborne, Weighed, weighed, Low, Chooses, Ready, odds, Fit, Placed};
 
 use answers::Answer;
@@ -59,7 +59,7 @@ fn waiting(held: &[usize], forecast: &[u32], waits: &mut [usize], from: usize, j
 #[cycle(left_over_waiting)]
 fn left_over(held: &[usize], forecast: &[u32], waits: &mut [usize], from: usize, j: usize) -> usize
     requires { Turn held.now forecast.now waits.old from × (j ≤ length forecast.now) }
-    ensures value { result ≡ leftOver (waiting (el held.now) forecast.now j) (ofPeriod forecast.now j) }
+    ensures value { result ≡ left_over (waiting (el held.now) forecast.now j) (of_period forecast.now j) }
     ensures turn { Turn held.now forecast.now waits.new (j + 1) }
     ensures stays { Stays waits.old waits.new j }
 {
@@ -74,7 +74,7 @@ fn left_over(held: &[usize], forecast: &[u32], waits: &mut [usize], from: usize,
 // The capacities of forecast s.
 fn forecast_at(rows: &[u32], periods: usize, s: usize) -> &[u32]
     requires { s * periods + periods ≤ length rows.now }
-    ensures { result.now ≡ forecastAt periods rows.now s }
+    ensures { result.now ≡ forecast_at periods rows.now s }
 {
     let first = s * periods;
     &rows[first..first + periods]
@@ -93,7 +93,7 @@ fn smaller(x: usize, y: usize) -> usize
 // Fewer wait in period j than can land.
 fn has_room(forecast: &[u32], waits: &[usize], j: usize) -> bool
     requires { (1 ≤ j) × (j ≤ length forecast.now) × (j < length waits.now) }
-    ensures { result ≡ ltb (el waits.now j) (ofPeriod forecast.now j) }
+    ensures { result ≡ ltb (el waits.now j) (of_period forecast.now j) }
 {
     waits[j] < wide(forecast[j - 1])
 }
@@ -101,7 +101,7 @@ fn has_room(forecast: &[u32], waits: &[usize], j: usize) -> bool
 // The first period from q on in which fewer wait than can land, else the closing period: a flight held to q lands there.
 fn first_room(forecast: &[u32], waits: &[usize], q: usize) -> usize
     requires { (1 ≤ q) × (q ≤ length forecast.now + 1) × (length forecast.now < length waits.now) }
-    ensures { result ≡ firstRoom (el waits.now) forecast.now q }
+    ensures { result ≡ first_room (el waits.now) forecast.now q }
 {
     let mut k = q;
     while k <= forecast.len() {
@@ -146,8 +146,8 @@ fn refresh(
 
 // Where a flight held to period j lands, if one held to the next period lands in `next`.
 fn lands_at(forecast: &[u32], waits: &[usize], j: usize, next: usize) -> usize
-    requires { (1 ≤ j) × (j ≤ length forecast.now) × (j < length waits.now) × (next ≡ firstRoom (el waits.now) forecast.now (j + 1)) }
-    ensures { result ≡ firstRoom (el waits.now) forecast.now j }
+    requires { (1 ≤ j) × (j ≤ length forecast.now) × (j < length waits.now) × (next ≡ first_room (el waits.now) forecast.now (j + 1)) }
+    ensures { result ≡ first_room (el waits.now) forecast.now j }
 {
     if has_room(forecast, waits, j) {
         return j;
@@ -199,7 +199,7 @@ fn weigh_air(
 
 // What a hold is expected to cost a flight. The weights add up to 1,000, so that the ground is paid 1,000 times.
 fn cost_in(f: Flight, factor: usize, air: &[usize], hold: usize) -> usize
-    requires { (f.rate ≤ 10000) × (factor ≤ 10) × (f.due + hold < length air.now) × (hold < periodRow) × (el air.now (f.due + hold) ≤ 768000) }
+    requires { (f.rate ≤ 10000) × (factor ≤ 10) × (f.due + hold < length air.now) × (hold < period_row) × (el air.now (f.due + hold) ≤ 768000) }
     ensures { result ≡ weighed f factor (el air.now) hold }
 {
     let rate = wide(f.rate);
@@ -259,7 +259,7 @@ fn hold_of(
 
 // One flight more is held to a period.
 fn count_in(held: &mut [usize], period: usize)
-    requires { (period < length held.old) × (el held.old period ≤ mostFlights) }
+    requires { (period < length held.old) × (el held.old period ≤ most_flights) }
     ensures { held.new ≡ set held.old period (el held.old period + 1) }
 {
     held[period] = held[period] + 1;
@@ -278,8 +278,8 @@ fn hold_all(
     waits: &mut [usize],
 ) -> usize
     requires { Placed (lent capacities flights unlimited) (odds factor weights rows) holds.old held.old waits.old 0 0 }
-    ensures value { result ≡ expectedTotal (lent capacities.entry flights.entry unlimited) (odds factor weights.entry rows.entry) (forecastHolds (lent capacities.entry flights.entry unlimited) (odds factor weights.entry rows.entry)) }
-    ensures holds_after { holds.new ≡ forecastHolds (lent capacities.entry flights.entry unlimited) (odds factor weights.entry rows.entry) }
+    ensures value { result ≡ expected_total (lent capacities.entry flights.entry unlimited) (odds factor weights.entry rows.entry) (forecast_holds (lent capacities.entry flights.entry unlimited) (odds factor weights.entry rows.entry)) }
+    ensures holds_after { holds.new ≡ forecast_holds (lent capacities.entry flights.entry unlimited) (odds factor weights.entry rows.entry) }
 {
     let periods = capacities.len();
     let mut total = 0;
@@ -308,8 +308,8 @@ fn hold_flights(
     holds: &mut [u32],
 ) -> usize
     requires { Fit (lent capacities flights unlimited) (odds factor weights rows) × (length holds.old ≡ N (lent capacities flights unlimited)) }
-    ensures value { result ≡ expectedTotal (lent capacities.entry flights.entry unlimited) (odds factor weights.entry rows.entry) (forecastHolds (lent capacities.entry flights.entry unlimited) (odds factor weights.entry rows.entry)) }
-    ensures holds_after { holds.new ≡ forecastHolds (lent capacities.entry flights.entry unlimited) (odds factor weights.entry rows.entry) }
+    ensures value { result ≡ expected_total (lent capacities.entry flights.entry unlimited) (odds factor weights.entry rows.entry) (forecast_holds (lent capacities.entry flights.entry unlimited) (odds factor weights.entry rows.entry)) }
+    ensures holds_after { holds.new ≡ forecast_holds (lent capacities.entry flights.entry unlimited) (odds factor weights.entry rows.entry) }
 {
     let mut held = [0; PERIOD_ROW];
     let mut waits = [0; WAITS];
@@ -320,7 +320,7 @@ fn hold_flights(
 
 // No flight has a jump.
 fn no_jumps(flights: &[u32]) -> bool
-    ensures { result ≡ noJumps flights.now }
+    ensures { result ≡ no_jumps flights.now }
 {
     let n = flight_count(flights);
     let mut i = 0;
@@ -335,7 +335,7 @@ fn no_jumps(flights: &[u32]) -> bool
 
 // Refusal 13 is given where this says no.
 fn terms_fit(flights: &[u32], count: usize, factor: usize) -> bool
-    ensures { result ≡ termsFit flights.now count factor }
+    ensures { result ≡ terms_fit flights.now count factor }
 {
     if !no_jumps(flights) {
         return false;
@@ -349,7 +349,7 @@ fn terms_fit(flights: &[u32], count: usize, factor: usize) -> bool
 // What the weights add up to. They are of 32 bits, and their sum may be more.
 fn weight_sum(weights: &[u32]) -> usize
     requires { length weights.now ≤ 8 }
-    ensures { result ≡ allWeights weights.now }
+    ensures { result ≡ all_weights weights.now }
 {
     let mut sum = 0;
     let mut s = 0;
@@ -363,7 +363,7 @@ fn weight_sum(weights: &[u32]) -> usize
 // Refusal 12 is given where this says no.
 fn forecasts_fit(weights: &[u32], rows: &[u32]) -> bool
     requires { length weights.now ≤ 8 }
-    ensures { result ≡ forecastsFit weights.now rows.now }
+    ensures { result ≡ forecasts_fit weights.now rows.now }
 {
     if weight_sum(weights) != ALL_WEIGHTS {
         return false;
@@ -381,9 +381,9 @@ fn plan_rows(
     rows: &[u32],
     holds: &mut [u32],
 ) -> Answer
-    requires { (valid (lent capacities flights unlimited) ≡ true) × (termsFit flights.now count factor ≡ true) }
-    ensures value { result ≡ (rowsPlan (lent capacities.entry flights.entry unlimited) (forecasts count factor weights.entry rows.entry) holds.old).answer }
-    ensures holds_after { holds.new ≡ (rowsPlan (lent capacities.entry flights.entry unlimited) (forecasts count factor weights.entry rows.entry) holds.old).holds }
+    requires { (valid (lent capacities flights unlimited) ≡ true) × (terms_fit flights.now count factor ≡ true) }
+    ensures value { result ≡ (rows_plan (lent capacities.entry flights.entry unlimited) (forecasts count factor weights.entry rows.entry) holds.old).answer }
+    ensures holds_after { holds.new ≡ (rows_plan (lent capacities.entry flights.entry unlimited) (forecasts count factor weights.entry rows.entry) holds.old).holds }
 {
     let n = flight_count(flights);
     if holds.len() != n {
@@ -417,8 +417,8 @@ pub fn forecast_plan(
     rows: &[u32],
     holds: &mut [u32],
 ) -> Answer
-    ensures value { result ≡ (forecastPlan (lent capacities.entry flights.entry closing) (forecasts count factor weights.entry rows.entry) holds.old).answer }
-    ensures holds_after { holds.new ≡ (forecastPlan (lent capacities.entry flights.entry closing) (forecasts count factor weights.entry rows.entry) holds.old).holds }
+    ensures value { result ≡ (forecast_plan (lent capacities.entry flights.entry closing) (forecasts count factor weights.entry rows.entry) holds.old).answer }
+    ensures holds_after { holds.new ≡ (forecast_plan (lent capacities.entry flights.entry closing) (forecasts count factor weights.entry rows.entry) holds.old).holds }
 {
     if !is_valid(capacities, flights, closing) {
         return Answer::BadDay;

@@ -12,13 +12,13 @@ use borrow.Author.Tests.{eq-eqb}
 use Rattle.assignment.proofs.Tests.{eq?, lt?}
 use Rattle.answers.specs.declared.Answer.{Answer}
 use Rattle.answers.specs.declared.Answer.TheVariants.{Planned, NoPlan}
-use Rattle.day.specs.Day.{Day, day, unlimited, N, counted, ofPeriod, total, valid}
-use Rattle.day.specs.Plan.{Legal, Cheapest, firstJumpOrLimit}
-use Rattle.day.proofs.Costs.{period-out}
-use Rattle.day.proofs.Instance.{short-has-no-plan, total-le}
-use Rattle.day.proofs.Prices.{one-row}
-use Rattle.day.proofs.Valid.{valid-means, valid-flights}
-use Rattle.day.proofs.Curfew.{same-cheapest, cheapest-with, with-smallest, with-saves}
+use Rattle.day.specs.Day.{Day, day, unlimited, N, counted, of_period, total, valid}
+use Rattle.day.specs.Plan.{Legal, Cheapest, first_jump_or_limit}
+use Rattle.day.proofs.Costs.{period_out}
+use Rattle.day.proofs.Instance.{short_has_no_plan, total_le}
+use Rattle.day.proofs.Prices.{one_row}
+use Rattle.day.proofs.Valid.{valid_means, valid_flights}
+use Rattle.day.proofs.Curfew.{same_cheapest, cheapest_with, with_smallest, with_saves}
 use Rattle.quick_plan.specs.Quick.{quick}
 use Rattle.quick_plan.proofs.Cheapest.{same_total}
 use Rattle.full_plan.specs.FullPlan.{BestPlan, Solved, plan, none, FullPlan}
@@ -30,70 +30,70 @@ pub record IsNine (answer : Answer) : Type 0 where
   pub nine : answer ≡ NoPlan first last
 
 -- what a day and rows get that get neither 6 nor 7
-pub accepted-call : {d : Day} {a : Answer} {h p h' p' : List ℕ} → valid d ≡ true → length h ≡ N d → length p ≡ counted d
+pub accepted_call : {d : Day} {a : Answer} {h p h' p' : List ℕ} → valid d ≡ true → length h ≡ N d → length p ≡ counted d
     → FullPlan d a h p h' p' → Solved d a h p h' p'
 unfolding FullPlan
-accepted-call {d} {a} {h} {p} good holds prices call = rw (good, eq-eqb (length h) (N d) holds, eq-eqb (length p) (counted d) prices) at call
+accepted_call {d} {a} {h} {p} good holds prices call = rw (good, eq-eqb (length h) (N d) holds, eq-eqb (length p) (counted d) prices) at call
 
-not-nine : {t a b : ℕ} → Planned t ≡ NoPlan a b → ⊥
-not-nine e = let z : ◌≡◌ {A = ℕ} 0 1 = cc in omega (arith, z)
+not_nine : {t a b : ℕ} → Planned t ≡ NoPlan a b → ⊥
+not_nine e = let z : ◌≡◌ {A = ℕ} 0 1 = cc in omega (arith, z)
 
 -- "no plan" exactly when none exists
-pub nine-exactly : {d : Day} {a : Answer} {h p h' p' : List ℕ} → valid d ≡ true → Solved d a h p h' p'
+pub nine_exactly : {d : Day} {a : Answer} {h p h' p' : List ℕ} → valid d ≡ true → Solved d a h p h' p'
     → IsNine a ↔ ((g : List ℕ) → Legal d g → ⊥)
-nine-exactly {d} {a} good (plan s) = (
-  (λ w g legal. not-nine (sym s.total-is ∙ w.nine)),
+nine_exactly {d} {a} good (plan s) = (
+  (λ w g legal. not_nine (sym s.total_is ∙ w.nine)),
   (λ empty. absurd (empty _ s.cheapest.legal)),
 )
-nine-exactly {d} {a} good (none s) = (
-  (λ w g legal. short-has-no-plan (valid-means good) s.picked.short legal),
-  (λ empty. record { first = s.first; last = s.last; nine = s.stretch-is }),
+nine_exactly {d} {a} good (none s) = (
+  (λ w g legal. short_has_no_plan (valid_means good) s.picked.short legal),
+  (λ empty. record { first = s.first; last = s.last; nine = s.stretch_is }),
 )
 
-planned-total : {t u : ℕ} → Planned t ≡ Planned u → t ≡ u
-planned-total e = cc
+planned_total : {t u : ℕ} → Planned t ≡ Planned u → t ≡ u
+planned_total e = cc
 
 -- "Where quick plan applies, both totals are equal."
-pub totals-equal : {d : Day} {t : ℕ} {h p h' p' : List ℕ} → valid d ≡ true → firstJumpOrLimit d.flights ≡ N d → Solved d (Planned t) h p h' p'
+pub totals_equal : {d : Day} {t : ℕ} {h p h' p' : List ℕ} → valid d ≡ true → first_jump_or_limit d.flights ≡ N d → Solved d (Planned t) h p h' p'
     → t ≡ total d (quick d)
-totals-equal {d} {t} {h} {p} {h'} good applies (plan s) = planned-total s.total-is ∙ sym (same_total d good applies h' s.cheapest)
-totals-equal good applies (none s) = absurd (not-nine s.stretch-is)
+totals_equal {d} {t} {h} {p} {h'} good applies (plan s) = planned_total s.total_is ∙ sym (same_total d good applies h' s.cheapest)
+totals_equal good applies (none s) = absurd (not_nine s.stretch_is)
 
 -- whichever cheapest plan it takes, a day has one answer and one price row
 pub one_answer : {d : Day} {a b : Answer} {h p g r : List ℕ} → BestPlan d a h p → BestPlan d b g r → (a ≡ b) × (p ≡ r)
-one_answer {d} {a} {b} {h} {p} {g} {r} s t = (s.total-is ∙ ap Planned same ∙ sym t.total-is, one-row s.smallest t.smallest)
+one_answer {d} {a} {b} {h} {p} {g} {r} s t = (s.total_is ∙ ap Planned same ∙ sym t.total_is, one_row s.smallest t.smallest)
   where
     same : total d h ≡ total d g
     same = omega (arith, s.cheapest.least g t.cheapest.legal, t.cheapest.least h s.cheapest.legal)
 
 -- no price is above the total, and so none above 250,880,000
-pub price-to-total : {d : Day} {a : Answer} {h p : List ℕ} → BestPlan d a h p → (k : ℕ) → ofPeriod p k ≤ total d h
-price-to-total {d} {a} {h} {p} s k = elim (eq? k 0) [
+pub price_to_total : {d : Day} {a : Answer} {h p : List ℕ} → BestPlan d a h p → (k : ℕ) → of_period p k ≤ total d h
+price_to_total {d} {a} {h} {p} s k = elim (eq? k 0) [
   | inl e ↦ rw e (omega arith)
   | inr some ↦ elim (lt? (counted d) k) [
-    | inl past ↦ omega (arith, period-out p k (omega (arith, s.smallest.accepted.each)))
-    | inr to ↦ omega (arith, (s.saves k (omega arith) to).falls-by)
+    | inl past ↦ omega (arith, period_out p k (omega (arith, s.smallest.accepted.each)))
+    | inr to ↦ omega (arith, (s.saves k (omega arith) to).falls_by)
   ]
 ]
 
-pub price-low : {d : Day} {a : Answer} {h p : List ℕ} → valid d ≡ true → BestPlan d a h p → (k : ℕ) → ofPeriod p k ≤ 250880000
-price-low good s k = omega (arith, price-to-total s k, total-le (valid-means good) s.cheapest.legal)
+pub price_low : {d : Day} {a : Answer} {h p : List ℕ} → valid d ≡ true → BestPlan d a h p → (k : ℕ) → of_period p k ≤ 250880000
+price_low good s k = omega (arith, price_to_total s k, total_le (valid_means good) s.cheapest.legal)
 
 -- A closing line either leaves a day without a legal plan, which is then not planned, or changes no cheapest plan and no price but for the
 -- added 0, and so no answer.
-pub line-changes-nothing : (c f : List ℕ) (closing : ℕ) → closing < unlimited → valid (day c f closing) ≡ true → {a b : Answer} {h p g r : List ℕ}
+pub line_changes_nothing : (c f : List ℕ) (closing : ℕ) → closing < unlimited → valid (day c f closing) ≡ true → {a b : Answer} {h p g r : List ℕ}
     → BestPlan (day c f unlimited) a h p → BestPlan (day c f closing) b g r
     → (b ≡ a) × (r ≡ p ++ (0 ∷ [])) × ((x : List ℕ) → Cheapest (day c f closing) x ↔ Cheapest (day c f unlimited) x)
-line-changes-nothing c f closing line good {a} {b} {h} {p} s t = (
-  (one_answer t with-line).0,
-  (one_answer t with-line).1,
-  same-cheapest c f closing unlimited (omega arith) (valid-flights (valid-means good)) s.cheapest t.cheapest.legal,
+line_changes_nothing c f closing line good {a} {b} {h} {p} s t = (
+  (one_answer t with_line_lem).0,
+  (one_answer t with_line_lem).1,
+  same_cheapest c f closing unlimited (omega arith) (valid_flights (valid_means good)) s.cheapest t.cheapest.legal,
 )
   where
-    with-line : BestPlan (day c f closing) a h (p ++ (0 ∷ []))
-    with-line = record {
-      total-is = s.total-is;
-      cheapest = cheapest-with c f closing unlimited (omega arith) (valid-flights (valid-means good)) s.cheapest t.cheapest.legal;
-      smallest = with-smallest c f closing line (valid-means good) s.smallest s.saves t.cheapest.legal;
-      saves = with-saves c f closing line (valid-means good) s.smallest s.saves t.cheapest.legal;
+    with_line_lem : BestPlan (day c f closing) a h (p ++ (0 ∷ []))
+    with_line_lem = record {
+      total_is = s.total_is;
+      cheapest = cheapest_with c f closing unlimited (omega arith) (valid_flights (valid_means good)) s.cheapest t.cheapest.legal;
+      smallest = with_smallest c f closing line (valid_means good) s.smallest s.saves t.cheapest.legal;
+      saves = with_saves c f closing line (valid_means good) s.smallest s.saves t.cheapest.legal;
     }

@@ -9,7 +9,7 @@ use Rattle.day.specs.Plan.{Cheapest, Smallest, PricesSave, Picked}
 -- what is left to the program is named here: which cheapest plan (legal, and no legal plan costs less). The prices follow from the day: they
 -- are the smallest that the price check accepts, and one more landing in a period would save its price (#103)
 pub record BestPlan (d : Day) (answer : Answer) (holds prices : List ℕ) : Type 0 where
-  pub total-is : answer ≡ Planned (total d holds)
+  pub total_is : answer ≡ Planned (total d holds)
   pub cheapest : Cheapest d holds
   pub smallest : Smallest d holds prices
   pub saves : PricesSave d (total d holds) prices
@@ -19,9 +19,9 @@ pub record NoLegalPlan (d : Day) (answer : Answer) (holds₀ prices₀ holds pri
   pub first : ℕ
   pub last : ℕ
   pub picked : Picked d first last
-  pub stretch-is : answer ≡ NoPlan first last
-  pub same-holds : holds ≡ holds₀
-  pub same-prices : prices ≡ prices₀
+  pub stretch_is : answer ≡ NoPlan first last
+  pub same_holds : holds ≡ holds₀
+  pub same_prices : prices ≡ prices₀
 
 -- of a valid day and rows of its lengths: one of the two
 pub data Solved (d : Day) (answer : Answer) (holds₀ prices₀ holds prices : List ℕ) : Type 0 where
@@ -31,8 +31,8 @@ pub data Solved (d : Day) (answer : Answer) (holds₀ prices₀ holds prices : L
 -- a refusal: the answer, and both rows as they were
 pub record Refused (refusal answer : Answer) (holds₀ prices₀ holds prices : List ℕ) : Type 0 where
   pub refusal_is : answer ≡ refusal
-  pub same-holds : holds ≡ holds₀
-  pub same-prices : prices ≡ prices₀
+  pub same_holds : holds ≡ holds₀
+  pub same_prices : prices ≡ prices₀
 
 -- the call: refusals 6, 7 for the hold row, 7 for the price row, in this order; else the day is solved
 unfoldable pub FullPlan : Day → Answer → (holds₀ prices₀ holds prices : List ℕ) → Type 0

@@ -10,15 +10,15 @@ use lib.Dec.{eqb}
 use lib.ListN.{get_or}
 use borrow.Author.Tests.{eqb-true}
 use Rattle.day.specs.Day.{all}
-use Rattle.day.proofs.Tests.{all-at}
-use Rattle.growth.specs.Growth.{mostGrowth, mostGrowthPeriods, factor, HoldsFactors}
+use Rattle.day.proofs.Tests.{all_at}
+use Rattle.growth.specs.Growth.{most_growth, most_growth_periods, factor, HoldsFactors}
 
 -- in every row each entry is its factor
-unfoldable pub isTable : List (List ℕ) → Bool
-isTable rows = all (mostGrowth + 1) (λ a. all mostGrowthPeriods (λ t. eqb (get_or (get_or rows a []) t 0) (factor a t)))
+unfoldable pub is_table : List (List ℕ) → Bool
+is_table rows = all (most_growth + 1) (λ a. all most_growth_periods (λ t. eqb (get_or (get_or rows a []) t 0) (factor a t)))
 
-pub table-rule : (rows : List (List ℕ)) → isTable rows ≡ true → HoldsFactors rows
-unfolding isTable HoldsFactors
-table-rule rows passed a t g l =
-    let row-passed = all-at (mostGrowth + 1) _ passed a (omega arith) in
-    eqb-true _ _ (all-at mostGrowthPeriods _ row-passed t l)
+pub table_rule : (rows : List (List ℕ)) → is_table rows ≡ true → HoldsFactors rows
+unfolding is_table HoldsFactors
+table_rule rows passed a t g l =
+    let row_passed = all_at (most_growth + 1) _ passed a (omega arith) in
+    eqb-true _ _ (all_at most_growth_periods _ row_passed t l)

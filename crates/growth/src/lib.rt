@@ -1,6 +1,6 @@
 // Growing cost of waiting: what each further period of hold costs, in millionths.
 ghost use Rattle.std.specs.Prelude.{◌≡◌, ◌^◌, ◌≤◌, ◌<◌};
-ghost use Rattle.growth.specs.Growth.{factor, HoldsFactors, furtherCost, growthCost, mostGrowth, mostGrowthPeriods};
+ghost use Rattle.growth.specs.Growth.{factor, HoldsFactors, further_cost, growth_cost, most_growth, most_growth_periods};
 
 use day::wide;
 
@@ -67,7 +67,7 @@ pub fn factor_table() -> FactorTable
 
 // What the t-th further period of hold costs, t from 0, in millionths of the rate.
 fn factor(factors: &FactorTable, growth: usize, t: usize) -> usize
-    requires { HoldsFactors factors.now × (growth ≤ mostGrowth) × (t < mostGrowthPeriods) }
+    requires { HoldsFactors factors.now × (growth ≤ most_growth) × (t < most_growth_periods) }
     ensures { result ≡ factor growth t }
 {
     wide(factors[growth][t])
@@ -75,16 +75,16 @@ fn factor(factors: &FactorTable, growth: usize, t: usize) -> usize
 
 // What the t-th further period of hold costs a flight.
 pub fn further_cost(factors: &FactorTable, growth: usize, rate: usize, t: usize) -> usize
-    requires { HoldsFactors factors.now × (growth ≤ mostGrowth) × (rate < 2 ^ 32) × (t < mostGrowthPeriods) }
-    ensures { result ≡ furtherCost growth rate t }
+    requires { HoldsFactors factors.now × (growth ≤ most_growth) × (rate < 2 ^ 32) × (t < most_growth_periods) }
+    ensures { result ≡ further_cost growth rate t }
 {
     rate * factor(factors, growth, t)
 }
 
 // What a hold costs a flight.
 pub fn growth_cost(factors: &FactorTable, growth: usize, rate: usize, hold: usize) -> usize
-    requires { HoldsFactors factors.now × (growth ≤ mostGrowth) × (rate ≤ 10000) × (hold ≤ mostGrowthPeriods) }
-    ensures { result ≡ growthCost growth rate hold }
+    requires { HoldsFactors factors.now × (growth ≤ most_growth) × (rate ≤ 10000) × (hold ≤ most_growth_periods) }
+    ensures { result ≡ growth_cost growth rate hold }
 {
     let mut sum = 0;
     let mut t = 0;

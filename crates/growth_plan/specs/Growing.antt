@@ -4,34 +4,34 @@ use Rattle.std.specs.Prelude.{cond, not, List, ℕ, ◌≤◌}
 use Rattle.assignment.specs.Sum.{sum}
 use Rattle.answers.specs.Answers.{Outcome, outcome}
 use Rattle.answers.specs.declared.Answer.TheVariants.{Planned, BadGrowth}
-use Rattle.day.specs.Day.{Day, P, rateOf, hold, flightCount}
+use Rattle.day.specs.Day.{Day, P, rate_of, hold, flight_count}
 use Rattle.day.specs.Plan.{Legal}
-use Rattle.growth.specs.Growth.{growthFits, growthCost}
+use Rattle.growth.specs.Growth.{growth_fits, growth_cost}
 use Rattle.quick_plan.specs.declared.NextCost.TheVariants.{Growing}
-use Rattle.quick_plan.specs.NextCost.{nextCost}
-use Rattle.quick_plan.specs.Quick.{quickBy}
-use Rattle.quick_plan.specs.Calls.{quickCheck, onQuick, ifRoom}
+use Rattle.quick_plan.specs.NextCost.{next_cost}
+use Rattle.quick_plan.specs.Quick.{quick_by}
+use Rattle.quick_plan.specs.Calls.{quick_check, on_quick, if_room}
 
 -- what one more period of hold costs, with a growth of a tenths
 abbrev pub growing : (a : ℕ) → Day → ℕ → ℕ → ℕ
-growing a d = nextCost (Growing a) d.flights
+growing a d = next_cost (Growing a) d.flights
 
 -- the growing plan's holds, in table order
-abbrev pub growingQuick : (a : ℕ) → Day → List ℕ
-growingQuick a d = quickBy d (growing a d)
+abbrev pub growing_quick : (a : ℕ) → Day → List ℕ
+growing_quick a d = quick_by d (growing a d)
 
 -- the total "in millionths"
-unfoldable pub growingTotal : (a : ℕ) (flights holds : List ℕ) → ℕ
-growingTotal a flights holds = sum (flightCount flights) (λ i. growthCost a (rateOf flights i) (hold holds i))
+unfoldable pub growing_total : (a : ℕ) (flights holds : List ℕ) → ℕ
+growing_total a flights holds = sum (flight_count flights) (λ i. growth_cost a (rate_of flights i) (hold holds i))
 
 -- "no legal plan is cheaper in millionths"
 pub record CheapestGrowing (a : ℕ) (d : Day) (holds : List ℕ) : Type 0 where
   pub legal : Legal d holds
-  pub least : (other : List ℕ) → Legal d other → growingTotal a d.flights holds ≤ growingTotal a d.flights other
+  pub least : (other : List ℕ) → Legal d other → growing_total a d.flights holds ≤ growing_total a d.flights other
 
 -- the call: refusals 6, 7, 8, then 14, "if a or the number of periods is out of range", and 9 (#108); they leave the row as it was
-unfoldable pub growthPlan : (a : ℕ) → Day → List ℕ → Outcome
-growthPlan a d holds =
-    onQuick (quickCheck d holds) holds
-    (cond (not (growthFits a (P d))) (outcome BadGrowth holds)
-    (ifRoom d (growing a d) holds (outcome (Planned (growingTotal a d.flights (growingQuick a d))) (growingQuick a d))))
+unfoldable pub growth_plan : (a : ℕ) → Day → List ℕ → Outcome
+growth_plan a d holds =
+    on_quick (quick_check d holds) holds
+    (cond (not (growth_fits a (P d))) (outcome BadGrowth holds)
+    (if_room d (growing a d) holds (outcome (Planned (growing_total a d.flights (growing_quick a d))) (growing_quick a d))))

@@ -1,8 +1,8 @@
 // The growing plan: the quick plan of a day on which each further period of hold costs more than the one before.
 ghost use Rattle.std.specs.Prelude.{◌≡◌};
 ghost use Rattle.day.specs.Day.{lent};
-ghost use Rattle.growth.specs.Growth.{growthFits};
-ghost use Rattle.growth_plan.specs.Growing.{growingTotal, growthPlan};
+ghost use Rattle.growth.specs.Growth.{growth_fits};
+ghost use Rattle.growth_plan.specs.Growing.{growing_total, growth_plan};
 ghost use Rattle.growth_plan.specs.Loop.{CanSum};
 
 use answers::Answer;
@@ -14,7 +14,7 @@ use stretch::{ShortStretch, find_short};
 // What a row of holds costs, in millionths.
 fn total_in_millionths(growth: usize, flights: &[u32], holds: &[u32]) -> usize
     requires { CanSum growth flights.now holds.now }
-    ensures { result ≡ growingTotal growth flights.now holds.now }
+    ensures { result ≡ growing_total growth flights.now holds.now }
 {
     let factors = factor_table();
     let mut sum = 0;
@@ -28,7 +28,7 @@ fn total_in_millionths(growth: usize, flights: &[u32], holds: &[u32]) -> usize
 
 // The growth and the number of periods are within their ranges.
 fn growth_fits(growth: usize, periods: usize) -> bool
-    ensures { result ≡ growthFits growth periods }
+    ensures { result ≡ growth_fits growth periods }
 {
     growth <= GROWTH && periods <= GROWTH_PERIODS
 }
@@ -43,8 +43,8 @@ pub fn growth_plan(
     growth: u32,
     holds: &mut [u32],
 ) -> Answer
-    ensures value { result ≡ (growthPlan growth (lent capacities.entry flights.entry closing) holds.old).answer }
-    ensures holds_after { holds.new ≡ (growthPlan growth (lent capacities.entry flights.entry closing) holds.old).holds }
+    ensures value { result ≡ (growth_plan growth (lent capacities.entry flights.entry closing) holds.old).answer }
+    ensures holds_after { holds.new ≡ (growth_plan growth (lent capacities.entry flights.entry closing) holds.old).holds }
 {
     let found = check_quick(capacities, flights, closing, holds);
     if let QuickCheck::Refused(refusal) = found {

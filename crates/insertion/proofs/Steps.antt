@@ -16,57 +16,57 @@ use Rattle.assignment.specs.Moves.{Moved, put}
 use Rattle.assignment.specs.Orders.{Permuted, Swapped}
 use Rattle.assignment.specs.Chains as chains
 use Rattle.assignment.specs.Insertion.{Going}
-use Rattle.assignment.proofs.Tests.{eq?, lt?, gate-eq, gate-ne}
-use Rattle.assignment.proofs.Sums.{count-suc, count-ext}
-use Rattle.assignment.proofs.Moves.{put-moved}
-use Rattle.assignment.proofs.Chains.{chained-add}
+use Rattle.assignment.proofs.Tests.{eq?, lt?, gate_eq, gate_ne}
+use Rattle.assignment.proofs.Sums.{count_suc, count_ext}
+use Rattle.assignment.proofs.Moves.{put_moved}
+use Rattle.assignment.proofs.Chains.{chained_add}
 use Rattle.assignment.proofs.Insertion.{going_step}
-use Rattle.assignment.proofs.Permuted.{permuted-other, permuted-same, swapped}
-use Rattle.assignment.proofs.Rows.{set-moved}
-use Rattle.day.specs.Day.{mostFlights, periodRow, width, column, flightCount, ofPeriod, unlimited, takesOf, hold}
-use Rattle.day.proofs.Costs.{period-out, period-moved}
+use Rattle.assignment.proofs.Permuted.{permuted_other, permuted_same, swapped}
+use Rattle.assignment.proofs.Rows.{set_moved}
+use Rattle.day.specs.Day.{most_flights, period_row, width, column, flight_count, of_period, unlimited, takes_of, hold}
+use Rattle.day.proofs.Costs.{period_out, period_moved}
 use Rattle.path.specs.Path.{far, away, landing, Chained}
-use Rattle.path.proofs.Rows.{away-moved, as_read}
+use Rattle.path.proofs.Rows.{away_moved, as_read}
 use Rattle.insertion.specs.Insertion.{EachOnce, home, Added, CanFind, FirstRoom, Hop, Linked, CanWalk, Walked, CanForget, Forgotten, CanRaise, Raised, Cleared}
 
 -- ---- add_place
 
 -- place n is the newest of those in k
 module _ {x y : ℕ → ℕ} {loads loads₂ links links₂ : List ℕ} {n k : ℕ} (c : Chained x links n)
-    (in-day : k < periodRow) (in_row : n < mostFlights) (same : (s : ℕ) → s < n → y s ≡ x s) (here : y n ≡ k) (a : Added loads loads₂ links links₂ n k) where
+    (in_day : k < period_row) (in_row : n < most_flights) (same : (s : ℕ) → s < n → y s ≡ x s) (here : y n ≡ k) (a : Added loads loads₂ links links₂ n k) where
   abbrev mid : List ℕ
-  mid = set links (periodRow + n) (el links k)
+  mid = set links (period_row + n) (el links k)
 
-  mid-length : length mid ≡ length links
-  mid-length = length-set links (periodRow + n) (el links k)
+  mid_length : length mid ≡ length links
+  mid_length = length-set links (period_row + n) (el links k)
 
   -- the place's own entry, then the period's
-  first : Moved (el links) (el mid) (periodRow + n) (el links k)
-  first = set-moved links (periodRow + n) (el links k) (omega (arith, c.row))
+  first : Moved (el links) (el mid) (period_row + n) (el links k)
+  first = set_moved links (period_row + n) (el links k) (omega (arith, c.row))
 
   second : Moved (el mid) (el links₂) k (n + 1)
-  second = rw a.linked (set-moved mid k (n + 1) (omega (arith, mid-length, c.row)))
+  second = rw a.linked (set_moved mid k (n + 1) (omega (arith, mid_length, c.row)))
 
-  pub added-chained : Chained y links₂ (n + 1)
-  added-chained = record {
-    row = ap length a.linked ∙ length-set mid k (n + 1) ∙ mid-length ∙ c.row;
-    chains = chained-add {link₂ = λ s. el links₂ (periodRow + s)} (heads-only c.chains) in-day same here
+  pub added_chained : Chained y links₂ (n + 1)
+  added_chained = record {
+    row = ap length a.linked ∙ length-set mid k (n + 1) ∙ mid_length ∙ c.row;
+    chains = chained_add {link₂ = λ s. el links₂ (period_row + s)} (heads_only c.chains) in_day same here
         (record { here = second.here; others = λ o e. second.others o e })
-        (record { here = second.others (periodRow + n) (omega arith) ∙ first.here ∙ sym (first.others k (omega arith)); others = λ o e. second.others (periodRow + o) (omega arith) ∙ first.others (periodRow + o) (omega arith) });
+        (record { here = second.others (period_row + n) (omega arith) ∙ first.here ∙ sym (first.others k (omega arith)); others = λ o e. second.others (period_row + o) (omega arith) ∙ first.others (period_row + o) (omega arith) });
   }
     where
       -- the entries of the periods are as they were
-      heads-only : chains.Chained x periodRow (el links) (λ s. el links (periodRow + s)) n → chains.Chained x periodRow (el mid) (λ s. el links (periodRow + s)) n
-      heads-only h = record { heads = λ j b. rw (first.others j (omega arith)) (h.heads j b); links = h.links }
+      heads_only : chains.Chained x period_row (el links) (λ s. el links (period_row + s)) n → chains.Chained x period_row (el mid) (λ s. el links (period_row + s)) n
+      heads_only h = record { heads = λ j b. rw (first.others j (omega arith)) (h.heads j b); links = h.links }
 
-  pub added-loads : length loads ≡ periodRow → ((j : ℕ) → j < periodRow → el loads j ≡ count n x j) → (j : ℕ) → j < periodRow → el loads₂ j ≡ count (n + 1) y j
-  added-loads row are j b = elim (eq? j k) [
-    | inl e ↦ rw e (omega (arith, u.here, counts k, gate-eq k k 1 refl, are k in-day))
-    | inr e ↦ omega (arith, u.others j e, counts j, gate-ne k j 1 (λ z. e (sym z)), are j b)
+  pub added_loads : length loads ≡ period_row → ((j : ℕ) → j < period_row → el loads j ≡ count n x j) → (j : ℕ) → j < period_row → el loads₂ j ≡ count (n + 1) y j
+  added_loads row are j b = elim (eq? j k) [
+    | inl e ↦ rw e (omega (arith, u.here, counts k, gate_eq k k 1 refl, are k in_day))
+    | inr e ↦ omega (arith, u.others j e, counts j, gate_ne k j 1 (λ z. e (sym z)), are j b)
   ]
     where
       u : Moved (el loads) (el loads₂) k (el loads k + 1)
-      u = rw a.counted (set-moved loads k (el loads k + 1) (omega (arith, row)))
+      u = rw a.counted (set_moved loads k (el loads k + 1) (omega (arith, row)))
 
       counts : (j : ℕ) → count (n + 1) y j ≡ count n x j + gate (eqb k j) 1
       counts j =
@@ -74,8 +74,8 @@ module _ {x y : ℕ → ℕ} {loads loads₂ links links₂ : List ℕ} {n k : �
           omega (
             arith,
             ap (λ z. count z y j) e,
-            count-suc n y j,
-            count-ext n x y same j,
+            count_suc n y j,
+            count_ext n x y same j,
             ap (λ z. gate (eqb z j) 1) here,
           )
 
@@ -86,64 +86,64 @@ pub record Passing (capacities loads : List ℕ) (first k : ℕ) : Type 0 where
   pub can : CanFind capacities loads first
   pub from : first ≤ k
   pub to : k ≤ length capacities + 1
-  pub full : (j : ℕ) → first ≤ j → j < k → takesOf capacities unlimited j ≤ el loads j
+  pub full : (j : ℕ) → first ≤ j → j < k → takes_of capacities unlimited j ≤ el loads j
 
-pub passing-start : {capacities loads : List ℕ} {first : ℕ} → CanFind capacities loads first → Passing capacities loads first first
-passing-start c = record { can = c; from = omega arith; to = c.to; full = λ j a b. absurd (omega arith) }
+pub passing_start : {capacities loads : List ℕ} {first : ℕ} → CanFind capacities loads first → Passing capacities loads first first
+passing_start c = record { can = c; from = omega arith; to = c.to; full = λ j a b. absurd (omega arith) }
 
 module _ {capacities loads : List ℕ} {first k : ℕ} (s : Passing capacities loads first k) where
-  pub passing-room : (k < length loads) × (k < periodRow)
-  passing-room = omega (arith, s.can.few, s.can.rows, s.to)
+  pub passing_room : (k < length loads) × (k < period_row)
+  passing_room = omega (arith, s.can.few, s.can.rows, s.to)
 
-  module _ {r : ℕ} (e : r ≡ takesOf capacities unlimited k) where
-    pub passing-found : get_or loads k 0 < r → FirstRoom capacities loads first k
-    passing-found less = record { from = s.from; to = s.to; full = s.full; free = omega arith }
+  module _ {r : ℕ} (e : r ≡ takes_of capacities unlimited k) where
+    pub passing_found : get_or loads k 0 < r → FirstRoom capacities loads first k
+    passing_found less = record { from = s.from; to = s.to; full = s.full; free = omega arith }
 
     module _ (more : r ≤ get_or loads k 0) where
       -- the closing period has room
-      pub passing-in : k ≤ length capacities
-      passing-in = elim (eq? k (length capacities + 1)) [
-        | inl closing ↦ absurd (omega (arith, s.can.closing, ap (takesOf capacities unlimited) closing, ap (el loads) closing))
+      pub passing_in : k ≤ length capacities
+      passing_in = elim (eq? k (length capacities + 1)) [
+        | inl closing ↦ absurd (omega (arith, s.can.closing, ap (takes_of capacities unlimited) closing, ap (el loads) closing))
         | inr other ↦ omega (arith, s.to)
       ]
 
-      pub passing-next : Passing capacities loads first (k + 1)
-      passing-next = record {
+      pub passing_next : Passing capacities loads first (k + 1)
+      passing_next = record {
         can = s.can;
         from = omega (arith, s.from);
-        to = omega (arith, passing-in);
+        to = omega (arith, passing_in);
         full = λ j a b. elim (eq? j k) [ inl f ↦ rw f (omega arith) | inr f ↦ s.full j a (omega arith) ];
       }
 
 -- ---- walk
 
 -- the flight at place `who` is held until k: it lands there, and the others where they did
-module _ {flights places : List ℕ} (holds : List ℕ) {who i k : ℕ} (t : EachOnce flights places) (l : who < flightCount flights)
-    (row : length holds ≡ flightCount flights) (i-is : i ≡ el places who) (due-by : column 1 flights i ≤ k) where
+module _ {flights places : List ℕ} (holds : List ℕ) {who i k : ℕ} (t : EachOnce flights places) (l : who < flight_count flights)
+    (row : length holds ≡ flight_count flights) (i-is : i ≡ el places who) (due_by_lem : column 1 flights i ≤ k) where
   in_row : i < length holds
   in_row = omega (arith, t.permuted.below who l)
 
-  held-here : landing flights places (set holds i (k - column 1 flights i)) who ≡ k
-  held-here = rw (← i-is) (omega (arith, (set-moved holds i (k - column 1 flights i) in_row).here))
+  held_here : landing flights places (set holds i (k - column 1 flights i)) who ≡ k
+  held_here = rw (← i-is) (omega (arith, (set_moved holds i (k - column 1 flights i) in_row).here))
 
-  held-other : (s : ℕ) → s < flightCount flights → s ≢ who → landing flights places (set holds i (k - column 1 flights i)) s ≡ landing flights places holds s
-  held-other s b e = omega (arith, (set-moved holds i (k - column 1 flights i) in_row).others (el places s) (λ f. permuted-other t.permuted s who b l e (f ∙ i-is)))
+  held_other : (s : ℕ) → s < flight_count flights → s ≢ who → landing flights places (set holds i (k - column 1 flights i)) s ≡ landing flights places holds s
+  held_other s b e = omega (arith, (set_moved holds i (k - column 1 flights i) in_row).others (el places s) (λ f. permuted_other t.permuted s who b l e (f ∙ i-is)))
 
 -- two entries change places
-swap-moved : (row : List ℕ) (a b : ℕ) → a < length row → b < length row → a ≢ b → Swapped (el row) (el (set (set row a (el row b)) b (el row a))) a b
-swap-moved row a b in-a in_b apart =
-    let v = set-moved row a (el row b) in-a in
-    let w = set-moved (set row a (el row b)) b (el row a) (omega (arith, length-set row a (el row b))) in
+swap_moved : (row : List ℕ) (a b : ℕ) → a < length row → b < length row → a ≢ b → Swapped (el row) (el (set (set row a (el row b)) b (el row a))) a b
+swap_moved row a b in-a in_b apart =
+    let v = set_moved row a (el row b) in-a in
+    let w = set_moved (set row a (el row b)) b (el row a) (omega (arith, length-set row a (el row b))) in
     record {
       here = w.others a apart ∙ v.here;
       there = w.here;
       others = λ s e f. w.others s f ∙ v.others s e;
     }
 
-put-swapped : (f : ℕ → ℕ) (a b : ℕ) → a ≢ b → Swapped f (put (put f a (f b)) b (f a)) a b
-put-swapped f a b apart =
-    let v = put-moved f a (f b) in
-    let w = put-moved (put f a (f b)) b (f a) in
+put_swapped : (f : ℕ → ℕ) (a b : ℕ) → a ≢ b → Swapped f (put (put f a (f b)) b (f a)) a b
+put_swapped f a b apart =
+    let v = put_moved f a (f b) in
+    let w = put_moved (put f a (f b)) b (f a) in
     record {
       here = w.others a apart ∙ v.here;
       there = w.here;
@@ -160,9 +160,9 @@ hops (suc most) x via n at = cond (eqb (via at) n) 0 (suc (hops most x via n (x 
 pub record Walking (flights places₀ places holds₀ holds via : List ℕ) (n target at place from : ℕ) : Type 0 where
   pub can : CanWalk flights places₀ holds₀ via n target
   pub once : EachOnce flights places
-  pub same-p : length places ≡ length places₀
-  pub same-h : length holds ≡ length holds₀
-  pub in-day : at < periodRow
+  pub same_p : length places ≡ length places₀
+  pub same_h : length holds ≡ length holds₀
+  pub in_day : at < period_row
   pub some : 0 < el can.turn at
   pub below : el can.turn at ≤ el can.turn target
   pub is : from ≡ el via at
@@ -175,7 +175,7 @@ pub record Walking (flights places₀ places holds₀ holds via : List ℕ) (n t
   pub here : home flights places₀ holds₀ n target place ≡ at
   pub at_home : (s : ℕ) → s < suc n → s ≢ place → landing flights places holds s ≡ home flights places₀ holds₀ n target s
   pub x : ℕ → ℕ
-  pub lands-are : (s : ℕ) → s < suc n → s ≢ place → x (σ s) ≡ home flights places₀ holds₀ n target s
+  pub lands_are : (s : ℕ) → s < suc n → s ≢ place → x (σ s) ≡ home flights places₀ holds₀ n target s
   pub still : (s : ℕ) → s < n → el can.turn (home flights places₀ holds₀ n target s) < el can.turn at → σ s ≡ s
   pub keeps : (i : Instance) (q order : ℕ → ℕ) (u : ℕ) → i.n ≡ n
       → Going i (landing flights places₀ holds₀) (landing flights places₀ holds₀) q order (el via) u target target
@@ -183,51 +183,51 @@ pub record Walking (flights places₀ places holds₀ holds via : List ℕ) (n t
 
 module _ {flights places holds via : List ℕ} {n target : ℕ} (c : CanWalk flights places holds via n target) where
   -- more steps than there were turns make no difference
-  hops-same : (f g at : ℕ) → at < periodRow → 0 < el c.turn at → el c.turn at ≤ el c.turn target → el c.turn at ≤ f → el c.turn at ≤ g
+  hops_same : (f g at : ℕ) → at < period_row → 0 < el c.turn at → el c.turn at ≤ el c.turn target → el c.turn at ≤ f → el c.turn at ≤ g
       → hops f (landing flights places holds) (el via) n at ≡ hops g (landing flights places holds) (el via) n at
   unfolding hops
-  hops-same zero g at in-day some below a b = absurd (omega arith)
-  hops-same (suc f) zero at in-day some below a b = absurd (omega arith)
-  hops-same (suc f) (suc g) at in-day some below a b = elim (c.chain at in-day some below).flight [
+  hops_same zero g at in_day some below a b = absurd (omega arith)
+  hops_same (suc f) zero at in_day some below a b = absurd (omega arith)
+  hops_same (suc f) (suc g) at in_day some below a b = elim (c.chain at in_day some below).flight [
     | inl new ↦ rw (eq-eqb (el via at) n new) refl
     | inr h ↦ ap (λ z. cond (eqb (el via at) n) 0 (suc z))
-        (hops-same f g (landing flights places holds (el via at)) h.in-day h.some (omega (arith, h.lower)) (omega (arith, h.lower)) (omega (arith, h.lower)))
+        (hops_same f g (landing flights places holds (el via at)) h.in_day h.some (omega (arith, h.lower)) (omega (arith, h.lower)) (omega (arith, h.lower)))
   ]
 
-  hops-less : (most at : ℕ) → el c.turn target ≤ suc most → el c.turn at ≤ el c.turn target → el via at ≢ n → Hop (landing flights places holds) c.turn via n at
+  hops_less : (most at : ℕ) → el c.turn target ≤ suc most → el c.turn at ≤ el c.turn target → el via at ≢ n → Hop (landing flights places holds) c.turn via n at
       → hops (suc most) (landing flights places holds) (el via) n (landing flights places holds (el via at)) < hops (suc most) (landing flights places holds) (el via) n at
   unfolding hops
-  hops-less most at few below other h = rw (ne_eqb (el via at) n other) (omega (
+  hops_less most at few below other h = rw (ne_eqb (el via at) n other) (omega (
     arith,
-    hops-same (suc most) most (landing flights places holds (el via at)) h.in-day h.some (omega (arith, h.lower)) (omega (arith, h.lower)) (omega (arith, h.lower)),
+    hops_same (suc most) most (landing flights places holds (el via at)) h.in_day h.some (omega (arith, h.lower)) (omega (arith, h.lower)) (omega (arith, h.lower)),
   ))
 
-  pub walk-in : target < length via
-  walk-in = omega (arith, c.within, c.vias)
+  pub walk_in : target < length via
+  walk_in = omega (arith, c.within, c.vias)
 
-  placed-home : (s : ℕ) → s ≢ n → home flights places holds n target s ≡ landing flights places holds s
-  placed-home s e = (put-moved (landing flights places holds) n target).others s e
+  placed_home : (s : ℕ) → s ≢ n → home flights places holds n target s ≡ landing flights places holds s
+  placed_home s e = (put_moved (landing flights places holds) n target).others s e
 
   pub walking_start : Walking flights places places holds holds via n target target n (get_or via target 0)
   walking_start = record {
     can = c;
     once = c.once;
-    same-p = refl;
-    same-h = refl;
-    in-day = c.within;
+    same_p = refl;
+    same_h = refl;
+    in_day = c.within;
     some = c.some;
     below = omega arith;
     is = refl;
     stands = omega arith;
     σ = λ s. s;
-    permuted = permuted-same (suc n);
+    permuted = permuted_same (suc n);
     moved = λ s _. refl;
     beyond = λ s _. refl;
     new = refl;
-    here = (put-moved (landing flights places holds) n target).here;
-    at_home = λ s _ e. sym (placed-home s e);
+    here = (put_moved (landing flights places holds) n target).here;
+    at_home = λ s _ e. sym (placed_home s e);
     x = landing flights places holds;
-    lands-are = λ s _ e. sym (placed-home s e);
+    lands_are = λ s _ e. sym (placed_home s e);
     still = λ s _ _. refl;
     keeps = λ i q order u e g. g;
   }
@@ -235,153 +235,153 @@ module _ {flights places holds via : List ℕ} {n target : ℕ} (c : CanWalk fli
 module _ {flights places₀ places holds₀ holds via : List ℕ} {n target at place from : ℕ}
     (s : Walking flights places₀ places holds₀ holds via n target at place from) where
   linked : Linked flights places₀ (landing flights places₀ holds₀) s.can.turn via n at
-  linked = s.can.chain at s.in-day s.some s.below
+  linked = s.can.chain at s.in_day s.some s.below
 
-  row : length holds ≡ flightCount flights
-  row = s.same-h ∙ s.can.holds_row
+  row : length holds ≡ flight_count flights
+  row = s.same_h ∙ s.can.holds_row
 
-  pub walking-places : (place < length places) × (place < mostFlights) × (place < flightCount flights)
-  walking-places = omega (arith, s.stands, s.can.upto, s.once.row, s.once.few)
+  pub walking_places : (place < length places) × (place < most_flights) × (place < flight_count flights)
+  walking_places = omega (arith, s.stands, s.can.upto, s.once.row, s.once.few)
 
   -- the flight at a place, if it stood at `from` at the start, may be held until `at`
   module _ {o i : ℕ} (l : o < suc n) (was : s.σ o ≡ from) (i-is : i ≡ get_or places o 0) where
-    due-by : column 1 flights i ≤ at
-    due-by = rw (i-is ∙ s.moved o l ∙ ap (el places₀) (was ∙ s.is)) linked.due-by
+    due_by_lem : column 1 flights i ≤ at
+    due_by_lem = rw (i-is ∙ s.moved o l ∙ ap (el places₀) (was ∙ s.is)) linked.due_by_lem
 
-    pub walking-hold : (i < length holds) × ((i + 1) * width ≤ length flights) × (column 1 flights i ≤ at) × (i < mostFlights) × (at < periodRow)
-    walking-hold =
+    pub walking_hold : (i < length holds) × ((i + 1) * width ≤ length flights) × (column 1 flights i ≤ at) × (i < most_flights) × (at < period_row)
+    walking_hold =
         let b = s.once.permuted.below o (omega (arith, s.can.upto)) in (
           omega (arith, b, i-is, row),
           omega (arith, b, i-is, s.once.whole),
-          due-by,
+          due_by_lem,
           omega (arith, b, i-is, s.once.few),
-          s.in-day,
+          s.in_day,
         )
 
   module _ (e : from ≢ n) where
     hop : Hop (landing flights places₀ holds₀) s.can.turn via n at
     hop = elim linked.flight [ inl new ↦ absurd (e (s.is ∙ new)) | inr h ↦ h ]
 
-    in-plan : from < n
-    in-plan = omega (arith, s.is, hop.who)
+    in_plan : from < n
+    in_plan = omega (arith, s.is, hop.who)
 
-    home-is : home flights places₀ holds₀ n target from ≡ landing flights places₀ holds₀ from
-    home-is = placed-home s.can from e
+    home_is : home flights places₀ holds₀ n target from ≡ landing flights places₀ holds₀ from
+    home_is = placed_home s.can from e
 
     lower : el s.can.turn (home flights places₀ holds₀ n target from) < el s.can.turn at
-    lower = rw (home-is, s.is) hop.lower
+    lower = rw (home_is, s.is) hop.lower
 
-    pub walking-stays : s.σ from ≡ from
-    walking-stays = s.still from in-plan lower
+    pub walking_stays : s.σ from ≡ from
+    walking_stays = s.still from in_plan lower
 
     apart : place ≢ from
     apart f = omega (arith, lower, ap (λ z. el s.can.turn (home flights places₀ holds₀ n target z)) f, ap (el s.can.turn) s.here)
 
-    pub walking-room : (from < length places) × (from < mostFlights) × (from < suc n) × (from < flightCount flights)
-    walking-room = omega (arith, in-plan, s.can.upto, s.once.row, s.once.few)
+    pub walking_room : (from < length places) × (from < most_flights) × (from < suc n) × (from < flight_count flights)
+    walking_room = omega (arith, in_plan, s.can.upto, s.once.row, s.once.few)
 
     module _ {i left : ℕ} (i-is : i ≡ get_or places from 0) (left_is : left ≡ column 1 flights i + hold holds i) where
       left_at : left ≡ home flights places₀ holds₀ n target from
-      left_at = rw i-is at left_is ∙ s.at_home from walking-room.2 (λ f. apart (sym f))
+      left_at = rw i-is at left_is ∙ s.at_home from walking_room.2 (λ f. apart (sym f))
 
-      pub walking-left : (left < length via) × (left < periodRow)
-      walking-left = rw (left_at, home-is, s.is) (omega (arith, hop.in-day, s.can.vias))
+      pub walking_left : (left < length via) × (left < period_row)
+      walking_left = rw (left_at, home_is, s.is) (omega (arith, hop.in_day, s.can.vias))
 
-      pub walking-less : el s.can.turn left < el s.can.turn at
-      walking-less = rw left_at lower
+      pub walking_less : el s.can.turn left < el s.can.turn at
+      walking_less = rw left_at lower
 
       -- fewer flights are left to move
-      pub walking-falls : hops (suc periodRow) (landing flights places₀ holds₀) (el via) n left < hops (suc periodRow) (landing flights places₀ holds₀) (el via) n at
-      walking-falls =
-          let to : left ≡ landing flights places₀ holds₀ (el via at) = left_at ∙ home-is ∙ ap (landing flights places₀ holds₀) s.is in
-          rw to (hops-less s.can periodRow at (omega (arith, s.can.latest)) s.below (λ new. e (s.is ∙ new)) hop)
+      pub walking_falls : hops (suc period_row) (landing flights places₀ holds₀) (el via) n left < hops (suc period_row) (landing flights places₀ holds₀) (el via) n at
+      walking_falls =
+          let to : left ≡ landing flights places₀ holds₀ (el via at) = left_at ∙ home_is ∙ ap (landing flights places₀ holds₀) s.is in
+          rw to (hops_less s.can period_row at (omega (arith, s.can.latest)) s.below (λ new. e (s.is ∙ new)) hop)
 
       swaps : Swapped (el places) (el (set (set places place (el places from)) from (el places place))) place from
-      swaps = swap-moved places place from walking-places.0 walking-room.0 apart
+      swaps = swap_moved places place from walking_places.0 walking_room.0 apart
 
       abbrev σ₂ : ℕ → ℕ
       σ₂ = put (put s.σ place (s.σ from)) from (s.σ place)
 
       turns : Swapped s.σ σ₂ place from
-      turns = put-swapped s.σ place from apart
+      turns = put_swapped s.σ place from apart
 
       goes : Moved s.x (put s.x from at) from at
-      goes = put-moved s.x from at
+      goes = put_moved s.x from at
 
       moved₂ : (o : ℕ) → o < suc n → el (set (set places place (el places from)) from (el places place)) o ≡ el places₀ (σ₂ o)
       moved₂ o b = elim (eq? o place) [
-        | inl f ↦ rw f (swaps.here ∙ s.moved from walking-room.2 ∙ ap (el places₀) (sym turns.here))
+        | inl f ↦ rw f (swaps.here ∙ s.moved from walking_room.2 ∙ ap (el places₀) (sym turns.here))
         | inr f ↦ elim (eq? o from) [
           | inl g ↦ rw g (swaps.there ∙ s.moved place s.stands ∙ ap (el places₀) (sym turns.there))
           | inr g ↦ swaps.others o f g ∙ s.moved o b ∙ ap (el places₀) (sym (turns.others o f g))
         ]
       ]
 
-      at-home₂ : (o : ℕ) → o < suc n → o ≢ from
+      at_home₂ : (o : ℕ) → o < suc n → o ≢ from
           → landing flights (set (set places place (el places from)) from (el places place)) (set holds i (at - column 1 flights i)) o ≡ home flights places₀ holds₀ n target o
-      at-home₂ o b f = elim (eq? o place) [
+      at_home₂ o b f = elim (eq? o place) [
         | inl g ↦ rw g (ap (λ z. column 1 flights z + hold (set holds i (at - column 1 flights i)) z) swaps.here
-            ∙ held-here holds s.once walking-room.3 row i-is (due-by walking-room.2 walking-stays i-is) ∙ sym s.here)
+            ∙ held_here holds s.once walking_room.3 row i-is (due_by_lem walking_room.2 walking_stays i-is) ∙ sym s.here)
         | inr g ↦ ap (λ z. column 1 flights z + hold (set holds i (at - column 1 flights i)) z) (swaps.others o g f)
-            ∙ held-other holds s.once walking-room.3 row i-is (due-by walking-room.2 walking-stays i-is) o (omega (arith, s.can.upto)) f ∙ s.at_home o b g
+            ∙ held_other holds s.once walking_room.3 row i-is (due_by_lem walking_room.2 walking_stays i-is) o (omega (arith, s.can.upto)) f ∙ s.at_home o b g
       ]
 
       lands₂ : (o : ℕ) → o < suc n → o ≢ from → put s.x from at (σ₂ o) ≡ home flights places₀ holds₀ n target o
       lands₂ o b f = elim (eq? o place) [
-        | inl g ↦ rw g (ap (put s.x from at) (turns.here ∙ walking-stays) ∙ goes.here ∙ sym s.here)
+        | inl g ↦ rw g (ap (put s.x from at) (turns.here ∙ walking_stays) ∙ goes.here ∙ sym s.here)
         | inr g ↦ ap (put s.x from at) (turns.others o g f)
-            ∙ goes.others (s.σ o) (λ h. permuted-other s.permuted o from b walking-room.2 f (h ∙ sym walking-stays)) ∙ s.lands-are o b g
+            ∙ goes.others (s.σ o) (λ h. permuted_other s.permuted o from b walking_room.2 f (h ∙ sym walking_stays)) ∙ s.lands_are o b g
       ]
 
       still₂ : (o : ℕ) → o < n → el s.can.turn (home flights places₀ holds₀ n target o) < el s.can.turn left → σ₂ o ≡ o
       still₂ o b low = turns.others o
-          (λ f. omega (arith, low, walking-less, ap (λ z. el s.can.turn (home flights places₀ holds₀ n target z)) f, ap (el s.can.turn) s.here))
+          (λ f. omega (arith, low, walking_less, ap (λ z. el s.can.turn (home flights places₀ holds₀ n target z)) f, ap (el s.can.turn) s.here))
           (λ f. omega (arith, low, ap (λ z. el s.can.turn (home flights places₀ holds₀ n target z)) f, ap (el s.can.turn) left_at))
-          ∙ s.still o b (omega (arith, low, walking-less))
+          ∙ s.still o b (omega (arith, low, walking_less))
 
-      pub walking-step : Walking flights places₀ (set (set places place (el places from)) from (el places place)) holds₀ (set holds i (at - column 1 flights i)) via n target left from (get_or via left 0)
-      walking-step = record {
+      pub walking_step : Walking flights places₀ (set (set places place (el places from)) from (el places place)) holds₀ (set holds i (at - column 1 flights i)) via n target left from (get_or via left 0)
+      walking_step = record {
         can = s.can;
         once = record {
           whole = s.once.whole;
           few = s.once.few;
           row = omega (arith, s.once.row, length-set (set places place (el places from)) from (el places place), length-set places place (el places from));
-          permuted = swapped s.once.permuted walking-places.2 walking-room.3 apart swaps;
+          permuted = swapped s.once.permuted walking_places.2 walking_room.3 apart swaps;
         };
-        same-p = length-set (set places place (el places from)) from (el places place) ∙ length-set places place (el places from) ∙ s.same-p;
-        same-h = length-set holds i (at - column 1 flights i) ∙ s.same-h;
-        in-day = walking-left.1;
-        some = rw (left_at, home-is, s.is) hop.some;
-        below = omega (arith, walking-less, s.below);
+        same_p = length-set (set places place (el places from)) from (el places place) ∙ length-set places place (el places from) ∙ s.same_p;
+        same_h = length-set holds i (at - column 1 flights i) ∙ s.same_h;
+        in_day = walking_left.1;
+        some = rw (left_at, home_is, s.is) hop.some;
+        below = omega (arith, walking_less, s.below);
         is = refl;
-        stands = walking-room.2;
+        stands = walking_room.2;
         σ = σ₂;
-        permuted = swapped s.permuted s.stands walking-room.2 apart turns;
+        permuted = swapped s.permuted s.stands walking_room.2 apart turns;
         moved = moved₂;
-        beyond = λ o b. swaps.others o (omega (arith, s.stands)) (omega (arith, in-plan)) ∙ s.beyond o b;
+        beyond = λ o b. swaps.others o (omega (arith, s.stands)) (omega (arith, in_plan)) ∙ s.beyond o b;
         new = turns.there ∙ s.new;
         here = sym left_at;
-        at_home = at-home₂;
+        at_home = at_home₂;
         x = put s.x from at;
-        lands-are = lands₂;
+        lands_are = lands₂;
         still = still₂;
         keeps = λ j q order u f g.
-            let gone : left ≡ s.x from = left_at ∙ sym (s.lands-are from walking-room.2 (λ h. apart (sym h))) ∙ ap s.x walking-stays in
+            let gone : left ≡ s.x from = left_at ∙ sym (s.lands_are from walking_room.2 (λ h. apart (sym h))) ∙ ap s.x walking_stays in
             rw gone (rw s.is (going_step (s.keeps j q order u f g) (λ new. e (s.is ∙ new ∙ f)) (rw s.is at goes)));
       }
 
   module _ (e : from ≡ n) {i : ℕ} (i-is : i ≡ get_or places place 0) where
-    pub walking-last : (i < length holds) × ((i + 1) * width ≤ length flights) × (column 1 flights i ≤ at) × (i < mostFlights) × (at < periodRow)
-    walking-last = walking-hold s.stands (s.new ∙ sym e) i-is
+    pub walking_last : (i < length holds) × ((i + 1) * width ≤ length flights) × (column 1 flights i ≤ at) × (i < most_flights) × (at < period_row)
+    walking_last = walking_hold s.stands (s.new ∙ sym e) i-is
 
     home_all : (o : ℕ) → o < suc n → landing flights places (set holds i (at - column 1 flights i)) o ≡ home flights places₀ holds₀ n target o
     home_all o b = elim (eq? o place) [
-      | inl f ↦ rw f (held-here holds s.once walking-places.2 row i-is walking-last.2 ∙ sym s.here)
-      | inr f ↦ held-other holds s.once walking-places.2 row i-is walking-last.2 o (omega (arith, s.can.upto)) f ∙ s.at_home o b f
+      | inl f ↦ rw f (held_here holds s.once walking_places.2 row i-is walking_last.2 ∙ sym s.here)
+      | inr f ↦ held_other holds s.once walking_places.2 row i-is walking_last.2 o (omega (arith, s.can.upto)) f ∙ s.at_home o b f
     ]
 
-    pub walking-end : Walked flights places₀ places holds₀ (set holds i (at - column 1 flights i)) via n target
-    walking-end = record {
+    pub walking_end : Walked flights places₀ places holds₀ (set holds i (at - column 1 flights i)) via n target
+    walking_end = record {
       once = s.once;
       σ = s.σ;
       permuted = s.permuted;
@@ -389,20 +389,20 @@ module _ {flights places₀ places holds₀ holds via : List ℕ} {n target at p
       beyond = s.beyond;
       at_home = home_all;
       y = put s.x n at;
-      lands-are = λ o b. home_all o b ∙ sym (plan o b);
+      lands_are = λ o b. home_all o b ∙ sym (plan o b);
       keeps = λ j q order u f g. record {
         at = at;
         x = s.x;
         going = s.keeps j q order u f g;
         new = sym s.is ∙ e ∙ sym f;
-        last = rw f (put-moved s.x n at);
+        last = rw f (put_moved s.x n at);
       };
     }
       where
         plan : (o : ℕ) → o < suc n → put s.x n at (s.σ o) ≡ home flights places₀ holds₀ n target o
         plan o b = elim (eq? o place) [
-          | inl f ↦ rw f (ap (put s.x n at) s.new ∙ (put-moved s.x n at).here ∙ sym s.here)
-          | inr f ↦ (put-moved s.x n at).others (s.σ o) (λ h. permuted-other s.permuted o place b s.stands f (h ∙ sym s.new)) ∙ s.lands-are o b f
+          | inl f ↦ rw f (ap (put s.x n at) s.new ∙ (put_moved s.x n at).here ∙ sym s.here)
+          | inr f ↦ (put_moved s.x n at).others (s.σ o) (λ h. permuted_other s.permuted o place b s.stands f (h ∙ sym s.new)) ∙ s.lands_are o b f
         ]
 
 -- ---- forget
@@ -414,17 +414,17 @@ pub record Forgetting (dist₀ dist : List ℕ) (first target k : ℕ) : Type 0 
   pub done : (j : ℕ) → first ≤ j → j < k → away dist j ≡ far
   pub outside : (j : ℕ) → (j < first) ⊎ (target < j) → away dist j ≡ far
 
-pub forgetting-start : {dist : List ℕ} {first target : ℕ} → CanForget dist first target → Forgetting dist dist first target first
-forgetting-start c = record { can = c; same = refl; done = λ j a b. absurd (omega arith); outside = c.outside }
+pub forgetting_start : {dist : List ℕ} {first target : ℕ} → CanForget dist first target → Forgetting dist dist first target first
+forgetting_start c = record { can = c; same = refl; done = λ j a b. absurd (omega arith); outside = c.outside }
 
 module _ {dist₀ dist : List ℕ} {first target k : ℕ} (s : Forgetting dist₀ dist first target k) where
   module _ (l : k ≤ target) where
-    pub forgetting-room : (k < length dist) × (k < periodRow)
-    forgetting-room = omega (arith, s.same, s.can.dists, s.can.within)
+    pub forgetting_room : (k < length dist) × (k < period_row)
+    forgetting_room = omega (arith, s.same, s.can.dists, s.can.within)
 
-    pub forgetting-next : Forgetting dist₀ (set dist k far) first target (k + 1)
-    forgetting-next =
-        let v = away-moved dist k far forgetting-room.0 in
+    pub forgetting_next : Forgetting dist₀ (set dist k far) first target (k + 1)
+    forgetting_next =
+        let v = away_moved dist k far forgetting_room.0 in
         record {
           can = s.can;
           same = length-set dist k far ∙ s.same;
@@ -432,9 +432,9 @@ module _ {dist₀ dist : List ℕ} {first target k : ℕ} (s : Forgetting dist�
           outside = λ j out. elim (eq? j k) [ inl e ↦ rw e v.here | inr e ↦ v.others j e ∙ s.outside j out ];
         }
 
-  pub forgetting-end : target < k → Forgotten dist
-  forgetting-end l = record {
-    all-far = λ j. elim (lt? j first) [
+  pub forgetting_end : target < k → Forgotten dist
+  forgetting_end l = record {
+    all_far = λ j. elim (lt? j first) [
       | inl a ↦ s.outside j (inl a)
       | inr a ↦ elim (lt? j k) [ inl b ↦ s.done j a b | inr b ↦ s.outside j (inr (omega arith)) ]
     ];
@@ -446,21 +446,21 @@ module _ {dist₀ dist : List ℕ} {first target k : ℕ} (s : Forgetting dist�
 pub record Raising (prices₀ prices dist : List ℕ) (first target goal k : ℕ) : Type 0 where
   pub can : CanRaise prices₀ dist first target
   pub same : length prices ≡ length prices₀
-  pub goal-is : goal ≡ away dist target
+  pub goal_is : goal ≡ away dist target
   pub from : first ≤ k
-  pub done : (j : ℕ) → first ≤ j → j < k → ofPeriod prices j ≡ ofPeriod prices₀ j + (goal - away dist j)
-  pub before : (j : ℕ) → j < first → ofPeriod prices j ≡ ofPeriod prices₀ j
-  pub left : (j : ℕ) → k ≤ j → ofPeriod prices j ≡ ofPeriod prices₀ j
+  pub done : (j : ℕ) → first ≤ j → j < k → of_period prices j ≡ of_period prices₀ j + (goal - away dist j)
+  pub before : (j : ℕ) → j < first → of_period prices j ≡ of_period prices₀ j
+  pub left : (j : ℕ) → k ≤ j → of_period prices j ≡ of_period prices₀ j
 
 module _ {prices dist : List ℕ} {first target : ℕ} (c : CanRaise prices dist first target) where
-  pub raise-room : (target < length dist) × (target < periodRow)
-  raise-room = omega (arith, c.to, c.few, c.dists)
+  pub raise_room : (target < length dist) × (target < period_row)
+  raise_room = omega (arith, c.to, c.few, c.dists)
 
-  pub raising-start : Raising prices prices dist first target (get_or dist target 0) first
-  raising-start = record {
+  pub raising_start : Raising prices prices dist first target (get_or dist target 0) first
+  raising_start = record {
     can = c;
     same = refl;
-    goal-is = as_read dist target raise-room.0;
+    goal_is = as_read dist target raise_room.0;
     from = omega arith;
     done = λ j a b. absurd (omega arith);
     before = λ j _. refl;
@@ -469,34 +469,34 @@ module _ {prices dist : List ℕ} {first target : ℕ} (c : CanRaise prices dist
 
 module _ {prices₀ prices dist : List ℕ} {first target goal k : ℕ} (s : Raising prices₀ prices dist first target goal k) where
   module _ (l : k < target) where
-    pub raising-room : (k < length dist) × (k - 1 < length prices) × (k < periodRow) × (1 ≤ k)
-    raising-room = omega (arith, s.same, s.from, s.can.from, s.can.to, s.can.few, s.can.dists)
+    pub raising_room : (k < length dist) × (k - 1 < length prices) × (k < period_row) × (1 ≤ k)
+    raising_room = omega (arith, s.same, s.from, s.can.from, s.can.to, s.can.few, s.can.dists)
 
     read : get_or dist k 0 ≡ away dist k
-    read = as_read dist k raising-room.0
+    read = as_read dist k raising_room.0
 
-    pub raising-small : {q : ℕ} → q ≡ ofPeriod prices k → q + (goal - get_or dist k 0) ≤ 4294967295
-    raising-small e = omega (arith, read, s.left k (omega arith), s.can.low k, s.goal-is)
+    pub raising_small : {q : ℕ} → q ≡ of_period prices k → q + (goal - get_or dist k 0) ≤ 4294967295
+    raising_small e = omega (arith, read, s.left k (omega arith), s.can.low k, s.goal_is)
 
-    pub raising-keep : goal ≤ get_or dist k 0 → Raising prices₀ prices dist first target goal (k + 1)
-    raising-keep h = record {
+    pub raising_keep : goal ≤ get_or dist k 0 → Raising prices₀ prices dist first target goal (k + 1)
+    raising_keep h = record {
       can = s.can;
       same = s.same;
-      goal-is = s.goal-is;
+      goal_is = s.goal_is;
       from = omega (arith, s.from);
       done = λ j a b. elim (eq? j k) [ inl e ↦ rw e (omega (arith, read, s.left k (omega arith))) | inr e ↦ s.done j a (omega arith) ];
       before = s.before;
       left = λ j b. s.left j (omega arith);
     }
 
-    pub raising-up : {q : ℕ} → q ≡ ofPeriod prices k
+    pub raising_up : {q : ℕ} → q ≡ of_period prices k
         → Raising prices₀ (set prices (k - 1) (q + (goal - get_or dist k 0))) dist first target goal (k + 1)
-    raising-up {q} e =
-        let v = period-moved prices k (q + (goal - get_or dist k 0)) raising-room.3 (omega (arith, raising-room)) in
+    raising_up {q} e =
+        let v = period_moved prices k (q + (goal - get_or dist k 0)) raising_room.3 (omega (arith, raising_room)) in
         record {
           can = s.can;
           same = length-set prices (k - 1) (q + (goal - get_or dist k 0)) ∙ s.same;
-          goal-is = s.goal-is;
+          goal_is = s.goal_is;
           from = omega (arith, s.from);
           done = λ j a b. elim (eq? j k) [
             | inl f ↦ rw f (omega (arith, v.here, read, s.left k (omega arith)))
@@ -506,12 +506,12 @@ module _ {prices₀ prices dist : List ℕ} {first target goal k : ℕ} (s : Rai
           left = λ j b. v.others j (omega arith) ∙ s.left j (omega arith);
         }
 
-  pub raising-end : target ≤ k → Raised prices₀ prices dist target
-  raising-end l = record {
+  pub raising_end : target ≤ k → Raised prices₀ prices dist target
+  raising_end l = record {
     rise = λ j. elim (lt? j first) [
       | inl a ↦ omega (arith, s.before j a, s.can.before j a)
       | inr a ↦ elim (lt? j k) [
-        | inl b ↦ omega (arith, s.done j a b, s.goal-is)
+        | inl b ↦ omega (arith, s.done j a b, s.goal_is)
         | inr b ↦ elim (eq? j target) [
           | inl e ↦ rw e (omega (arith, rw e at (s.left j b)))
           | inr e ↦ omega (arith, s.left j b, s.can.behind j (omega arith))
@@ -527,21 +527,21 @@ pub record Clearing (prices₀ prices : List ℕ) (at : ℕ) : Type 0 where
   pub same : length prices ≡ length prices₀
   pub done : (j : ℕ) → j < at → el prices j ≡ 0
 
-pub clearing-start : (prices : List ℕ) → Clearing prices prices 0
-clearing-start prices = record { same = refl; done = λ j l. absurd (omega arith) }
+pub clearing_start : (prices : List ℕ) → Clearing prices prices 0
+clearing_start prices = record { same = refl; done = λ j l. absurd (omega arith) }
 
 module _ {prices₀ prices : List ℕ} {at : ℕ} (s : Clearing prices₀ prices at) where
-  pub clearing-next : at < length prices → Clearing prices₀ (set prices at 0) (at + 1)
-  clearing-next l =
-      let v = set-moved prices at 0 l in
+  pub clearing_next : at < length prices → Clearing prices₀ (set prices at 0) (at + 1)
+  clearing_next l =
+      let v = set_moved prices at 0 l in
       record {
         same = length-set prices at 0 ∙ s.same;
         done = λ j b. elim (eq? j at) [ inl e ↦ rw e v.here | inr e ↦ v.others j e ∙ s.done j (omega arith) ];
       }
 
-  pub clearing-end : length prices ≤ at → Cleared prices
-  clearing-end l zero = refl
-  clearing-end l (suc k) = elim (lt? k (length prices)) [
+  pub clearing_end : length prices ≤ at → Cleared prices
+  clearing_end l zero = refl
+  clearing_end l (suc k) = elim (lt? k (length prices)) [
     | inl b ↦ s.done k (omega arith)
-    | inr b ↦ period-out prices (suc k) (omega arith)
+    | inr b ↦ period_out prices (suc k) (omega arith)
   ]

@@ -5,7 +5,7 @@
 // in which all is far again after each.
 // The day is planned without a closing line, so that the closing period always has room; the full plan's proof shows that this is enough.
 ghost use Rattle.std.specs.Prelude.{◌≡◌, ◌+◌, ◌-◌, ◌*◌, ◌<◌, ◌≤◌, length, set};
-ghost use Rattle.day.specs.Day.{lent, unlimited, mostFlights, periodRow, width, N, dueOf};
+ghost use Rattle.day.specs.Day.{lent, unlimited, most_flights, period_row, width, N, due_of};
 ghost use Rattle.assignment.specs.Rows.{el};
 ghost use Rattle.insertion.specs.Insertion.{Added, CanFind, FirstRoom, CanWalk, Walked, CanRaise, Raised, CanForget, Forgotten, Placed, Kept, Inserted, Cleared, CanInsert, Planned};
 
@@ -16,7 +16,7 @@ use path::{CHAIN_ROW, FAR, find_path};
 
 // Place n is the newest of those in period k: counts it, and puts it at the head of their chain.
 fn add_place(loads: &mut [usize], links: &mut [usize], n: usize, k: usize)
-    requires { (k < length loads.old) × (periodRow + n < length links.old) × (k < periodRow) × (n < mostFlights) × (el loads.old k ≤ mostFlights) }
+    requires { (k < length loads.old) × (period_row + n < length links.old) × (k < period_row) × (n < most_flights) × (el loads.old k ≤ most_flights) }
     ensures { Added loads.old loads.new links.old links.new n k }
 {
     loads[k] = loads[k] + 1;
@@ -40,8 +40,8 @@ fn first_with_room(capacities: &[u32], loads: &[usize], first: usize) -> usize
 
 // Holds the flight at table place i until period k.
 fn hold_until(flights: &[u32], holds: &mut [u32], i: usize, k: usize)
-    requires { (i < length holds.old) × ((i + 1) * width ≤ length flights.now) × (dueOf flights.now i ≤ k) × (i < mostFlights) × (k < periodRow) }
-    ensures { holds.new ≡ set holds.old i (k - dueOf flights.now i) }
+    requires { (i < length holds.old) × ((i + 1) * width ≤ length flights.now) × (due_of flights.now i ≤ k) × (i < most_flights) × (k < period_row) }
+    ensures { holds.new ≡ set holds.old i (k - due_of flights.now i) }
 {
     let hold = k - due_of(flights, i);
     holds[i] = hold as u32;
@@ -49,7 +49,7 @@ fn hold_until(flights: &[u32], holds: &mut [u32], i: usize, k: usize)
 
 // What stands at a and b changes places.
 fn swap(places: &mut [u32], a: usize, b: usize)
-    requires { (a < length places.old) × (b < length places.old) × (a < mostFlights) × (b < mostFlights) }
+    requires { (a < length places.old) × (b < length places.old) × (a < most_flights) × (b < most_flights) }
     ensures { places.new ≡ set (set places.old a (el places.old b)) b (el places.old a) }
 {
     let mine = places[a];

@@ -1,8 +1,8 @@
 // A hold row checked against its day: refusals 6, 7 and 10, or the plan's total.
 ghost use Rattle.std.specs.Prelude.{◌≡◌, true, ◌+◌, ◌*◌, ◌<◌, ◌≤◌, length};
-ghost use Rattle.day.specs.Day.{lent, mostPeriods, mostFlights, width, N, total_of, valid};
-ghost use Rattle.day.specs.Plan.{tooLongOf, overCapacity, firstBreak};
-ghost use Rattle.legality.specs.Check.{planCheck};
+ghost use Rattle.day.specs.Day.{lent, most_periods, most_flights, width, N, total_of, valid};
+ghost use Rattle.day.specs.Plan.{too_long_of, over_capacity, first_break};
+ghost use Rattle.legality.specs.Check.{plan_check};
 ghost use Rattle.legality.specs.Loop.{Walked, CanSum};
 
 use answers::Answer;
@@ -20,8 +20,8 @@ pub enum PlanCheck {
 
 // A landing of a flight in period k is after the closing period or over its limit, on a day of so many periods.
 pub fn is_too_long(periods: usize, f: Flight, k: usize) -> bool
-    requires { periods ≤ mostPeriods }
-    ensures { result ≡ tooLongOf periods f k }
+    requires { periods ≤ most_periods }
+    ensures { result ≡ too_long_of periods f k }
 {
     if periods + 1 < k {
         return true;
@@ -31,8 +31,8 @@ pub fn is_too_long(periods: usize, f: Flight, k: usize) -> bool
 
 // The m-th landing in period k is over its capacity. No day has the landings that would fill a closing period without a line.
 fn is_over(capacities: &[u32], closing: u32, k: usize, m: usize) -> bool
-    requires { (length capacities.now ≤ mostPeriods) × (k ≤ length capacities.now + 1) × (m ≤ mostFlights + 1) }
-    ensures { result ≡ overCapacity capacities.now closing k m }
+    requires { (length capacities.now ≤ most_periods) × (k ≤ length capacities.now + 1) × (m ≤ most_flights + 1) }
+    ensures { result ≡ over_capacity capacities.now closing k m }
 {
     capacity_of(capacities, closing, k) < m
 }
@@ -46,7 +46,7 @@ fn walk(
     loads: &mut [usize],
 ) -> usize
     requires { Walked (lent capacities flights closing) holds.now loads.old 0 }
-    ensures { result ≡ firstBreak (lent capacities.entry flights.entry closing) holds.now }
+    ensures { result ≡ first_break (lent capacities.entry flights.entry closing) holds.now }
 {
     let mut place = 0;
     while place < holds.len() {
@@ -68,7 +68,7 @@ fn walk(
 fn first_break(capacities: &[u32], flights: &[u32], closing: u32, holds: &[u32]) -> usize
     requires closing_value { valid (lent capacities flights closing) ≡ true }
     requires holds_len { length holds.now ≡ N (lent capacities flights closing) }
-    ensures { result ≡ firstBreak (lent capacities.entry flights.entry closing) holds.now }
+    ensures { result ≡ first_break (lent capacities.entry flights.entry closing) holds.now }
 {
     let mut loads = [0; PERIOD_ROW];
     walk(capacities, flights, closing, holds, &mut loads)
@@ -90,7 +90,7 @@ pub fn total_of(flights: &[u32], holds: &[u32]) -> usize
 
 // What is found of a day and a hold row, whatever they hold.
 pub fn check_plan(capacities: &[u32], flights: &[u32], closing: u32, holds: &[u32]) -> PlanCheck
-    ensures { result ≡ planCheck (lent capacities.entry flights.entry closing) holds.now }
+    ensures { result ≡ plan_check (lent capacities.entry flights.entry closing) holds.now }
 {
     if !is_valid(capacities, flights, closing) {
         return PlanCheck::Refused(Answer::BadDay);

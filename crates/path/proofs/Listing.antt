@@ -10,29 +10,29 @@ use lib.ListN.{get_or, length, set, length-set}
 use Rattle.assignment.specs.Rows.{el}
 use Rattle.assignment.specs.Moves.{Moved}
 use Rattle.assignment.proofs.Tests.{eq?, lt?}
-use Rattle.assignment.proofs.Rows.{set-moved}
-use Rattle.day.specs.Day.{periodRow, ofPeriod}
+use Rattle.assignment.proofs.Rows.{set_moved}
+use Rattle.day.specs.Day.{period_row, of_period}
 use Rattle.path.specs.Path.{far, away, InList, Gap, At, Waits, Waiting, Lined, CanList, Filled, Removed, CanNear, NearestIn, Levelled, CanLevel, NextLevel, Nearest}
 use Rattle.path.proofs.Rows.{as_read}
 
 -- ---- what stands in the list
 
 module _ {list : List ℕ} {left target : ℕ} (o : InList list left target) where
-  pub list-to : (y : ℕ) → y ≤ left → el list y ≤ target
-  list-to y l = elim (eq? y left) [
+  pub list_to : (y : ℕ) → y ≤ left → el list y ≤ target
+  list_to y l = elim (eq? y left) [
     | inl e ↦ omega (arith, ap (el list) e, o.ends)
     | inr e ↦ omega (arith, o.rising y left (omega arith) (omega arith), o.ends)
   ]
 
-  pub list-apart : (y z : ℕ) → y ≤ left → z ≤ left → y ≢ z → el list y ≢ el list z
-  list-apart y z a b e f = elim (lt? y z) [
+  pub list_apart : (y z : ℕ) → y ≤ left → z ≤ left → y ≢ z → el list y ≢ el list z
+  list_apart y z a b e f = elim (lt? y z) [
     | inl l ↦ omega (arith, o.rising y z l b)
     | inr l ↦ omega (arith, o.rising z y (omega arith) a)
   ]
 
   -- a gap is no place
-  pub gap-apart : {j : ℕ} → Gap list left j → (y : ℕ) → y ≤ left → el list y ≢ j
-  gap-apart g y a e = elim (lt? y g.place) [
+  pub gap_apart : {j : ℕ} → Gap list left j → (y : ℕ) → y ≤ left → el list y ≢ j
+  gap_apart g y a e = elim (lt? y g.place) [
     | inl l ↦ omega (arith, g.above y l)
     | inr l ↦ elim (eq? y g.place) [
       | inl f ↦ omega (arith, g.below, ap (el list) f)
@@ -40,8 +40,8 @@ module _ {list : List ℕ} {left target : ℕ} (o : InList list left target) whe
     ]
   ]
 
-  pub list-before : (y : ℕ) → y < left → el list y < target
-  list-before y l = omega (arith, o.rising y left l (omega arith), o.ends)
+  pub list_before : (y : ℕ) → y < left → el list y < target
+  list_before y l = omega (arith, o.rising y left l (omega arith), o.ends)
 
   -- a period up to the target stands at a place, or in a gap
   pub record Place (j : ℕ) : Type 0 where
@@ -65,8 +65,8 @@ module _ {list : List ℕ} {left target : ℕ} (o : InList list left target) whe
     ]
   ]
 
-  pub place-or-gap : (j : ℕ) → j ≤ target → Place j ⊎ Gap list left j
-  place-or-gap j l = elim (seek j (left + 1) (omega arith)) [
+  pub place_or_gap : (j : ℕ) → j ≤ target → Place j ⊎ Gap list left j
+  place_or_gap j l = elim (seek j (left + 1) (omega arith)) [
     | inl a ↦ inl a
     | inr q ↦ elim q [ inl g ↦ inr g | inr up ↦ absurd (omega (arith, up left (omega arith), o.ends)) ]
   ]
@@ -81,11 +81,11 @@ pub record Filling (capacities list₀ list : List ℕ) (first target left k : �
   pub to : k ≤ target
   pub low : (y : ℕ) → y < left → (first ≤ el list y) × (el list y < k)
   pub rising : (y z : ℕ) → y < z → z < left → el list y < el list z
-  pub some : (y : ℕ) → y < left → 0 < ofPeriod capacities (el list y)
-  pub all : (j : ℕ) → first ≤ j → j < k → 0 < ofPeriod capacities j → At list left j
+  pub some : (y : ℕ) → y < left → 0 < of_period capacities (el list y)
+  pub all : (j : ℕ) → first ≤ j → j < k → 0 < of_period capacities j → At list left j
 
-pub filling-start : {capacities list : List ℕ} {first target : ℕ} → CanList list first target → Filling capacities list list first target 0 first
-filling-start c = record {
+pub filling_start : {capacities list : List ℕ} {first target : ℕ} → CanList list first target → Filling capacities list list first target 0 first
+filling_start c = record {
   can = c;
   same = refl;
   from = omega arith;
@@ -97,13 +97,13 @@ filling-start c = record {
 }
 
 module _ {capacities list₀ list : List ℕ} {first target left k : ℕ} (s : Filling capacities list₀ list first target left k) where
-  pub filling-room : (left < length list) × (left < periodRow)
-  filling-room = omega (arith, s.from, s.to, s.same, s.can.row, s.can.within)
+  pub filling_room : (left < length list) × (left < period_row)
+  filling_room = omega (arith, s.from, s.to, s.same, s.can.row, s.can.within)
 
   -- k is stored behind those
   module _ (v : ℕ) where
     put_last : Moved (el list) (el (set list left v)) left v
-    put_last = set-moved list left v filling-room.0
+    put_last = set_moved list left v filling_room.0
 
     before : (y : ℕ) → y < left → el (set list left v) y ≡ el list y
     before y l = put_last.others y (omega arith)
@@ -114,9 +114,9 @@ module _ {capacities list₀ list : List ℕ} {first target left k : ℕ} (s : F
       | inr f ↦ rw (before y (omega arith), before z (omega arith)) (s.rising y z a (omega arith))
     ]
 
-  module _ (l : k < target) {c : ℕ} (c-is : c ≡ ofPeriod capacities k) where
-    pub filling-pass : c ≤ 0 → Filling capacities list₀ list first target left (k + 1)
-    filling-pass none = record {
+  module _ (l : k < target) {c : ℕ} (c-is : c ≡ of_period capacities k) where
+    pub filling_pass : c ≤ 0 → Filling capacities list₀ list first target left (k + 1)
+    filling_pass none = record {
       can = s.can;
       same = s.same;
       from = omega (arith, s.from);
@@ -125,13 +125,13 @@ module _ {capacities list₀ list : List ℕ} {first target left k : ℕ} (s : F
       rising = s.rising;
       some = s.some;
       all = λ j a b some. elim (eq? j k) [
-        | inl e ↦ absurd (omega (arith, ap (ofPeriod capacities) e))
+        | inl e ↦ absurd (omega (arith, ap (of_period capacities) e))
         | inr e ↦ s.all j a (omega arith) some
       ];
     }
 
-    pub filling-next : 0 < c → Filling capacities list₀ (set list left k) first target (left + 1) (k + 1)
-    filling-next some = record {
+    pub filling_next : 0 < c → Filling capacities list₀ (set list left k) first target (left + 1) (k + 1)
+    filling_next some = record {
       can = s.can;
       same = length-set list left k ∙ s.same;
       from = omega (arith, s.from);
@@ -153,9 +153,9 @@ module _ {capacities list₀ list : List ℕ} {first target left k : ℕ} (s : F
       ];
     }
 
-  pub filling-end : target ≤ k → Filled capacities (set list left target) first target left
-  filling-end l = record {
-    short = filling-room.1;
+  pub filling_end : target ≤ k → Filled capacities (set list left target) first target left
+  filling_end l = record {
+    short = filling_room.1;
     ends = (put_last target).here;
     rising = λ y z a b. rises target s.to y z a (omega arith);
     low = λ y b. elim (eq? y left) [
@@ -163,7 +163,7 @@ module _ {capacities list₀ list : List ℕ} {first target left k : ℕ} (s : F
       | inr e ↦ rw (before target y (omega arith)) (s.low y (omega arith)).0
     ];
     some = λ y b. rw (before target y b) (s.some y b);
-    gaps = λ j g from. elim (eq? (ofPeriod capacities j) 0) [
+    gaps = λ j g from. elim (eq? (of_period capacities j) 0) [
       | inl none ↦ none
       | inr some ↦ absurd (not_in j g (s.all j from (below j g) (omega arith)))
     ];
@@ -186,9 +186,9 @@ module _ {capacities list₀ list : List ℕ} {first target left k : ℕ} (s : F
 -- of the places before z, those that stay stand before `kept`, and those that go before `end` in the queue
 pub record Levelling (dist list₀ list queue₀ queue : List ℕ) (at left target queued level kept end z : ℕ) : Type 0 where
   pub can : CanLevel dist list₀ queue₀ at left target queued
-  pub level-is : level ≡ away dist (el list₀ at)
-  pub same-l : length list ≡ length list₀
-  pub same-q : length queue ≡ length queue₀
+  pub level_is : level ≡ away dist (el list₀ at)
+  pub same_l : length list ≡ length list₀
+  pub same_q : length queue ≡ length queue₀
   pub upto : z ≤ left
   pub from : at ≤ kept
   pub counts : end + kept ≡ queued + z
@@ -203,15 +203,15 @@ pub record Levelling (dist list₀ list queue₀ queue : List ℕ) (at left targ
   pub all : (j : ℕ) → At list₀ z j → At list kept j ⊎ Waits queue queued end j
 
 module _ {dist list queue : List ℕ} {at left target queued : ℕ} (c : CanLevel dist list queue at left target queued) where
-  pub level-room : (at < length list) × (el list at < length dist) × (at < periodRow) × (el list at < periodRow)
-  level-room = omega (arith, c.shape.row, c.shape.short, c.before, c.dists, c.within, list-to c.shape at (omega (arith, c.before)))
+  pub level_room : (at < length list) × (el list at < length dist) × (at < period_row) × (el list at < period_row)
+  level_room = omega (arith, c.shape.row, c.shape.short, c.before, c.dists, c.within, list_to c.shape at (omega (arith, c.before)))
 
-  pub levelling-start : Levelling dist list list queue queue at left target queued (get_or dist (el list at) 0) at queued at
-  levelling-start = record {
+  pub levelling_start : Levelling dist list list queue queue at left target queued (get_or dist (el list at) 0) at queued at
+  levelling_start = record {
     can = c;
-    level-is = as_read dist (el list at) level-room.1;
-    same-l = refl;
-    same-q = refl;
+    level_is = as_read dist (el list at) level_room.1;
+    same_l = refl;
+    same_q = refl;
     upto = omega (arith, c.before);
     from = omega arith;
     counts = refl;
@@ -229,59 +229,59 @@ module _ {dist list queue : List ℕ} {at left target queued : ℕ} (c : CanLeve
 module _ {dist list₀ list queue₀ queue : List ℕ} {at left target queued level kept end z : ℕ}
     (s : Levelling dist list₀ list queue₀ queue at left target queued level kept end z) where
   -- what stands before place z is less than what stands there
-  before-less : z ≤ left → {j : ℕ} → At list₀ z j → j < el list₀ z
-  before-less l p = omega (arith, p.is, s.can.shape.rising p.place z p.to l)
+  before_less : z ≤ left → {j : ℕ} → At list₀ z j → j < el list₀ z
+  before_less l p = omega (arith, p.is, s.can.shape.rising p.place z p.to l)
 
   at_more : {j : ℕ} → At list₀ z j → At list₀ (z + 1) j
   at_more p = record { place = p.place; to = omega (arith, p.to); is = p.is }
 
-  pub last-room : (kept < length list) × (kept < periodRow)
-  last-room = omega (arith, s.room, s.upto, s.same-l, s.can.shape.row, s.can.shape.short)
+  pub last_room : (kept < length list) × (kept < period_row)
+  last_room = omega (arith, s.room, s.upto, s.same_l, s.can.shape.row, s.can.shape.short)
 
   module _ (l : z < left) where
-    pub levelling-room : (z < length list) × (z < periodRow) × (kept < length list) × (end < length queue) × (end < periodRow)
-    levelling-room = omega (
+    pub levelling_room : (z < length list) × (z < period_row) × (kept < length list) × (end < length queue) × (end < period_row)
+    levelling_room = omega (
       arith,
       s.room,
       s.counts,
-      s.same-l,
-      s.same-q,
+      s.same_l,
+      s.same_q,
       s.can.shape.row,
       s.can.shape.short,
-      s.can.queue-row,
+      s.can.queue_row,
       s.can.room,
       s.from,
     )
 
     module _ {k : ℕ} (k-is : k ≡ get_or list z 0) where
-      k-at : k ≡ el list₀ z
-      k-at = k-is ∙ s.rest z (omega arith)
+      k_at : k ≡ el list₀ z
+      k_at = k-is ∙ s.rest z (omega arith)
 
-      pub levelling-read : (k < length dist) × (k < periodRow)
-      levelling-read = omega (arith, k-at, list-to s.can.shape z (omega arith), s.can.within, s.can.dists)
+      pub levelling_read : (k < length dist) × (k < period_row)
+      levelling_read = omega (arith, k_at, list_to s.can.shape z (omega arith), s.can.within, s.can.dists)
 
       same : get_or dist k 0 ≡ away dist k
-      same = as_read dist k levelling-read.0
+      same = as_read dist k levelling_read.0
 
       here : At list₀ (z + 1) k
-      here = record { place = z; to = omega arith; is = sym k-at }
+      here = record { place = z; to = omega arith; is = sym k_at }
 
       other : {j : ℕ} → At list₀ z j → j ≢ k
-      other p e = omega (arith, before-less (omega arith) p, k-at)
+      other p e = omega (arith, before_less (omega arith) p, k_at)
 
       -- a place before z + 1 is one before z, or z
       split : (j : ℕ) → At list₀ (z + 1) j → At list₀ z j ⊎ (j ≡ k)
       split j p = elim (eq? p.place z) [
-        | inl e ↦ inr (sym p.is ∙ ap (el list₀) e ∙ sym k-at)
+        | inl e ↦ inr (sym p.is ∙ ap (el list₀) e ∙ sym k_at)
         | inr e ↦ inl (record { place = p.place; to = omega (arith, p.to); is = p.is })
       ]
 
-      pub levelling-go : get_or dist k 0 ≡ level → Levelling dist list₀ list queue₀ (set queue end k) at left target queued level kept (end + 1) (z + 1)
-      levelling-go e = record {
+      pub levelling_go : get_or dist k 0 ≡ level → Levelling dist list₀ list queue₀ (set queue end k) at left target queued level kept (end + 1) (z + 1)
+      levelling_go e = record {
         can = s.can;
-        level-is = s.level-is;
-        same-l = s.same-l;
-        same-q = length-set queue end k ∙ s.same-q;
+        level_is = s.level_is;
+        same_l = s.same_l;
+        same_q = length-set queue end k ∙ s.same_q;
         upto = omega arith;
         from = s.from;
         counts = omega (arith, s.counts);
@@ -312,14 +312,14 @@ module _ {dist list₀ list queue₀ queue : List ℕ} {at left target queued le
       }
         where
           v : Moved (el queue) (el (set queue end k)) end k
-          v = set-moved queue end k levelling-room.3
+          v = set_moved queue end k levelling_room.3
 
-      pub levelling-stay : get_or dist k 0 ≢ level → Levelling dist list₀ (set list kept k) queue₀ queue at left target queued level (kept + 1) end (z + 1)
-      levelling-stay e = record {
+      pub levelling_stay : get_or dist k 0 ≢ level → Levelling dist list₀ (set list kept k) queue₀ queue at left target queued level (kept + 1) end (z + 1)
+      levelling_stay e = record {
         can = s.can;
-        level-is = s.level-is;
-        same-l = length-set list kept k ∙ s.same-l;
-        same-q = s.same-q;
+        level_is = s.level_is;
+        same_l = length-set list kept k ∙ s.same_l;
+        same_q = s.same_q;
         upto = omega arith;
         from = omega (arith, s.from);
         counts = omega (arith, s.counts);
@@ -327,7 +327,7 @@ module _ {dist list₀ list queue₀ queue : List ℕ} {at left target queued le
         more = λ _. omega (arith, passed);
         rest = λ y b. v.others y (omega (arith, s.room)) ∙ s.rest y (omega arith);
         rising = λ y x a b. elim (eq? x kept) [
-          | inl f ↦ rw (f, v.here, v.others y (omega arith)) (omega (arith, before-less (omega arith) (s.stays y (omega arith)), k-at))
+          | inl f ↦ rw (f, v.here, v.others y (omega arith)) (omega (arith, before_less (omega arith) (s.stays y (omega arith)), k_at))
           | inr f ↦ rw (v.others x f, v.others y (omega arith)) (s.rising y x a (omega arith))
         ];
         stays = λ y b. elim (eq? y kept) [
@@ -350,17 +350,17 @@ module _ {dist list₀ list queue₀ queue : List ℕ} {at left target queued le
       }
         where
           v : Moved (el list) (el (set list kept k)) kept k
-          v = set-moved list kept k levelling-room.2
+          v = set_moved list kept k levelling_room.2
 
           -- the first of them goes
           passed : kept < z
           passed = elim (eq? z at) [
-            | inl f ↦ absurd (e (same ∙ ap (away dist) (k-at ∙ ap (el list₀) f) ∙ sym s.level-is))
+            | inl f ↦ absurd (e (same ∙ ap (away dist) (k_at ∙ ap (el list₀) f) ∙ sym s.level_is))
             | inr f ↦ s.more (omega (arith, s.from, s.room))
           ]
 
-  pub levelling-end : left ≤ z → (kept < left) × Levelled dist list₀ (set list kept target) queue₀ queue left kept queued level
-  levelling-end l = (
+  pub levelling_end : left ≤ z → (kept < left) × Levelled dist list₀ (set list kept target) queue₀ queue left kept queued level
+  levelling_end l = (
     omega (arith, s.more (omega (arith, s.can.before)), s.upto),
     record {
       short = omega (arith, s.room, s.upto);
@@ -378,7 +378,7 @@ module _ {dist list₀ list queue₀ queue : List ℕ} {at left target queued le
   )
     where
       v : Moved (el list) (el (set list kept target)) kept target
-      v = set-moved list kept target last-room.0
+      v = set_moved list kept target last_room.0
 
       old : (y : ℕ) → y < kept → el (set list kept target) y ≡ el list y
       old y b = v.others y (omega arith)
@@ -393,17 +393,17 @@ module _ {dist list₀ list queue₀ queue : List ℕ} {at left target queued le
 
 -- the places before z have what is to stand there
 pub record Taking (list₀ list : List ℕ) (at left z : ℕ) : Type 0 where
-  pub row : length list₀ ≡ periodRow
+  pub row : length list₀ ≡ period_row
   pub same : length list ≡ length list₀
-  pub small : left < periodRow
+  pub small : left < period_row
   pub lower : at ≤ z
   pub upper : z ≤ left
   pub before : (y : ℕ) → y < at → el list y ≡ el list₀ y
   pub done : (y : ℕ) → at ≤ y → y < z → el list y ≡ el list₀ (y + 1)
   pub rest : (y : ℕ) → z ≤ y → el list y ≡ el list₀ y
 
-pub taking-start : {list : List ℕ} {at left : ℕ} → (length list ≡ periodRow) × (at < left) × (left < periodRow) → Taking list list at left at
-taking-start c = record {
+pub taking_start : {list : List ℕ} {at left : ℕ} → (length list ≡ period_row) × (at < left) × (left < period_row) → Taking list list at left at
+taking_start c = record {
   row = c.0;
   same = refl;
   small = c.2;
@@ -415,16 +415,16 @@ taking-start c = record {
 }
 
 module _ {list₀ list : List ℕ} {at left z : ℕ} (s : Taking list₀ list at left z) where
-  pub taking-end : left ≤ z → Removed list₀ list at left
-  taking-end l = record { before = s.before; behind = λ y a b. s.done y a (omega arith) }
+  pub taking_end : left ≤ z → Removed list₀ list at left
+  taking_end l = record { before = s.before; behind = λ y a b. s.done y a (omega arith) }
 
   module _ (l : z < left) where
-    pub taking-room : (z < length list) × (z + 1 < length list) × (z + 1 < periodRow)
-    taking-room = omega (arith, s.row, s.same, s.small)
+    pub taking_room : (z < length list) × (z + 1 < length list) × (z + 1 < period_row)
+    taking_room = omega (arith, s.row, s.same, s.small)
 
-    pub taking-next : Taking list₀ (set list z (el list (z + 1))) at left (z + 1)
-    taking-next =
-        let v = set-moved list z (el list (z + 1)) taking-room.0 in
+    pub taking_next : Taking list₀ (set list z (el list (z + 1))) at left (z + 1)
+    taking_next =
+        let v = set_moved list z (el list (z + 1)) taking_room.0 in
         record {
           row = s.row;
           same = length-set list z (el list (z + 1)) ∙ s.same;
@@ -441,14 +441,14 @@ module _ {list₀ list : List ℕ} {at left z : ℕ} (s : Taking list₀ list at
 
 -- ---- take_nearest
 
-pub near-room : {dist list : List ℕ} {left target level at : ℕ} → CanNear dist list left target level → at < left → (el list at < length dist) × (el list at < periodRow)
-near-room {at = at} c l = omega (arith, c.dists, c.within, list-to c.shape at (omega arith))
+pub near_room : {dist list : List ℕ} {left target level at : ℕ} → CanNear dist list left target level → at < left → (el list at < length dist) × (el list at < period_row)
+near_room {at = at} c l = omega (arith, c.dists, c.within, list_to c.shape at (omega arith))
 
 -- one period goes
 module _ {list list₂ : List ℕ} (queue : List ℕ) {at left target queued k : ℕ} (shape : InList list left target) (b : at < left) (k-is : k ≡ el list at)
     (row : queued < length queue) (h : Removed list list₂ at left) where
   gone : Moved (el queue) (el (set queue queued k)) queued k
-  gone = set-moved queue queued k row
+  gone = set_moved queue queued k row
 
   -- a place of the list behind `at` is that of the next
   then : (z : ℕ) → at ≤ z → z < left → el list₂ z ≡ el list (z + 1)
@@ -474,8 +474,8 @@ module _ {list list₂ : List ℕ} (queue : List ℕ) {at left target queued k :
         record { place = p.place - 1; to = omega (arith, p.to); is = then (p.place - 1) (omega arith) (omega (arith, p.to)) ∙ ap (el list) back ∙ p.is }
   ]
 
-  pub removed-level : (dist : List ℕ) → Levelled dist list list₂ queue (set queue queued k) left (left - 1) queued (away dist (el list at))
-  removed-level dist = record {
+  pub removed_level : (dist : List ℕ) → Levelled dist list list₂ queue (set queue queued k) left (left - 1) queued (away dist (el list at))
+  removed_level dist = record {
     short = omega arith;
     ends = let back : (left - 1) + 1 ≡ left = omega arith in then (left - 1) (omega arith) (omega arith) ∙ ap (el list) back;
     rising = λ y z a c. elim (lt? z at) [
@@ -496,9 +496,9 @@ module _ {list list₂ : List ℕ} (queue : List ℕ) {at left target queued k :
   }
 
 -- the target is the nearest: all stays
-pub level-none : {dist list queue : List ℕ} {left target level queued at : ℕ} → CanNear dist list left target level → NearestIn dist list left at → left ≤ at
+pub level_none : {dist list queue : List ℕ} {left target level queued at : ℕ} → CanNear dist list left target level → NearestIn dist list left at → left ≤ at
     → NextLevel dist list list queue queue left left queued target
-level-none {dist} {list} {left = left} {target} {at = at} c h e =
+level_none {dist} {list} {left = left} {target} {at = at} c h e =
     let same : at ≡ left = omega (arith, h.to) in
     record {
       level = away dist (el list at);
@@ -517,10 +517,10 @@ level-none {dist} {list} {left = left} {target} {at = at} c h e =
       none = λ _. omega (arith, ap (λ z. away dist (el list z)) same, ap (away dist) c.shape.ends);
     }
 
-pub level-some : {dist list list₂ queue queue₂ : List ℕ} {left left₂ target level queued at : ℕ} → CanNear dist list left target level → NearestIn dist list left at
+pub level_some : {dist list list₂ queue queue₂ : List ℕ} {left left₂ target level queued at : ℕ} → CanNear dist list left target level → NearestIn dist list left at
     → at < left → (left₂ < left) × Levelled dist list list₂ queue queue₂ left left₂ queued (away dist (el list at))
     → NextLevel dist list list₂ queue queue₂ left left₂ queued target
-level-some {dist} c h b l = record {
+level_some {dist} c h b l = record {
   level = _;
   levelled = l.1;
   least = h.least;
@@ -532,12 +532,12 @@ level-some {dist} c h b l = record {
 
 module _ {cap : ℕ → ℕ} {dist turn list queue : List ℕ} {left first target level t queued : ℕ}
     (s : Lined cap dist turn list queue left first target level t queued) where
-  pub lined-some : 0 < cap target → (y : ℕ) → y ≤ left → 0 < cap (el list y)
-  lined-some free y l = elim (eq? y left) [ inl e ↦ rw (e, s.listed.shape.ends) free | inr e ↦ s.listed.some y (omega arith) ]
+  pub lined_some : 0 < cap target → (y : ℕ) → y ≤ left → 0 < cap (el list y)
+  lined_some free y l = elim (eq? y left) [ inl e ↦ rw (e, s.listed.shape.ends) free | inr e ↦ s.listed.some y (omega arith) ]
 
   -- nothing open that is not reached is nearer than the level
-  pub lined-least : (j : ℕ) → first ≤ j → j ≤ target → 0 < cap j → el turn j ≡ 0 → level ≤ away dist j
-  lined-least j a b some none = elim (place-or-gap s.listed.shape j b) [
+  pub lined_least : (j : ℕ) → first ≤ j → j ≤ target → 0 < cap j → el turn j ≡ 0 → level ≤ away dist j
+  lined_least j a b some none = elim (place_or_gap s.listed.shape j b) [
     | inl p ↦ rw p.is at (s.low p.place p.to)
     | inr g ↦ elim (s.listed.gaps j g a some) [
       | inl done ↦ absurd (omega arith)
@@ -550,37 +550,37 @@ module _ {cap : ℕ → ℕ} {dist turn list queue : List ℕ} {left first targe
     next = rw k-is (s.waits t (omega arith) l)
 
     -- the first of the queue is the nearest
-    pub lined-nearest : 0 < cap target → el turn target ≡ 0 → level < far → Nearest cap dist turn first target k
-    lined-nearest free fresh near = record {
+    pub lined_nearest : 0 < cap target → el turn target ≡ 0 → level < far → Nearest cap dist turn first target k
+    lined_nearest free fresh near = record {
       from = next.from;
       to = omega (arith, next.before);
       fresh = λ _. next.fresh;
       near = λ _. omega (arith, next.here);
       some = λ _. next.some;
-      least = λ j a b some none. omega (arith, next.here, lined-least j a (omega arith) some none);
-      target-least = omega (arith, next.here, lined-least target (omega (arith, next.from, next.before)) (omega arith) free fresh);
+      least = λ j a b some none. omega (arith, next.here, lined_least j a (omega arith) some none);
+      target_least = omega (arith, next.here, lined_least target (omega (arith, next.from, next.before)) (omega arith) free fresh);
     }
 
-    pub lined-other : k ≢ target
-    lined-other e = omega (arith, next.before)
+    pub lined_other : k ≢ target
+    lined_other e = omega (arith, next.before)
 
-    pub lined-level : away dist k ≡ level
-    lined-level = next.here
+    pub lined_level : away dist k ≡ level
+    lined_level = next.here
 
-    pub lined-open : 0 < cap k
-    lined-open = next.some
+    pub lined_open : 0 < cap k
+    lined_open = next.some
 
     -- what stands in no place of the list is no farther than it
-    pub lined-passed : ((j : ℕ) → 0 < el turn j → away dist j ≤ away dist k) → (j : ℕ) → Gap list left j → first ≤ j → 0 < cap j → away dist j ≤ away dist k
-    lined-passed order j g a some = elim (s.listed.gaps j g a some) [
+    pub lined_passed : ((j : ℕ) → 0 < el turn j → away dist j ≤ away dist k) → (j : ℕ) → Gap list left j → first ≤ j → 0 < cap j → away dist j ≤ away dist k
+    lined_passed order j g a some = elim (s.listed.gaps j g a some) [
       | inl done ↦ order j done
       | inr w ↦ omega (arith, next.here, rw w.is at (s.waits w.place w.from w.to).here)
     ]
 
     -- it is reached: the others are as near as they were
-    pub lined-reach : {dist₂ turn₂ : List ℕ} {r : ℕ} → Moved (el turn) (el turn₂) k r → 0 < r → ((j : ℕ) → away dist₂ j ≤ away dist j)
+    pub lined_reach : {dist₂ turn₂ : List ℕ} {r : ℕ} → Moved (el turn) (el turn₂) k r → 0 < r → ((j : ℕ) → away dist₂ j ≤ away dist j)
         → ((j : ℕ) → el turn₂ j ≡ 0 → level ≤ away dist₂ j) → el turn₂ target ≡ 0 → Lined cap dist₂ turn₂ list queue left first target level (t + 1) queued
-    lined-reach {dist₂} {turn₂} {r} v pos falls least unreached = record {
+    lined_reach {dist₂} {turn₂} {r} v pos falls least unreached = record {
       listed = record {
         shape = s.listed.shape;
         low = s.listed.low;
@@ -630,13 +630,13 @@ module _ {cap : ℕ → ℕ} {dist turn list queue : List ℕ} {left first targe
         ]
 
   -- the queue is done, and gets the next level
-  module _ (done : queued ≤ t) {list₂ queue₂ : List ℕ} {left₂ : ℕ} (same-l : length list₂ ≡ length list) (same-q : length queue₂ ≡ length queue)
+  module _ (done : queued ≤ t) {list₂ queue₂ : List ℕ} {left₂ : ℕ} (same_l : length list₂ ≡ length list) (same_q : length queue₂ ≡ length queue)
       (h : NextLevel dist list list₂ queue queue₂ left left₂ queued target) where
     g : Levelled dist list list₂ queue queue₂ left left₂ queued h.level
     g = h.levelled
 
     in_list : (j : ℕ) → At list left j → (first ≤ j) × (j < target) × (0 < cap j) × (el turn j ≡ 0)
-    in_list j p = rw (← p.is) (s.listed.low p.place (omega (arith, p.to)), list-before s.listed.shape p.place p.to, s.listed.some p.place p.to, s.listed.fresh p.place p.to)
+    in_list j p = rw (← p.is) (s.listed.low p.place (omega (arith, p.to)), list_before s.listed.shape p.place p.to, s.listed.some p.place p.to, s.listed.fresh p.place p.to)
 
     ends : el list₂ left₂ ≡ target
     ends = g.ends ∙ s.listed.shape.ends
@@ -649,7 +649,7 @@ module _ {cap : ℕ → ℕ} {dist turn list queue : List ℕ} {left first targe
 
     -- what stood in the list stands in it still, or waits
     gaps₂ : (j : ℕ) → Gap list₂ left₂ j → first ≤ j → 0 < cap j → (0 < el turn j) ⊎ Waits queue₂ queued (queued + (left - left₂)) j
-    gaps₂ j o a some = elim (place-or-gap s.listed.shape j (omega (arith, o.below, up o.place o.to))) [
+    gaps₂ j o a some = elim (place_or_gap s.listed.shape j (omega (arith, o.below, up o.place o.to))) [
       | inl p ↦ elim (eq? p.place left) [
         | inl e ↦ absurd (omega (arith, o.below, up o.place o.to, p.is, ap (el list) e, s.listed.shape.ends))
         | inr e ↦ elim (g.all j (record { place = p.place; to = omega (arith, p.to); is = p.is })) [
@@ -675,10 +675,10 @@ module _ {cap : ℕ → ℕ} {dist turn list queue : List ℕ} {left first targe
           ]
         ]
 
-    pub lined-next : {queued₂ : ℕ} → queued₂ ≡ queued + (left - left₂) → Lined cap dist turn list₂ queue₂ left₂ first target h.level queued queued₂
-    lined-next e = rw e (record {
+    pub lined_next : {queued₂ : ℕ} → queued₂ ≡ queued + (left - left₂) → Lined cap dist turn list₂ queue₂ left₂ first target h.level queued queued₂
+    lined_next e = rw e (record {
       listed = record {
-        shape = record { row = same-l ∙ s.listed.shape.row; short = omega (arith, g.short, s.listed.shape.short); ends = ends; rising = rising₂ };
+        shape = record { row = same_l ∙ s.listed.shape.row; short = omega (arith, g.short, s.listed.shape.short); ends = ends; rising = rising₂ };
         low = λ y b. elim (eq? y left₂) [
           | inl e ↦ rw (e, ends) (rw s.listed.shape.ends at (s.listed.low left (omega arith)))
           | inr e ↦ (in_list (el list₂ y) (g.stays y (omega arith))).0
@@ -691,7 +691,7 @@ module _ {cap : ℕ → ℕ} {dist turn list queue : List ℕ} {left first targe
         | inl e ↦ rw (e, ends) (rw s.listed.shape.ends at (h.least left (omega arith)))
         | inr e ↦ let p = g.stays y (omega arith) in rw p.is at (h.least p.place (omega (arith, p.to)))
       ];
-      row = same-q ∙ s.row;
+      row = same_q ∙ s.row;
       upto = omega arith;
       room = omega (arith, s.room, g.short);
       waits = λ y a b.
@@ -703,19 +703,19 @@ module _ {cap : ℕ → ℕ} {dist turn list queue : List ℕ} {left first targe
     })
 
 -- the list at the start has every open period, and nothing waits
-pub lined-start : {cap : ℕ → ℕ} {capacities list : List ℕ} (dist turn queue : List ℕ) {left first target : ℕ} → length list ≡ periodRow → length queue ≡ periodRow
-    → ((k : ℕ) → el turn k ≡ 0) → ((k : ℕ) → k < target → cap k ≡ ofPeriod capacities k) → Filled capacities list first target left
+pub lined_start : {cap : ℕ → ℕ} {capacities list : List ℕ} (dist turn queue : List ℕ) {left first target : ℕ} → length list ≡ period_row → length queue ≡ period_row
+    → ((k : ℕ) → el turn k ≡ 0) → ((k : ℕ) → k < target → cap k ≡ of_period capacities k) → Filled capacities list first target left
     → Lined cap dist turn list queue left first target 0 0 0
-lined-start {cap} {capacities} {list} dist turn queue {left} {first} {target} row queue-row none same h = record {
+lined_start {cap} {capacities} {list} dist turn queue {left} {first} {target} row queue_row none same h = record {
   listed = record {
     shape = shape;
     low = h.low;
     fresh = λ y _. none (el list y);
-    some = λ y b. omega (arith, h.some y b, same (el list y) (list-before shape y b));
-    gaps = λ j g from some. absurd (omega (arith, h.gaps j g from, same j (omega (arith, g.below, list-to shape g.place g.to))));
+    some = λ y b. omega (arith, h.some y b, same (el list y) (list_before shape y b));
+    gaps = λ j g from some. absurd (omega (arith, h.gaps j g from, same j (omega (arith, g.below, list_to shape g.place g.to))));
   };
   low = λ y _. omega arith;
-  row = queue-row;
+  row = queue_row;
   upto = omega arith;
   room = omega (arith, h.short);
   waits = λ y a b. absurd (omega arith);

@@ -9,59 +9,59 @@ use lib.ListN.{get_or, length, length-set}
 use Rattle.assignment.specs.Rows.{el}
 use Rattle.assignment.specs.Search.{Took, Kept}
 use Rattle.assignment.proofs.Tests.{lt?, eq?}
-use Rattle.assignment.proofs.Rows.{set-moved}
+use Rattle.assignment.proofs.Rows.{set_moved}
 use Rattle.day.specs.declared.Flight.{Flight}
-use Rattle.day.specs.Day.{mostPeriods, periodRow, ofPeriod, holdCost, latestOf}
-use Rattle.day.proofs.Costs.{hold-rises, period-in}
+use Rattle.day.specs.Day.{most_periods, period_row, of_period, hold_cost, latest_of}
+use Rattle.day.proofs.Costs.{hold_rises, period_in}
 use Rattle.path.specs.declared.Origin.{Origin}
-use Rattle.path.specs.Path.{far, away, dearest, pays, offersTo, Nearer, FirstFrom, CanOffer, Offers}
-use Rattle.path.proofs.Rows.{away-moved, as_read}
-use Rattle.path.proofs.Listing.{list-to, list-before, list-apart}
+use Rattle.path.specs.Path.{far, away, dearest, pays, offers_to, Nearer, FirstFrom, CanOffer, Offers}
+use Rattle.path.proofs.Rows.{away_moved, as_read}
+use Rattle.path.proofs.Listing.{list_to, list_before, list_apart}
 
 module _ (f : Flight) (o : Origin) (prices : List ℕ) (target : ℕ) (dist₀ dist via₀ via : List ℕ) where
   -- what an offer to period k comes to
   abbrev pub Heard : ℕ → Type 0
   Heard k =
-      Took f.due (offersTo f target) (pays f prices) o.who o.from o.base (away dist₀) (away dist) (el via) k
-      ⊎ Kept f.due (offersTo f target) (pays f prices) o.from o.base (away dist₀ target) (away dist₀) (away dist) (el via₀) (el via) k
+      Took f.due (offers_to f target) (pays f prices) o.who o.from o.base (away dist₀) (away dist) (el via) k
+      ⊎ Kept f.due (offers_to f target) (pays f prices) o.from o.base (away dist₀ target) (away dist₀) (away dist) (el via₀) (el via) k
 
 -- what stands before place z of the list has been offered
 pub record Offering (f : Flight) (o : Origin) (prices list dist₀ dist via₀ via : List ℕ) (left target due last goal z : ℕ) : Type 0 where
   pub can : CanOffer f o prices list dist₀ via₀ left target
-  pub due-is : due ≡ f.due
-  pub last-is : last ≡ latestOf (target - 1) f
-  pub goal-is : goal ≡ away dist₀ target + o.base
+  pub due_is : due ≡ f.due
+  pub last_is : last ≡ latest_of (target - 1) f
+  pub goal_is : goal ≡ away dist₀ target + o.base
   pub upto : z ≤ left
   pub later : (y : ℕ) → z ≤ y → y ≤ left → due ≤ el list y
-  pub same-d : length dist ≡ length dist₀
-  pub same-v : length via ≡ length via₀
+  pub same_d : length dist ≡ length dist₀
+  pub same_v : length via ≡ length via₀
   pub done : (y : ℕ) → y < z → Heard f o prices target dist₀ dist via₀ via (el list y)
   pub rest : (j : ℕ) → ((y : ℕ) → y < z → el list y ≢ j) → (away dist j ≡ away dist₀ j) × (el via j ≡ el via₀ j)
 
 module _ {f : Flight} {o : Origin} {prices list dist via : List ℕ} {left target : ℕ} (c : CanOffer f o prices list dist via left target) where
-  pub offer-room : (target < length dist) × (target < periodRow) × (get_or dist target 0 + o.base ≤ far + dearest) × (1 ≤ target) × (target - 1 ≤ mostPeriods)
-  offer-room =
+  pub offer_room : (target < length dist) × (target < period_row) × (get_or dist target 0 + o.base ≤ far + dearest) × (1 ≤ target) × (target - 1 ≤ most_periods)
+  offer_room =
       let b : target < length dist = omega (arith, c.within, c.dists) in
-      (b, c.within, omega (arith, as_read dist target b, c.most, c.base-low), omega (arith, c.from-due, c.by-target), omega (arith, c.within))
+      (b, c.within, omega (arith, as_read dist target b, c.most, c.base_low), omega (arith, c.from_due, c.by_target), omega (arith, c.within))
 
-  pub offering-start : {due last z : ℕ} → due ≡ f.due → last ≡ latestOf (target - 1) f → FirstFrom list left due z
+  pub offering_start : {due last z : ℕ} → due ≡ f.due → last ≡ latest_of (target - 1) f → FirstFrom list left due z
       → Offering f o prices list dist dist via via left target due last (get_or dist target 0 + o.base) z
-  offering-start {due} {z = z} e g h = record {
+  offering_start {due} {z = z} e g h = record {
     can = c;
-    due-is = e;
-    last-is = g;
-    goal-is = ap (λ z. z + o.base) (as_read dist target offer-room.0);
+    due_is = e;
+    last_is = g;
+    goal_is = ap (λ z. z + o.base) (as_read dist target offer_room.0);
     upto = h.to;
     later = later;
-    same-d = refl;
-    same-v = refl;
-    done = λ y l. inr (record { far = refl; by = refl; no-nearer = λ a b. absurd (omega (arith, h.before y l)) });
+    same_d = refl;
+    same_v = refl;
+    done = λ y l. inr (record { far = refl; by = refl; no_nearer = λ a b. absurd (omega (arith, h.before y l)) });
     rest = λ j _. (refl, refl);
   }
     where
       later : (y : ℕ) → z ≤ y → y ≤ left → due ≤ el list y
       later y a b = elim (eq? y left) [
-        | inl last ↦ omega (arith, ap (el list) last, c.shape.ends, c.by-target)
+        | inl last ↦ omega (arith, ap (el list) last, c.shape.ends, c.by_target)
         | inr less ↦ elim (eq? y z) [
           | inl first ↦ rw first (h.there (omega arith))
           | inr more ↦ omega (arith, h.there (omega arith), c.shape.rising z y (omega arith) b)
@@ -70,20 +70,20 @@ module _ {f : Flight} {o : Origin} {prices list dist via : List ℕ} {left targe
 
 module _ {f : Flight} {o : Origin} {prices list dist₀ dist via₀ via : List ℕ} {left target due last goal z : ℕ}
     (s : Offering f o prices list dist₀ dist via₀ via left target due last goal z) where
-  pub offering-place : (z < length list) × (z < periodRow)
-  offering-place = omega (arith, s.upto, s.can.shape.row, s.can.shape.short)
+  pub offering_place : (z < length list) × (z < period_row)
+  offering_place = omega (arith, s.upto, s.can.shape.row, s.can.shape.short)
 
   -- what stands at place z or behind it is as it was
-  as-was : (y : ℕ) → z ≤ y → y ≤ left → (away dist (el list y) ≡ away dist₀ (el list y)) × (el via (el list y) ≡ el via₀ (el list y))
-  as-was y a b = s.rest (el list y) (λ x c. list-apart s.can.shape x y (omega arith) b (omega arith))
+  as_was : (y : ℕ) → z ≤ y → y ≤ left → (away dist (el list y) ≡ away dist₀ (el list y)) × (el via (el list y) ≡ el via₀ (el list y))
+  as_was y a b = s.rest (el list y) (λ x c. list_apart s.can.shape x y (omega arith) b (omega arith))
 
   -- and stays so, where no offer to it is nearer than the goal
-  stop : ((y : ℕ) → z ≤ y → y ≤ left → f.due ≤ el list y → el list y ≤ offersTo f target → away dist₀ target + o.base ≤ o.from + pays f prices (el list y))
+  stop : ((y : ℕ) → z ≤ y → y ≤ left → f.due ≤ el list y → el list y ≤ offers_to f target → away dist₀ target + o.base ≤ o.from + pays f prices (el list y))
       → Offers f o prices list dist₀ dist via₀ via left target
   stop none = record {
     listed = λ y l. elim (lt? y z) [
       | inl b ↦ s.done y b
-      | inr b ↦ inr (record { far = (as-was y b l).0; by = (as-was y b l).1; no-nearer = λ a e. omega (arith, none y b l a e) })
+      | inr b ↦ inr (record { far = (as_was y b l).0; by = (as_was y b l).1; no_nearer = λ a e. omega (arith, none y b l a e) })
     ];
     others = λ j out. s.rest j (λ y b. out y (omega (arith, s.upto)));
   }
@@ -93,46 +93,46 @@ module _ {f : Flight} {o : Origin} {prices list dist₀ dist via₀ via : List �
     rises : (y : ℕ) → z ≤ y → y ≤ left → at ≤ el list y
     rises y a b = elim (eq? y z) [ inl e ↦ rw e (omega arith) | inr e ↦ omega (arith, s.can.shape.rising z y (omega arith) b) ]
 
-    pub offering-beyond : last < at → Offers f o prices list dist₀ dist via₀ via left target
-    offering-beyond b = stop (λ y a l e g. absurd (omega (arith, s.last-is, rises y a l)))
+    pub offering_beyond : last < at → Offers f o prices list dist₀ dist via₀ via left target
+    offering_beyond b = stop (λ y a l e g. absurd (omega (arith, s.last_is, rises y a l)))
 
-    here-was : (away dist at ≡ away dist₀ at) × (el via at ≡ el via₀ at)
-    here-was = rw at-is (as-was z (omega arith) s.upto)
+    here_was : (away dist at ≡ away dist₀ at) × (el via at ≡ el via₀ at)
+    here_was = rw at-is (as_was z (omega arith) s.upto)
 
-    pub offering-from : due ≤ at
-    offering-from = rw at-is (s.later z (omega arith) s.upto)
+    pub offering_from : due ≤ at
+    offering_from = rw at-is (s.later z (omega arith) s.upto)
 
     module _ (to : at ≤ last) where
-      due-by : f.due ≤ at
-      due-by = omega (arith, s.due-is, offering-from)
+      due_by_lem : f.due ≤ at
+      due_by_lem = omega (arith, s.due_is, offering_from)
 
-      to-target : at ≤ target
-      to-target = rw at-is (list-to s.can.shape z s.upto)
+      to_target : at ≤ target
+      to_target = rw at-is (list_to s.can.shape z s.upto)
 
-      in_window : at ≤ offersTo f target
-      in_window = omega (arith, s.last-is, to-target)
+      in_window : at ≤ offers_to f target
+      in_window = omega (arith, s.last_is, to_target)
 
       fair : (o.base ≤ o.from + pays f prices at) × (pays f prices at ≤ dearest)
-      fair = rw at-is (s.can.fair z s.upto (rw at-is at due-by) (rw at-is at in_window))
+      fair = rw at-is (s.can.fair z s.upto (rw at-is at due_by_lem) (rw at-is at in_window))
 
-      pub offering-room : (at < length dist) × (at < length via) × (at < periodRow) × (at - due < 2 ^ 32)
-      offering-room = omega (arith, to-target, s.can.within, s.can.dists, s.can.vias, s.same-d, s.same-v)
+      pub offering_room : (at < length dist) × (at < length via) × (at < period_row) × (at - due < 2 ^ 32)
+      offering_room = omega (arith, to_target, s.can.within, s.can.dists, s.can.vias, s.same_d, s.same_v)
 
-      module _ {r : ℕ} (r-is : r ≡ holdCost f (at - due)) where
-        cost-is : r ≡ holdCost f (at - f.due)
-        cost-is = rw s.due-is at r-is
+      module _ {r : ℕ} (r-is : r ≡ hold_cost f (at - due)) where
+        cost_is : r ≡ hold_cost f (at - f.due)
+        cost_is = rw s.due_is at r-is
 
-        pub offering-reach : o.from + r ≤ (periodRow + 1) * dearest
-        offering-reach = omega (arith, cost-is, fair, s.can.low)
+        pub offering_reach : o.from + r ≤ (period_row + 1) * dearest
+        offering_reach = omega (arith, cost_is, fair, s.can.low)
 
         -- costs rise
-        pub offering-stop : goal ≤ o.from + r → Offers f o prices list dist₀ dist via₀ via left target
-        offering-stop h =
-            stop (λ y a b c e. omega (arith, s.goal-is, cost-is, hold-rises f (at - f.due) (el list y - f.due) (omega (arith, rises y a b))))
+        pub offering_stop : goal ≤ o.from + r → Offers f o prices list dist₀ dist via₀ via left target
+        offering_stop h =
+            stop (λ y a b c e. omega (arith, s.goal_is, cost_is, hold_rises f (at - f.due) (el list y - f.due) (omega (arith, rises y a b))))
 
-        module _ {q : ℕ} (q-is : q ≡ ofPeriod prices at) where
-          pub offering-small : (o.base ≤ (o.from + r) + q) × ((o.from + r) + q ≤ (periodRow + 1) * dearest)
-          offering-small = omega (arith, cost-is, q-is, fair, s.can.low)
+        module _ {q : ℕ} (q-is : q ≡ of_period prices at) where
+          pub offering_small : (o.base ≤ (o.from + r) + q) × ((o.from + r) + q ≤ (period_row + 1) * dearest)
+          offering_small = omega (arith, cost_is, q-is, fair, s.can.low)
 
           -- period `at` is heard
           module _ {dist₂ via₂ : List ℕ} {v : ℕ} (v-is : v ≡ ((o.from + r) + q) - o.base) (h : Nearer dist dist₂ via via₂ at v o.who) where
@@ -145,32 +145,32 @@ module _ {f : Flight} {o : Origin} {prices list dist₀ dist via₀ via : List �
             heard : Heard f o prices target dist₀ dist₂ via₀ via₂ at
             heard = elim h.cases [
               | inl a ↦ rw (a.1, a.2) (inl (record {
-                from-lo = due-by;
-                to-hi = in_window;
-                less = omega (arith, a.0, here-was.0, v-is, cost-is, q-is, offering-small);
-                far = omega (arith, (away-moved dist at v offering-room.0).here, v-is, cost-is, q-is, offering-small);
-                by = (set-moved via at o.who offering-room.1).here;
+                from_lo = due_by_lem;
+                to_hi = in_window;
+                less = omega (arith, a.0, here_was.0, v-is, cost_is, q-is, offering_small);
+                far = omega (arith, (away_moved dist at v offering_room.0).here, v-is, cost_is, q-is, offering_small);
+                by = (set_moved via at o.who offering_room.1).here;
               }))
               | inr a ↦ rw (a.1, a.2) (inr (record {
-                far = here-was.0;
-                by = here-was.1;
-                no-nearer = λ _ _. omega (arith, a.0, here-was.0, v-is, cost-is, q-is, offering-small);
+                far = here_was.0;
+                by = here_was.1;
+                no_nearer = λ _ _. omega (arith, a.0, here_was.0, v-is, cost_is, q-is, offering_small);
               }))
             ]
 
             elsewhere : (j : ℕ) → j ≢ at → (away dist₂ j ≡ away dist j) × (el via₂ j ≡ el via j)
             elsewhere j e = elim h.cases [
-              | inl a ↦ rw (a.1, a.2) ((away-moved dist at v offering-room.0).others j e, (set-moved via at o.who offering-room.1).others j e)
+              | inl a ↦ rw (a.1, a.2) ((away_moved dist at v offering_room.0).others j e, (set_moved via at o.who offering_room.1).others j e)
               | inr a ↦ rw (a.1, a.2) (refl, refl)
             ]
 
             -- the places before stay as they are
             before : (y : ℕ) → y < z → Heard f o prices target dist₀ dist₂ via₀ via₂ (el list y)
             before y b =
-                let same = elsewhere (el list y) (λ e. list-apart s.can.shape y z (omega (arith, s.upto)) s.upto (omega arith) (e ∙ at-is)) in
+                let same = elsewhere (el list y) (λ e. list_apart s.can.shape y z (omega (arith, s.upto)) s.upto (omega arith) (e ∙ at-is)) in
                 elim (s.done y b) [
-                  | inl t ↦ inl (record { from-lo = t.from-lo; to-hi = t.to-hi; less = t.less; far = rw same.0 t.far; by = same.1 ∙ t.by })
-                  | inr k ↦ inr (record { far = same.0 ∙ k.far; by = same.1 ∙ k.by; no-nearer = k.no-nearer })
+                  | inl t ↦ inl (record { from_lo = t.from_lo; to_hi = t.to_hi; less = t.less; far = rw same.0 t.far; by = same.1 ∙ t.by })
+                  | inr k ↦ inr (record { far = same.0 ∙ k.far; by = same.1 ∙ k.by; no_nearer = k.no_nearer })
                 ]
 
             up_to : (y : ℕ) → y < z + 1 → Heard f o prices target dist₀ dist₂ via₀ via₂ (el list y)
@@ -182,65 +182,65 @@ module _ {f : Flight} {o : Origin} {prices list dist₀ dist via₀ via : List �
                 let was = s.rest j (λ y b. a y (omega arith)) in
                 (same.0 ∙ was.0, same.1 ∙ was.1)
 
-            pub offering-next : z < left → Offering f o prices list dist₀ dist₂ via₀ via₂ left target due last goal (z + 1)
-            offering-next l = record {
+            pub offering_next : z < left → Offering f o prices list dist₀ dist₂ via₀ via₂ left target due last goal (z + 1)
+            offering_next l = record {
               can = s.can;
-              due-is = s.due-is;
-              last-is = s.last-is;
-              goal-is = s.goal-is;
+              due_is = s.due_is;
+              last_is = s.last_is;
+              goal_is = s.goal_is;
               upto = omega arith;
               later = λ y a b. s.later y (omega arith) b;
-              same-d = sizes.0 ∙ s.same-d;
-              same-v = sizes.1 ∙ s.same-v;
+              same_d = sizes.0 ∙ s.same_d;
+              same_v = sizes.1 ∙ s.same_v;
               done = up_to;
               rest = behind;
             }
 
             -- the target stands last
-            pub offering-last : z ≡ left → Offers f o prices list dist₀ dist₂ via₀ via₂ left target
-            offering-last e = record { listed = λ y l. up_to y (omega arith); others = λ j a. behind j (λ y b. a y (omega arith)) }
+            pub offering_last : z ≡ left → Offers f o prices list dist₀ dist₂ via₀ via₂ left target
+            offering_last e = record { listed = λ y l. up_to y (omega arith); others = λ j a. behind j (λ y b. a y (omega arith)) }
 
       -- a period before the target has its price in the row
-      pub offering-price : z < left → (1 ≤ at) × (at - 1 < length prices) × (at - 1 < periodRow)
-      offering-price b =
-          let less : at < target = rw at-is (list-before s.can.shape z b) in
-          omega (arith, due-by, s.can.from-due, s.can.prices-row, s.can.within)
+      pub offering_price : z < left → (1 ≤ at) × (at - 1 < length prices) × (at - 1 < period_row)
+      offering_price b =
+          let less : at < target = rw at-is (list_before s.can.shape z b) in
+          omega (arith, due_by_lem, s.can.from_due, s.can.prices_row, s.can.within)
 
-      pub price-is : {q : ℕ} → q ≡ get_or prices (at - 1) 0 → q ≡ ofPeriod prices at
-      price-is e = e ∙ sym (period-in prices at (λ g. omega (arith, due-by, s.can.from-due)))
+      pub price_is : {q : ℕ} → q ≡ get_or prices (at - 1) 0 → q ≡ of_period prices at
+      price_is e = e ∙ sym (period_in prices at (λ g. omega (arith, due_by_lem, s.can.from_due)))
 
   module _ (e : z ≡ left) where
     pub target_at : target ≡ get_or list z 0
     target_at = sym (ap (el list) e ∙ s.can.shape.ends)
 
-    pub target_free : 0 ≡ ofPeriod prices target
+    pub target_free : 0 ≡ of_period prices target
     target_free = sym s.can.free
 
 -- ---- first_from
 
 -- the periods before place z are before `due`
 pub record Seeking (list : List ℕ) (left due z : ℕ) : Type 0 where
-  pub rows : (length list ≡ periodRow) × (left < periodRow)
+  pub rows : (length list ≡ period_row) × (left < period_row)
   pub to : z ≤ left
   pub before : (y : ℕ) → y < z → el list y < due
 
-pub seeking-start : {list : List ℕ} {left due : ℕ} → (length list ≡ periodRow) × (left < periodRow) → Seeking list left due 0
-seeking-start c = record { rows = c; to = omega arith; before = λ y l. absurd (omega arith) }
+pub seeking_start : {list : List ℕ} {left due : ℕ} → (length list ≡ period_row) × (left < period_row) → Seeking list left due 0
+seeking_start c = record { rows = c; to = omega arith; before = λ y l. absurd (omega arith) }
 
 module _ {list : List ℕ} {left due z : ℕ} (s : Seeking list left due z) where
-  pub seeking-end : left ≤ z → FirstFrom list left due z
-  seeking-end l = record { to = s.to; before = s.before; there = λ b. absurd (omega arith) }
+  pub seeking_end : left ≤ z → FirstFrom list left due z
+  seeking_end l = record { to = s.to; before = s.before; there = λ b. absurd (omega arith) }
 
   module _ (l : z < left) where
-    pub seeking-room : (z < length list) × (z < periodRow)
-    seeking-room = omega (arith, s.rows)
+    pub seeking_room : (z < length list) × (z < period_row)
+    seeking_room = omega (arith, s.rows)
 
     module _ {at : ℕ} (at-is : at ≡ get_or list z 0) where
-      pub seeking-found : due ≤ at → FirstFrom list left due z
-      seeking-found b = record { to = s.to; before = s.before; there = λ _. omega (arith, at-is) }
+      pub seeking_found : due ≤ at → FirstFrom list left due z
+      seeking_found b = record { to = s.to; before = s.before; there = λ _. omega (arith, at-is) }
 
-      pub seeking-next : at < due → Seeking list left due (z + 1)
-      seeking-next b = record {
+      pub seeking_next : at < due → Seeking list left due (z + 1)
+      seeking_next b = record {
         rows = s.rows;
         to = omega arith;
         before = λ y c. elim (eq? y z) [ inl e ↦ rw e (omega (arith, at-is)) | inr e ↦ s.before y (omega arith) ];

@@ -9,8 +9,8 @@ use lib.Seq.{get_or-set_same, get_or-set_other}
 use Rattle.assignment.specs.Moves.{Moved}
 use Rattle.path.specs.Path.{far, away}
 
-pub away-moved : (l : List ℕ) (i v : ℕ) → i < length l → Moved (away l) (away (set l i v)) i v
-away-moved l i v b = record { here = get_or-set_same l i v far b; others = λ o e. get_or-set_other l i o v far e }
+pub away_moved : (l : List ℕ) (i v : ℕ) → i < length l → Moved (away l) (away (set l i v)) i v
+away_moved l i v b = record { here = get_or-set_same l i v far b; others = λ o e. get_or-set_other l i o v far e }
 
 get_d_any : (l : List ℕ) (k a b : ℕ) → k < length l → get_or l k a ≡ get_or l k b
 get_d_any [] k a b h = absurd (omega arith)

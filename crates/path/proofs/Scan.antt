@@ -8,10 +8,10 @@ use native.Mathlib.Omega.{arith}
 use lib.ListN.{get_or, length}
 use Rattle.assignment.specs.Rows.{el}
 use Rattle.assignment.proofs.Tests.{eq?}
-use Rattle.day.specs.Day.{periodRow}
+use Rattle.day.specs.Day.{period_row}
 use Rattle.path.specs.Path.{away, CanNear, NearestIn}
 use Rattle.path.proofs.Rows.{as_read}
-use Rattle.path.proofs.Listing.{list-to}
+use Rattle.path.proofs.Listing.{list_to}
 
 -- of the places before z, `at` has the nearest so far
 pub record Scan (dist list : List ℕ) (left target level best at z : ℕ) : Type 0 where
@@ -24,14 +24,14 @@ pub record Scan (dist list : List ℕ) (left target level best at z : ℕ) : Typ
   pub least : (y : ℕ) → y < z → best ≤ away dist (el list y)
 
 module _ {dist list : List ℕ} {left target level : ℕ} (c : CanNear dist list left target level) where
-  pub scan-room : target < length dist
-  scan-room = omega (arith, c.dists, c.within)
+  pub scan_room : target < length dist
+  scan_room = omega (arith, c.dists, c.within)
 
   goal : get_or dist target 0 ≡ away dist (el list left)
-  goal = rw c.shape.ends (as_read dist target scan-room)
+  goal = rw c.shape.ends (as_read dist target scan_room)
 
-  pub scan-start : Scan dist list left target level (get_or dist target 0) left 0
-  scan-start = record {
+  pub scan_start : Scan dist list left target level (get_or dist target 0) left 0
+  scan_start = record {
     can = c;
     to = omega arith;
     upper = omega arith;
@@ -43,47 +43,47 @@ module _ {dist list : List ℕ} {left target level : ℕ} (c : CanNear dist list
 
 module _ {dist list : List ℕ} {left target level best at z : ℕ} (s : Scan dist list left target level best at z) where
   module _ (l : z < left) where
-    pub scan-in : (z < length list) × (el list z < length dist) × (z < periodRow) × (el list z < periodRow)
-    scan-in = omega (arith, s.can.dists, s.can.shape.row, s.can.shape.short, s.can.within, list-to s.can.shape z (omega arith))
+    pub scan_in : (z < length list) × (el list z < length dist) × (z < period_row) × (el list z < period_row)
+    scan_in = omega (arith, s.can.dists, s.can.shape.row, s.can.shape.short, s.can.within, list_to s.can.shape z (omega arith))
 
     same : get_or dist (el list z) 0 ≡ away dist (el list z)
-    same = as_read dist (el list z) scan-in.1
+    same = as_read dist (el list z) scan_in.1
 
-    next-least : (b : ℕ) → b ≤ best → b ≤ away dist (el list z) → (y : ℕ) → y < z + 1 → b ≤ away dist (el list y)
-    next-least b low here y less = elim (eq? y z) [ inl e ↦ rw e here | inr e ↦ omega (arith, s.least y (omega arith)) ]
+    next_least : (b : ℕ) → b ≤ best → b ≤ away dist (el list z) → (y : ℕ) → y < z + 1 → b ≤ away dist (el list y)
+    next_least b low here y less = elim (eq? y z) [ inl e ↦ rw e here | inr e ↦ omega (arith, s.least y (omega arith)) ]
 
-    pub scan-farther : best ≤ get_or dist (el list z) 0 → Scan dist list left target level best at (z + 1)
-    scan-farther e = record {
+    pub scan_farther : best ≤ get_or dist (el list z) 0 → Scan dist list left target level best at (z + 1)
+    scan_farther e = record {
       can = s.can;
       to = s.to;
       upper = omega arith;
       is = s.is;
       most = s.most;
       nearer = s.nearer;
-      least = next-least best (omega arith) (omega (arith, same));
+      least = next_least best (omega arith) (omega (arith, same));
     }
 
-    pub scan-nearer : get_or dist (el list z) 0 < best → Scan dist list left target level (get_or dist (el list z) 0) z (z + 1)
-    scan-nearer e = record {
+    pub scan_nearer : get_or dist (el list z) 0 < best → Scan dist list left target level (get_or dist (el list z) 0) z (z + 1)
+    scan_nearer e = record {
       can = s.can;
       to = omega arith;
       upper = omega arith;
       is = same;
       most = omega (arith, s.most);
       nearer = λ _. omega (arith, s.most);
-      least = next-least (get_or dist (el list z) 0) (omega arith) (omega (arith, same));
+      least = next_least (get_or dist (el list z) 0) (omega arith) (omega (arith, same));
     }
 
     -- nothing is nearer than the level
-    pub scan-level : get_or dist (el list z) 0 < best → get_or dist (el list z) 0 ≤ level → NearestIn dist list left z
-    scan-level e low = record {
+    pub scan_level : get_or dist (el list z) 0 < best → get_or dist (el list z) 0 ≤ level → NearestIn dist list left z
+    scan_level e low = record {
       to = omega arith;
       nearer = λ _. omega (arith, same, s.most);
       least = λ y b. omega (arith, same, s.can.low y b);
     }
 
-  pub scan-end : left ≤ z → NearestIn dist list left at
-  scan-end l = record {
+  pub scan_end : left ≤ z → NearestIn dist list left at
+  scan_end l = record {
     to = s.to;
     nearer = λ b. omega (arith, s.is, s.nearer b);
     least = λ y b. elim (eq? y left) [ inl e ↦ rw e (omega (arith, s.is, s.most)) | inr e ↦ omega (arith, s.is, s.least y (omega arith)) ];

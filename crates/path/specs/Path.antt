@@ -10,7 +10,7 @@ use Rattle.assignment.specs.Instances.{grown, ordered, restricted, opened}
 use Rattle.assignment.specs.Search.{Near, Took, Kept}
 use Rattle.assignment.specs.Insertion.{Sound}
 use Rattle.day.specs.declared.Flight.{Flight}
-use Rattle.day.specs.Day.{Day, N, day, mostFlights, periodRow, ofPeriod, due, holdCost, latestOf, hold, dueOf}
+use Rattle.day.specs.Day.{Day, N, day, most_flights, period_row, of_period, due, hold_cost, latest_of, hold, due_of}
 use Rattle.day.specs.Valid.{Valid}
 use Rattle.day.specs.Instance.{instance}
 use Rattle.path.specs.declared.Origin.{Origin}
@@ -44,7 +44,7 @@ scope d places n target = restricted (begun d places n) target
 
 -- where the flight at place s lands
 abbrev pub landing : (flights places holds : List ℕ) → ℕ → ℕ
-landing flights places holds s = dueOf flights (el places s) + hold holds (el places s)
+landing flights places holds s = due_of flights (el places s) + hold holds (el places s)
 
 -- a day that passes the check, and a row in which each of its table places stands once
 pub record Table (d : Day) (places : List ℕ) : Type 0 where
@@ -53,18 +53,18 @@ pub record Table (d : Day) (places : List ℕ) : Type 0 where
   pub permuted : Permuted (N d) (el places)
 
 -- a row of chains: entries by period, then by place
-abbrev pub chainRow : ℕ
-chainRow = periodRow + mostFlights
+abbrev pub chain_row : ℕ
+chain_row = period_row + most_flights
 
 -- the places whose flights land in the same period are chained: the row has the newest of each period, and behind these the one before each place
 pub record Chained (x : ℕ → ℕ) (links : List ℕ) (n : ℕ) : Type 0 where
-  pub row : length links ≡ chainRow
-  pub chains : chains.Chained x periodRow (el links) (λ s. el links (periodRow + s)) n
+  pub row : length links ≡ chain_row
+  pub chains : chains.Chained x period_row (el links) (λ s. el links (period_row + s)) n
 
 -- a plan x of n flights with prices p, and a new flight; from its due period on, the target is the first period with room
 pub record Scene (d : Instance) (x p : ℕ → ℕ) (target : ℕ) : Type 0 where
   pub sound : Sound d x p
-  pub periods : d.m ≤ periodRow
+  pub periods : d.m ≤ period_row
   pub pays : (i k : ℕ) → i ≤ d.n → In d i k → 0 < d.cap k → d.cost i k + p k ≤ dearest
   pub shut : (i k : ℕ) → d.cap k ≡ 0 → dear ≤ d.cost i k
   pub floor : (i : ℕ) → i < d.n → d.lo d.n ≤ d.lo i
@@ -75,14 +75,14 @@ pub record Scene (d : Instance) (x p : ℕ → ℕ) (target : ℕ) : Type 0 wher
   pub within : target < d.m
   pub full : (k : ℕ) → d.lo d.n ≤ k → k < target → d.cap k ≤ count d.n x k
   pub free : count d.n x target < d.cap target
-  pub none-short : (a b : ℕ) → 1 ≤ a → a ≤ b → b < target → Short (grown d) a b → ⊥
+  pub none_short : (a b : ℕ) → 1 ≤ a → a ≤ b → b < target → Short (grown d) a b → ⊥
 
 -- the rows of a search: distances, the turn in which each period was reached (0: not yet), and by way of which place it is so far. The turns
 -- stand in no row of the program
 pub record Rows (dist turn via : List ℕ) : Type 0 where
-  pub dists : length dist ≡ periodRow
-  pub turns : length turn ≡ periodRow
-  pub vias : length via ≡ periodRow
+  pub dists : length dist ≡ period_row
+  pub turns : length turn ≡ period_row
+  pub vias : length via ≡ period_row
 
 -- t periods are reached, and from the last of them the flights from m on have offered; root is what the new flight pays
 pub record Search (d : Instance) (x p : ℕ → ℕ) (target : ℕ) (dist turn via : List ℕ) (t m : ℕ) : Type 0 where
@@ -94,7 +94,7 @@ pub record Search (d : Instance) (x p : ℕ → ℕ) (target : ℕ) (dist turn v
   pub most : (k : ℕ) → away dist k ≤ far
   pub inside : (k : ℕ) → away dist k < far → (d.lo d.n ≤ k) × (k ≤ target) × (away dist k ≤ (t + 1) * dearest) × (0 < d.cap k)
   pub reached : (k : ℕ) → 0 < el turn k → (d.lo d.n ≤ k) × (k < target) × (away dist k ≤ t * dearest)
-  pub zeros : t + count periodRow (el turn) 0 ≡ periodRow
+  pub zeros : t + count period_row (el turn) 0 ≡ period_row
 
 -- period k was reached last
 pub record Around (d : Instance) (x p : ℕ → ℕ) (target : ℕ) (dist turn via : List ℕ) (t k m : ℕ) : Type 0 where
@@ -107,8 +107,8 @@ pub record Around (d : Instance) (x p : ℕ → ℕ) (target : ℕ) (dist turn v
 
 -- the periods of the list stand rising at places 0 .. left, the target last
 pub record InList (list : List ℕ) (left target : ℕ) : Type 0 where
-  pub row : length list ≡ periodRow
-  pub short : left < periodRow
+  pub row : length list ≡ period_row
+  pub short : left < period_row
   pub ends : el list left ≡ target
   pub rising : (y z : ℕ) → y < z → z ≤ left → el list y < el list z
 
@@ -152,34 +152,34 @@ pub record Waiting (cap : ℕ → ℕ) (dist turn : List ℕ) (first target leve
 pub record Lined (cap : ℕ → ℕ) (dist turn list queue : List ℕ) (left first target level t queued : ℕ) : Type 0 where
   pub listed : Listed cap list turn queue left first target t queued
   pub low : (y : ℕ) → y ≤ left → level ≤ away dist (el list y)
-  pub row : length queue ≡ periodRow
+  pub row : length queue ≡ period_row
   pub upto : t ≤ queued
-  pub room : queued + left < periodRow
+  pub room : queued + left < period_row
   pub waits : (y : ℕ) → t ≤ y → y < queued → Waiting cap dist turn first target level (el queue y)
   pub apart : (y z : ℕ) → t ≤ y → y < z → z < queued → el queue y ≢ el queue z
   pub out : (y z : ℕ) → t ≤ y → y < queued → z < left → el queue y ≢ el list z
 
 pub record CanList (list : List ℕ) (first target : ℕ) : Type 0 where
-  pub row : length list ≡ periodRow
+  pub row : length list ≡ period_row
   pub before : first ≤ target
-  pub within : target < periodRow
+  pub within : target < period_row
 
 -- the open periods from first on, and the target
 pub record Filled (capacities list : List ℕ) (first target left : ℕ) : Type 0 where
-  pub short : left < periodRow
+  pub short : left < period_row
   pub ends : el list left ≡ target
   pub rising : (y z : ℕ) → y < z → z ≤ left → el list y < el list z
   pub low : (y : ℕ) → y ≤ left → first ≤ el list y
-  pub some : (y : ℕ) → y < left → 0 < ofPeriod capacities (el list y)
-  pub gaps : (j : ℕ) → Gap list left j → first ≤ j → ofPeriod capacities j ≡ 0
+  pub some : (y : ℕ) → y < left → 0 < of_period capacities (el list y)
+  pub gaps : (j : ℕ) → Gap list left j → first ≤ j → of_period capacities j ≡ 0
 
 -- ---- the nearest of them
 
 -- nothing in the list is nearer than `level`
 pub record CanNear (dist list : List ℕ) (left target level : ℕ) : Type 0 where
-  pub dists : length dist ≡ periodRow
+  pub dists : length dist ≡ period_row
   pub shape : InList list left target
-  pub within : target < periodRow
+  pub within : target < period_row
   pub low : (y : ℕ) → y ≤ left → level ≤ away dist (el list y)
 
 -- the period at place `at` of the list is the nearest
@@ -205,11 +205,11 @@ pub record Levelled (dist list list₂ queue queue₂ : List ℕ) (left left₂ 
   pub all : (j : ℕ) → At list left j → At list₂ left₂ j ⊎ Waits queue₂ queued (queued + (left - left₂)) j
 
 pub record CanLevel (dist list queue : List ℕ) (at left target queued : ℕ) : Type 0 where
-  pub dists : length dist ≡ periodRow
+  pub dists : length dist ≡ period_row
   pub shape : InList list left target
-  pub within : target < periodRow
-  pub queue-row : length queue ≡ periodRow
-  pub room : queued + left < periodRow
+  pub within : target < period_row
+  pub queue_row : length queue ≡ period_row
+  pub room : queued + left < period_row
   pub before : at < left
 
 -- `level` is the least distance in the list; what is as near goes to the queue, unless the target is
@@ -228,7 +228,7 @@ pub record Nearest (cap : ℕ → ℕ) (dist turn : List ℕ) (first target k : 
   pub near : k ≢ target → away dist k < far
   pub some : k ≢ target → 0 < cap k
   pub least : (j : ℕ) → first ≤ j → j < target → 0 < cap j → el turn j ≡ 0 → away dist k ≤ away dist j
-  pub target-least : away dist k ≤ away dist target
+  pub target_least : away dist k ≤ away dist target
 
 -- period k comes to the distance v by way of `who`, if that is nearer
 pub record Nearer (dist dist₂ via via₂ : List ℕ) (k v who : ℕ) : Type 0 where
@@ -245,32 +245,32 @@ pub record FirstFrom (list : List ℕ) (left due z : ℕ) : Type 0 where
 
 -- what a flight pays in period k
 abbrev pub pays : Flight → List ℕ → ℕ → ℕ
-pays f prices k = holdCost f (k - f.due) + ofPeriod prices k
+pays f prices k = hold_cost f (k - f.due) + of_period prices k
 
 -- the last period that it may offer: none behind the target matters, so that a missing limit may as well end there
-abbrev pub offersTo : Flight → ℕ → ℕ
-offersTo f target = min (latestOf (target - 1) f) target
+abbrev pub offers_to : Flight → ℕ → ℕ
+offers_to f target = min (latest_of (target - 1) f) target
 
 pub record CanOffer (f : Flight) (o : Origin) (prices list dist via : List ℕ) (left target : ℕ) : Type 0 where
   pub shape : InList list left target
-  pub within : target < periodRow
-  pub dists : length dist ≡ periodRow
-  pub vias : length via ≡ periodRow
-  pub prices-row : target ≤ length prices + 1
-  pub free : ofPeriod prices target ≡ 0
-  pub from-due : 1 ≤ f.due
-  pub by-target : f.due ≤ target
-  pub low : o.from ≤ periodRow * dearest
-  pub base-low : o.base ≤ dearest
+  pub within : target < period_row
+  pub dists : length dist ≡ period_row
+  pub vias : length via ≡ period_row
+  pub prices_row : target ≤ length prices + 1
+  pub free : of_period prices target ≡ 0
+  pub from_due : 1 ≤ f.due
+  pub by_target : f.due ≤ target
+  pub low : o.from ≤ period_row * dearest
+  pub base_low : o.base ≤ dearest
   pub most : away dist target ≤ far
-  pub fair : (y : ℕ) → y ≤ left → f.due ≤ el list y → el list y ≤ offersTo f target
+  pub fair : (y : ℕ) → y ≤ left → f.due ≤ el list y → el list y ≤ offers_to f target
       → (o.base ≤ o.from + pays f prices (el list y)) × (pays f prices (el list y) ≤ dearest)
 
 -- each period of the list comes nearer, or an offer to it is no nearer than it is or than the target
 pub record Offers (f : Flight) (o : Origin) (prices list dist dist₂ via via₂ : List ℕ) (left target : ℕ) : Type 0 where
   pub listed : (y : ℕ) → y ≤ left
-      → Took f.due (offersTo f target) (pays f prices) o.who o.from o.base (away dist) (away dist₂) (el via₂) (el list y)
-      ⊎ Kept f.due (offersTo f target) (pays f prices) o.from o.base (away dist target) (away dist) (away dist₂) (el via) (el via₂) (el list y)
+      → Took f.due (offers_to f target) (pays f prices) o.who o.from o.base (away dist) (away dist₂) (el via₂) (el list y)
+      ⊎ Kept f.due (offers_to f target) (pays f prices) o.from o.base (away dist target) (away dist) (away dist₂) (el via) (el via₂) (el list y)
   pub others : (j : ℕ) → ((y : ℕ) → y ≤ left → el list y ≢ j) → (away dist₂ j ≡ away dist j) × (el via₂ j ≡ el via j)
 
 -- ---- the search
@@ -278,17 +278,17 @@ pub record Offers (f : Flight) (o : Origin) (prices list dist dist₂ via via₂
 -- a plan x of the flights at the first n places, in its rows, and a new flight at place n
 pub record Ready (d : Day) (x : ℕ → ℕ) (places links prices : List ℕ) (n target : ℕ) : Type 0 where
   pub table : Table d places
-  pub scene : Scene (scope d places n target) x (ofPeriod prices) target
+  pub scene : Scene (scope d places n target) x (of_period prices) target
   pub upto : n < N d
   pub chained : Chained x links n
-  pub prices-row : target ≤ length prices + 1
+  pub prices_row : target ≤ length prices + 1
 
 pub record CanExpand (d : Day) (x : ℕ → ℕ) (places links prices list dist via : List ℕ) (n left target k : ℕ) : Type 0 where
   pub ready : Ready d x places links prices n target
-  pub dists : length dist ≡ periodRow
-  pub vias : length via ≡ periodRow
+  pub dists : length dist ≡ period_row
+  pub vias : length via ≡ period_row
   pub to : k < target
-  pub near : away dist k ≤ periodRow * dearest
+  pub near : away dist k ≤ period_row * dearest
   pub most : (j : ℕ) → away dist j ≤ far
   pub shape : InList list left target
   pub here : 0 < room_in d k
@@ -312,14 +312,14 @@ pub record CanExpandSome (flights places links prices list dist via : List ℕ) 
 abbrev pub ExpandedAll : (flights places links prices list dist dist₂ via via₂ : List ℕ) (left target k : ℕ) → Type 0
 ExpandedAll flights places links prices list dist dist₂ via via₂ left target k =
     (capacities : List ℕ) (closing : ℕ) (x : ℕ → ℕ) (n : ℕ) → CanExpand (day capacities flights closing) x places links prices list dist via n left target k
-    → Expanded (scope (day capacities flights closing) places n target) x (ofPeriod prices) target dist dist₂ via via₂ k
+    → Expanded (scope (day capacities flights closing) places n target) x (of_period prices) target dist dist₂ via via₂ k
 
 -- all is far
 pub record CanSearch (d : Day) (x : ℕ → ℕ) (places links prices dist via : List ℕ) (n target : ℕ) : Type 0 where
   pub ready : Ready d x places links prices n target
-  pub dists : length dist ≡ periodRow
-  pub vias : length via ≡ periodRow
-  pub all-far : (k : ℕ) → away dist k ≡ far
+  pub dists : length dist ≡ period_row
+  pub vias : length via ≡ period_row
+  pub all_far : (k : ℕ) → away dist k ≡ far
 
 -- the target is the nearest of the periods that are not reached, and it is not far
 pub record Searched (d : Instance) (x p : ℕ → ℕ) (target : ℕ) (dist via : List ℕ) : Type 0 where
@@ -336,4 +336,4 @@ pub record CanSearchSome (d : Day) (places links prices dist via : List ℕ) (n 
 
 abbrev pub SearchedAll : (d : Day) (places links prices dist dist₂ via via₂ : List ℕ) (n target : ℕ) → Type 0
 SearchedAll d places links prices dist dist₂ via via₂ n target =
-    (x : ℕ → ℕ) → CanSearch d x places links prices dist via n target → Searched (scope d places n target) x (ofPeriod prices) target dist₂ via₂
+    (x : ℕ → ℕ) → CanSearch d x places links prices dist via n target → Searched (scope d places n target) x (of_period prices) target dist₂ via₂

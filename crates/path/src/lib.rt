@@ -1,7 +1,7 @@
 // The search for the cheapest chain of moves that makes room for a new flight: periods are reached in the order of their distances.
 ghost use Rattle.std.specs.Prelude.{◌≡◌, ◌+◌, ◌<◌, length};
 ghost use Rattle.assignment.specs.Rows.{el};
-ghost use Rattle.day.specs.Day.{lent, unlimited, periodRow};
+ghost use Rattle.day.specs.Day.{lent, unlimited, period_row};
 ghost use Rattle.path.specs.Path.{away, CanList, Filled, Removed, CanNear, NearestIn, CanLevel, Levelled, NextLevel, Nearer, FirstFrom, CanOffer, Offers, CanExpandSome, ExpandedAll, CanSearchSome, SearchedAll};
 
 use day::{FLIGHTS, Flight, PERIOD_ROW, flight_at, hold_cost, latest_of, of_period, wide};
@@ -72,7 +72,7 @@ fn nearest(dist: &[usize], list: &[u8], left: usize, target: usize, level: usize
 
 // Takes the period at place `at` out of a list whose last place is `left`.
 fn take_out(list: &mut [u8], at: usize, left: usize)
-    requires { (length list.old ≡ periodRow) × (at < left) × (left < periodRow) }
+    requires { (length list.old ≡ period_row) × (at < left) × (left < period_row) }
     ensures { Removed list.old list.new at left }
 {
     let mut z = at;
@@ -128,7 +128,7 @@ fn take_nearest(
     queued: usize,
 ) -> usize
     requires can_near { CanNear dist.now list.old left target level }
-    requires queue_len { (length queue.old ≡ periodRow) × (queued + left < periodRow) }
+    requires queue_len { (length queue.old ≡ period_row) × (queued + left < period_row) }
     ensures { NextLevel dist.now list.old list.new queue.old queue.new left result queued target }
 {
     let at = nearest(dist, list, left, target, level);
@@ -146,7 +146,7 @@ fn take_nearest(
 
 // Period k comes to the distance `away` by way of `who`, if that is nearer.
 fn bring_nearer(dist: &mut [usize], via: &mut [usize], k: usize, away: usize, who: usize)
-    requires { (k < length dist.old) × (k < length via.old) × (k < periodRow) }
+    requires { (k < length dist.old) × (k < length via.old) × (k < period_row) }
     ensures { Nearer dist.old dist.new via.old via.new k away who }
 {
     if away < dist[k] {
@@ -157,7 +157,7 @@ fn bring_nearer(dist: &mut [usize], via: &mut [usize], k: usize, away: usize, wh
 
 // The first place of the list whose period is not before `due`; at the latest the last, where the target stands.
 fn first_from(list: &[u8], left: usize, due: usize) -> usize
-    requires { (length list.now ≡ periodRow) × (left < periodRow) }
+    requires { (length list.now ≡ period_row) × (left < period_row) }
     ensures { FirstFrom list.now left due result }
 {
     let mut z = 0;

@@ -6,13 +6,13 @@ use Rattle.assignment.specs.Sum.{gate, sum}
 use Rattle.day.specs.Day.{Day, N}
 use Rattle.quick_plan.specs.Quick.{eligible, rates}
 use Rattle.period_card.specs.PeriodCard.{size, card}
-use Rattle.period_card.proofs.Words.{isMarked, marked}
+use Rattle.period_card.proofs.Words.{is_marked, marked}
 
 module _ (d : Day) (j : ℕ) where
-  pub card-marks : (i : ℕ) → i < N d → isMarked (card d j).low (card d j).high i ≡ eligible d (rates d) j i
+  pub card_marks : (i : ℕ) → i < N d → is_marked (card d j).low (card d j).high i ≡ eligible d (rates d) j i
   unfolding card
-  card-marks i l = marked (eligible d (rates d) j) (N d) i l
+  card_marks i l = marked (eligible d (rates d) j) (N d) i l
 
-  pub card-size : (card d j).size ≡ sum (N d) (λ i. gate (eligible d (rates d) j i) 1)
+  pub card_size : (card d j).size ≡ sum (N d) (λ i. gate (eligible d (rates d) j i) 1)
   unfolding card size
-  card-size = refl
+  card_size = refl

@@ -6,7 +6,7 @@ use Rattle.answers.specs.declared.Answer.{Answer}
 use Rattle.answers.specs.declared.Answer.TheVariants.{Done, BadDay, JumpOrLimit, NoSuchPeriod}
 use Rattle.assignment.specs.Sum.{gate, sum}
 use Rattle.day.specs.Day.{Day, P, N, inside, valid}
-use Rattle.day.specs.Plan.{firstJumpOrLimit}
+use Rattle.day.specs.Plan.{first_jump_or_limit}
 use Rattle.quick_plan.specs.Quick.{eligible, rates}
 use Rattle.period_card.specs.declared.Marks.{Marks}
 use Rattle.period_card.specs.declared.Card.{Card}
@@ -32,9 +32,9 @@ abbrev pub refused : Answer → Card
 refused answer = record { answer = answer; low = 0; high = 0; size = 0 }
 
 -- what the call gives: refusals 6, 8 and 11, "period 0 or above P", in this order
-unfoldable pub periodCard : Day → ℕ → Card
-periodCard d j =
+unfoldable pub period_card : Day → ℕ → Card
+period_card d j =
     cond (not (valid d)) (refused BadDay)
-    (cond (ltb (firstJumpOrLimit d.flights) (N d)) (refused (JumpOrLimit (firstJumpOrLimit d.flights)))
+    (cond (ltb (first_jump_or_limit d.flights) (N d)) (refused (JumpOrLimit (first_jump_or_limit d.flights)))
     (cond (not (inside 1 (P d) j)) (refused (NoSuchPeriod (P d)))
     (card d j)))

@@ -2,8 +2,8 @@
 ghost use Rattle.std.specs.Prelude.{◌≡◌, true, ◌^◌, ◌<◌, ◌≤◌, length};
 ghost use Rattle.std.specs.Int.Bits.{bit_or};
 ghost use Rattle.day.specs.Day.{lent, N, valid};
-ghost use Rattle.quick_plan.specs.Loop.{lentRows, waiting};
-ghost use Rattle.period_card.specs.PeriodCard.{marks, refused, card, periodCard};
+ghost use Rattle.quick_plan.specs.Loop.{lent_rows, waiting};
+ghost use Rattle.period_card.specs.PeriodCard.{marks, refused, card, period_card};
 
 use answers::Answer;
 use day::{FLIGHTS, flight_count, is_valid, wide};
@@ -34,8 +34,8 @@ fn mark(word: u64, i: usize) -> u64
 
 // Who waits in period j.
 fn marks_of(capacities: &[u32], flights: &[u32], holds: &[u32], j: usize) -> Marks
-    requires { (valid (lentRows capacities flights) ≡ true) × (length holds.now ≡ N (lentRows capacities flights)) }
-    ensures { result ≡ marks (waiting (lentRows capacities.entry flights.entry) holds.now j) (length holds.now) }
+    requires { (valid (lent_rows capacities flights) ≡ true) × (length holds.now ≡ N (lent_rows capacities flights)) }
+    ensures { result ≡ marks (waiting (lent_rows capacities.entry flights.entry) holds.now j) (length holds.now) }
 {
     let mut low: u64 = 0;
     let mut high: u64 = 0;
@@ -56,9 +56,9 @@ fn marks_of(capacities: &[u32], flights: &[u32], holds: &[u32], j: usize) -> Mar
 
 // The card of period j, with a row to plan the periods before it in.
 fn card_in(capacities: &[u32], flights: &[u32], row: &mut [u32], n: usize, j: usize) -> Card
-    requires flights_value { (valid (lentRows capacities flights) ≡ true) × (n ≡ N (lentRows capacities flights)) × (1 ≤ j) × (j ≤ length capacities.now) }
+    requires flights_value { (valid (lent_rows capacities flights) ≡ true) × (n ≡ N (lent_rows capacities flights)) × (1 ≤ j) × (j ≤ length capacities.now) }
     requires n_in_bounds { n ≤ length row.old }
-    ensures { result ≡ card (lentRows capacities.entry flights.entry) j }
+    ensures { result ≡ card (lent_rows capacities.entry flights.entry) j }
 {
     let part = &mut row[0..n];
     plan_to(NextCost::Rate, capacities, flights, part, j - 1);
@@ -86,7 +86,7 @@ fn refusal(answer: Answer) -> Card
 // The card of a period, whatever the closing period takes. Refusals, in this order: 6, a bad day; 8, the first flight with a jump or a limit;
 // 11, no such period.
 pub fn period_card(capacities: &[u32], flights: &[u32], closing: u32, period: u32) -> Card
-    ensures { result ≡ periodCard (lent capacities.entry flights.entry closing) period }
+    ensures { result ≡ period_card (lent capacities.entry flights.entry closing) period }
 {
     if !is_valid(capacities, flights, closing) {
         return refusal(Answer::BadDay);

@@ -4,17 +4,17 @@
 use Rattle.std.specs.Prelude.{◌≡◌, ◌⊎◌, true, cond, List, ℕ, ◌-◌, ◌≤◌, ◌<◌, length, get_or, take, eqb}
 use Rattle.answers.specs.declared.Answer.{Answer}
 use Rattle.answers.specs.declared.Answer.TheVariants.{Planned, BadDay, BadLength, BadPlanText}
-use Rattle.text.specs.Digits.{lineEnd}
+use Rattle.text.specs.Digits.{line_end}
 use Rattle.text.specs.Fixed.{starts_with}
 use Rattle.day.specs.Day.{Day, N, total, valid}
 use Rattle.day.specs.Plan.{Legal}
-use Rattle.plan_text.specs.PlanText.{planText}
+use Rattle.plan_text.specs.PlanText.{plan_text}
 
 -- a line of the text, "end byte included", ends just before `next`
 pub record LineEnds (text : List ℕ) (next : ℕ) : Type 0 where
   pub some : 1 ≤ next
   pub inside : next ≤ length text
-  pub end-byte : get_or text (next - 1) 0 ≡ lineEnd
+  pub end_byte : get_or text (next - 1) 0 ≡ line_end
 
 -- what stands before `at` is whole lines: none of them, or the last one ends there
 abbrev pub WholeLines : List ℕ → ℕ → Type 0
@@ -24,7 +24,7 @@ WholeLines text at = (at ≡ 0) ⊎ LineEnds text at
 pub record PlanBegins (d : Day) (bytes : List ℕ) : Type 0 where
   pub plan : List ℕ
   pub legal : Legal d plan
-  pub begins : starts_with (planText d.flights plan) bytes ≡ true
+  pub begins : starts_with (plan_text d.flights plan) bytes ≡ true
 
 -- "the offset of the first line, end byte included, such that no legal plan's text begins with the lines up to and including it": some legal
 -- plan's text begins with the lines before it, if there are any, and none with those up to its end or the end of a later one. A last
@@ -37,16 +37,16 @@ pub record FirstWrongLine (d : Day) (text : List ℕ) (at : ℕ) : Type 0 where
 -- "It accepts just the bytes that the writer makes for some legal plan of that day", fills the hold row with it and "answers the plan's total"
 pub record TextAccepted (d : Day) (text : List ℕ) (answer : Answer) (holds : List ℕ) : Type 0 where
   pub legal : Legal d holds
-  pub text-is : text ≡ planText d.flights holds
-  pub total-is : answer ≡ Planned (total d holds)
+  pub text_is : text ≡ plan_text d.flights holds
+  pub total_is : answer ≡ Planned (total d holds)
 
 -- "Any other text is refused with 15, .. the hold row untouched."
 pub record TextRefused (d : Day) (text : List ℕ) (answer : Answer) (holds₀ holds : List ℕ) : Type 0 where
   pub line : ℕ
-  pub first-wrong : FirstWrongLine d text line
-  pub other : (plan : List ℕ) → Legal d plan → text ≡ planText d.flights plan → ⊥
-  pub line-is : answer ≡ BadPlanText line
-  pub same-holds : holds ≡ holds₀
+  pub first_wrong : FirstWrongLine d text line
+  pub other : (plan : List ℕ) → Legal d plan → text ≡ plan_text d.flights plan → ⊥
+  pub line_is : answer ≡ BadPlanText line
+  pub same_holds : holds ≡ holds₀
 
 -- of a valid day and a row of N: one of the two
 pub data TextRead (d : Day) (text : List ℕ) (answer : Answer) (holds₀ holds : List ℕ) : Type 0 where

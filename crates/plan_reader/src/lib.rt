@@ -2,11 +2,11 @@
 ghost use Rattle.std.specs.Prelude.{◌≡◌, ◌+◌, ◌*◌, ◌≤◌, length, drop};
 ghost use Rattle.answers.specs.Decides.{Decides};
 ghost use Rattle.text.specs.Fixed.{starts_with};
-ghost use Rattle.day.specs.Day.{lent, mostFlights, width};
-ghost use Rattle.plan_text.specs.PlanText.{planNames, totalName};
+ghost use Rattle.day.specs.Day.{lent, most_flights, width};
+ghost use Rattle.plan_text.specs.PlanText.{plan_names, total_name};
 ghost use Rattle.completion.specs.Loop.{Partial};
 ghost use Rattle.plan_reader.specs.PlanReading.{TextRead, ReadPlan};
-ghost use Rattle.plan_reader.specs.Loop.{Shows, HoldRead, frontLines, Read, LinesRead, BehindMost, CanEnd, EndRead, RowsRead, LargeRows};
+ghost use Rattle.plan_reader.specs.Loop.{Shows, HoldRead, front_lines, Read, LinesRead, BehindMost, CanEnd, EndRead, RowsRead, LargeRows};
 
 use answers::Answer;
 use completion::{Most, all_places, most_completed, take_landing};
@@ -82,7 +82,7 @@ fn read_lines(
     holds: &mut [u32],
     left: &mut [u32],
 ) -> Front
-    requires { Read (lent capacities flights closing) text.now holds.old left.old 0 (length planNames) }
+    requires { Read (lent capacities flights closing) text.now holds.old left.old 0 (length plan_names) }
     ensures { LinesRead (lent capacities.entry flights.entry closing) text.now holds.new left.new result }
 {
     let n = flight_count(flights);
@@ -105,8 +105,8 @@ fn read_lines(
 
 // The place behind the names line and the lines of the first m flights.
 fn place_behind(flights: &[u32], holds: &[u32], m: usize) -> usize
-    requires { (m ≤ length holds.now) × (length holds.now * width ≤ length flights.now) × (length holds.now ≤ mostFlights) }
-    ensures { result ≡ length (frontLines flights.now holds.now m) }
+    requires { (m ≤ length holds.now) × (length holds.now * width ≤ length flights.now) × (length holds.now ≤ most_flights) }
+    ensures { result ≡ length (front_lines flights.now holds.now m) }
 {
     PLAN_NAMES_LEN + plan_lines_len(flights, &holds[0..m])
 }
@@ -132,14 +132,14 @@ fn first_wrong(
 }
 
 fn names_here(text: &[u8]) -> bool
-    ensures { result ≡ starts_with text.now planNames }
+    ensures { result ≡ starts_with text.now plan_names }
 {
     fixed_at(text, 0, &PLAN_NAMES)
 }
 
 fn total_name_here(text: &[u8], at: usize) -> bool
     requires { at ≤ length text.now }
-    ensures { result ≡ starts_with (drop at text.now) totalName }
+    ensures { result ≡ starts_with (drop at text.now) total_name }
 {
     fixed_at(text, at, &TOTAL_NAME)
 }

@@ -1,8 +1,8 @@
 // The text of a plan, put into a lent byte buffer from a given place on.
 ghost use Rattle.std.specs.Prelude.{◌≡◌, [], ◌∷◌, ◌+◌, ◌*◌, ◌≤◌, ◌<◌, length};
-ghost use Rattle.text.specs.Writing.{Put, textAnswer, textAfter};
-ghost use Rattle.day.specs.Day.{lent, mostFlights, width, number_of, dueOf, flightAt, flightCount, holdCost, hold, landOf, total_of};
-ghost use Rattle.plan_text.specs.PlanText.{planNames, totalName, planLine, planLines, planText, planTextAnswer, planTextAfter};
+ghost use Rattle.text.specs.Writing.{Put, text_answer, text_after};
+ghost use Rattle.day.specs.Day.{lent, most_flights, width, number_of, due_of, flight_at, flight_count, hold_cost, hold, land_of, total_of};
+ghost use Rattle.plan_text.specs.PlanText.{plan_names, total_name, plan_line, plan_lines, plan_text, plan_text_answer, plan_text_after};
 
 use answers::Answer;
 use day::{cost_of, due_of, land_of, number_of, wide};
@@ -25,7 +25,7 @@ const NAMES_LEN: usize = PLAN_NAMES_LEN + TOTAL_NAME_LEN;
 // The numbers of a flight's line but for its cost.
 fn values_of(flights: &[u32], holds: &[u32], i: usize) -> [usize; 4]
     requires { (i < length holds.now) × ((i + 1) * width ≤ length flights.now) }
-    ensures { result ≡ number_of flights.now i ∷ dueOf flights.now i ∷ landOf flights.now holds.now i ∷ hold holds.now i ∷ [] }
+    ensures { result ≡ number_of flights.now i ∷ due_of flights.now i ∷ land_of flights.now holds.now i ∷ hold holds.now i ∷ [] }
 {
     [
         number_of(flights, i),
@@ -37,15 +37,15 @@ fn values_of(flights: &[u32], holds: &[u32], i: usize) -> [usize; 4]
 
 fn cost_at(flights: &[u32], holds: &[u32], i: usize) -> usize
     requires { (i < length holds.now) × ((i + 1) * width ≤ length flights.now) }
-    ensures { result ≡ holdCost (flightAt flights.now i) (hold holds.now i) }
+    ensures { result ≡ hold_cost (flight_at flights.now i) (hold holds.now i) }
 {
     cost_of(flights, i, wide(holds[i]))
 }
 
 // The line of the flight at table place i from `at` on.
 fn put_plan_line(out: &mut [u8], at: usize, flights: &[u32], holds: &[u32], i: usize) -> usize
-    requires { (i < length holds.now) × ((i + 1) * width ≤ length flights.now) × (at + length (planLine flights.now holds.now i) ≤ length out.old) }
-    ensures { Put out.old at (planLine flights.now holds.now i) result out.new }
+    requires { (i < length holds.now) × ((i + 1) * width ≤ length flights.now) × (at + length (plan_line flights.now holds.now i) ≤ length out.old) }
+    ensures { Put out.old at (plan_line flights.now holds.now i) result out.new }
 {
     let values = values_of(flights, holds, i);
     let cost = cost_at(flights, holds, i);
@@ -54,15 +54,15 @@ fn put_plan_line(out: &mut [u8], at: usize, flights: &[u32], holds: &[u32], i: u
 
 fn plan_line_len(flights: &[u32], holds: &[u32], i: usize) -> usize
     requires { (i < length holds.now) × ((i + 1) * width ≤ length flights.now) }
-    ensures { (result ≡ length (planLine flights.now holds.now i)) × (result ≤ 105) }
+    ensures { (result ≡ length (plan_line flights.now holds.now i)) × (result ≤ 105) }
 {
     let values = values_of(flights, holds, i);
     line_len(&values, cost_at(flights, holds, i))
 }
 
 fn put_plan_lines(out: &mut [u8], start: usize, flights: &[u32], holds: &[u32]) -> usize
-    requires { (length holds.now * width ≤ length flights.now) × (start + length (planLines flights.now holds.now (length holds.now) 0) ≤ length out.old) }
-    ensures { Put out.old start (planLines flights.now holds.now (length holds.now) 0) result out.new }
+    requires { (length holds.now * width ≤ length flights.now) × (start + length (plan_lines flights.now holds.now (length holds.now) 0) ≤ length out.old) }
+    ensures { Put out.old start (plan_lines flights.now holds.now (length holds.now) 0) result out.new }
 {
     let mut at = start;
     let mut i: usize = 0;
@@ -75,8 +75,8 @@ fn put_plan_lines(out: &mut [u8], start: usize, flights: &[u32], holds: &[u32]) 
 
 // How many bytes the lines of as many flights as there are holds take.
 pub fn plan_lines_len(flights: &[u32], holds: &[u32]) -> usize
-    requires { (length holds.now * width ≤ length flights.now) × (length holds.now ≤ mostFlights) }
-    ensures { (result ≡ length (planLines flights.now holds.now (length holds.now) 0)) × (result ≤ 13440) }
+    requires { (length holds.now * width ≤ length flights.now) × (length holds.now ≤ most_flights) }
+    ensures { (result ≡ length (plan_lines flights.now holds.now (length holds.now) 0)) × (result ≤ 13440) }
 {
     let mut sum: usize = 0;
     let mut i: usize = 0;
@@ -88,23 +88,23 @@ pub fn plan_lines_len(flights: &[u32], holds: &[u32]) -> usize
 }
 
 fn put_plan_names(out: &mut [u8]) -> usize
-    requires { length planNames ≤ length out.old }
-    ensures { Put out.old 0 planNames result out.new }
+    requires { length plan_names ≤ length out.old }
+    ensures { Put out.old 0 plan_names result out.new }
 {
     put_fixed(out, &PLAN_NAMES)
 }
 
 fn put_total_name(out: &mut [u8], at: usize) -> usize
-    requires { at + length totalName ≤ length out.old }
-    ensures { Put out.old at totalName result out.new }
+    requires { at + length total_name ≤ length out.old }
+    ensures { Put out.old at total_name result out.new }
 {
     put_fixed_at(out, at, &TOTAL_NAME)
 }
 
 // The whole text, at the front of out.
 fn fill_plan(out: &mut [u8], flights: &[u32], holds: &[u32], sum: usize) -> usize
-    requires { (length holds.now ≡ flightCount flights.now) × (sum ≡ total_of flights.now holds.now) × (length holds.now * width ≤ length flights.now) × (length (planText flights.now holds.now) ≤ length out.old) }
-    ensures { Put out.old 0 (planText flights.now holds.now) result out.new }
+    requires { (length holds.now ≡ flight_count flights.now) × (sum ≡ total_of flights.now holds.now) × (length holds.now * width ≤ length flights.now) × (length (plan_text flights.now holds.now) ≤ length out.old) }
+    ensures { Put out.old 0 (plan_text flights.now holds.now) result out.new }
 {
     let a = put_plan_names(out);
     let b = put_plan_lines(out, a, flights, holds);
@@ -114,8 +114,8 @@ fn fill_plan(out: &mut [u8], flights: &[u32], holds: &[u32], sum: usize) -> usiz
 
 // How many bytes the text takes.
 fn plan_len(flights: &[u32], holds: &[u32], sum: usize) -> usize
-    requires { (length holds.now ≡ flightCount flights.now) × (sum ≡ total_of flights.now holds.now) × (length holds.now * width ≤ length flights.now) × (length holds.now ≤ mostFlights) }
-    ensures { result ≡ length (planText flights.now holds.now) }
+    requires { (length holds.now ≡ flight_count flights.now) × (sum ≡ total_of flights.now holds.now) × (length holds.now * width ≤ length flights.now) × (length holds.now ≤ most_flights) }
+    ensures { result ≡ length (plan_text flights.now holds.now) }
 {
     plan_lines_len(flights, holds) + number_len(sum) + NAMES_LEN
 }
@@ -128,9 +128,9 @@ fn write_legal(
     buffer: &mut [u8],
     place: usize,
 ) -> Answer
-    requires { (length holds.now ≡ flightCount flights.now) × (sum ≡ total_of flights.now holds.now) × (length holds.now * width ≤ length flights.now) × (length holds.now ≤ mostFlights) }
-    ensures value { result ≡ textAnswer buffer.old place (planText flights.now holds.now) }
-    ensures buffer_after { buffer.new ≡ textAfter buffer.old place (planText flights.now holds.now) }
+    requires { (length holds.now ≡ flight_count flights.now) × (sum ≡ total_of flights.now holds.now) × (length holds.now * width ≤ length flights.now) × (length holds.now ≤ most_flights) }
+    ensures value { result ≡ text_answer buffer.old place (plan_text flights.now holds.now) }
+    ensures buffer_after { buffer.new ≡ text_after buffer.old place (plan_text flights.now holds.now) }
 {
     let needed = plan_len(flights, holds, sum);
     if buffer.len() < place {
@@ -152,8 +152,8 @@ pub fn write_plan(
     text: &mut [u8],
     place: usize,
 ) -> Answer
-    ensures value { result ≡ planTextAnswer (lent capacities.entry flights.entry closing) holds.now text.old place }
-    ensures text_after { text.new ≡ planTextAfter (lent capacities.entry flights.entry closing) holds.now text.old place }
+    ensures value { result ≡ plan_text_answer (lent capacities.entry flights.entry closing) holds.now text.old place }
+    ensures text_after { text.new ≡ plan_text_after (lent capacities.entry flights.entry closing) holds.now text.old place }
 {
     let found = check_plan(capacities, flights, closing, holds);
     match found {

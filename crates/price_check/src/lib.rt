@@ -1,6 +1,6 @@
 // The price check: whether prices show that a plan is cheapest.
 ghost use Rattle.std.specs.Prelude.{◌≡◌, true, false, ℕ, ◌*◌, ◌<◌, ◌≤◌, length};
-ghost use Rattle.day.specs.Day.{lent, unlimited, N, counted, width, landOf, valid};
+ghost use Rattle.day.specs.Day.{lent, unlimited, N, counted, width, land_of, valid};
 ghost use Rattle.assignment.specs.Sum.{count};
 ghost use Rattle.day.specs.Plan.{Legal, Cheapest, Accepted};
 ghost use Rattle.answers.specs.Decides.{Decides};
@@ -12,7 +12,7 @@ use legality::{PlanCheck, check_plan};
 // How many flights land in period k.
 fn landings_of(flights: &[u32], holds: &[u32], k: usize) -> usize
     requires { length holds.now * width ≤ length flights.now }
-    ensures { result ≡ count (length holds.now) (landOf flights.now holds.now) k }
+    ensures { result ≡ count (length holds.now) (land_of flights.now holds.now) k }
 {
     let mut count = 0;
     let mut i = 0;

@@ -3,12 +3,12 @@
 use Rattle.std.specs.Prelude.{ℕ, ◌≤◌, ◌<◌, ◌≡◌, List, [], length, take}
 use Rattle.answers.specs.declared.Answer.{Answer}
 use Rattle.answers.specs.Answers.{code_of}
-use Rattle.text.specs.Fixed.{refusalText}
+use Rattle.text.specs.Fixed.{refusal_text}
 use Rattle.day.specs.Day.{Day, day}
 use Rattle.day.specs.Plan.{Cheapest, Picked}
 use Rattle.day.specs.Flights.{row_of}
-use Rattle.sheet.specs.Sheet.{Reading, read, refused, readSheet}
-use Rattle.plan_text.specs.PlanText.{planText}
+use Rattle.sheet.specs.Sheet.{Reading, read, refused, read_sheet}
+use Rattle.plan_text.specs.PlanText.{plan_text}
 
 -- the first r bytes of a buffer are the text (only inner contracts cite it)
 pub record Front (buffer : List ℕ) (r : ℕ) (text : List ℕ) : Type 0 where
@@ -16,22 +16,22 @@ pub record Front (buffer : List ℕ) (r : ℕ) (text : List ℕ) : Type 0 where
   pub bytes : take r buffer ≡ text
 
 -- a refusal's two lines: the number and the two values of an answer
-abbrev pub refusalOf : Answer → List ℕ
-refusalOf a = refusalText (code_of a).number (code_of a).first (code_of a).second
+abbrev pub refusal_of : Answer → List ℕ
+refusal_of a = refusal_text (code_of a).number (code_of a).first (code_of a).second
 
 -- what is printed for a day: the text of a cheapest plan or, where there is no legal plan, refusal 9 with the stretch that leaves none
 pub data PrintsDay (d : Day) (out : List ℕ) : Type 0 where
-  plan : (holds : List ℕ) → Cheapest d holds → out ≡ planText d.flights holds → PrintsDay d out
-  none : (first last : ℕ) → Picked d first last → out ≡ refusalText 9 first last → PrintsDay d out
+  plan : (holds : List ℕ) → Cheapest d holds → out ≡ plan_text d.flights holds → PrintsDay d out
+  none : (first last : ℕ) → Picked d first last → out ≡ refusal_text 9 first last → PrintsDay d out
 
 -- what is printed for a sheet that was read, or refused
 abbrev pub PrintsReading : Reading → List ℕ → Type 0
 PrintsReading (read capacities flights closing) out = PrintsDay (day capacities (row_of flights) closing) out
-PrintsReading (refused a) out = out ≡ refusalOf a
+PrintsReading (refused a) out = out ≡ refusal_of a
 
 -- what is printed for the bytes of a sheet
 unfoldable pub Prints : List ℕ → List ℕ → Type 0
-Prints sheet out = PrintsReading (readSheet sheet) out
+Prints sheet out = PrintsReading (read_sheet sheet) out
 
 -- what is handed back to be written, for a buffer of which some bytes were read and a text of some room: what is printed for the bytes that
 -- were read (a count beyond the buffer is the whole buffer), or nothing where the text has not the 4,096 bytes that every answer fits

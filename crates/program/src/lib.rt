@@ -1,9 +1,9 @@
 // What the program does between reading and writing: of the bytes of a day sheet, the text of its full plan or of its refusal.
 ghost use Rattle.std.specs.Prelude.{◌≡◌, true, ◌+◌, ◌*◌, ◌≤◌, length, take};
-ghost use Rattle.day.specs.Day.{lent, mostPeriods, mostFlights, width, counted, N, valid};
+ghost use Rattle.day.specs.Day.{lent, most_periods, most_flights, width, counted, N, valid};
 ghost use Rattle.day.specs.Plan.{Legal};
-ghost use Rattle.plan_text.specs.PlanText.{planText};
-ghost use Rattle.program.specs.Program.{Front, refusalOf, PrintsDay, Prints, Answered};
+ghost use Rattle.plan_text.specs.PlanText.{plan_text};
+ghost use Rattle.program.specs.Program.{Front, refusal_of, PrintsDay, Prints, Answered};
 
 use answers::{Answer, code_of};
 use day::{FLIGHT_ROW, FLIGHTS, PERIODS, counted_of};
@@ -16,25 +16,25 @@ const PRICES: usize = PERIODS + 1;
 
 // Rows of zeros for a day and its plan. Their lengths are all that a caller needs to know.
 fn capacity_row() -> [u32; PERIODS]
-    ensures { mostPeriods ≡ length result }
+    ensures { most_periods ≡ length result }
 {
     [0; PERIODS]
 }
 
 fn flight_row() -> [u32; FLIGHT_ROW]
-    ensures { mostFlights * width ≡ length result }
+    ensures { most_flights * width ≡ length result }
 {
     [0; FLIGHT_ROW]
 }
 
 fn hold_row() -> [u32; FLIGHTS]
-    ensures { mostFlights ≡ length result }
+    ensures { most_flights ≡ length result }
 {
     [0; FLIGHTS]
 }
 
 fn price_row() -> [u32; PRICES]
-    ensures { mostPeriods + 1 ≡ length result }
+    ensures { most_periods + 1 ≡ length result }
 {
     [0; PRICES]
 }
@@ -42,7 +42,7 @@ fn price_row() -> [u32; PRICES]
 // The two lines of a refusal, at the front of the text; how many bytes.
 fn put_refusal(answer: Answer, text: &mut [u8]) -> usize
     requires { 4096 ≤ length text.old }
-    ensures { Front text.new result (refusalOf answer) }
+    ensures { Front text.new result (refusal_of answer) }
 {
     let code = code_of(answer);
     let number = code.number as usize;
@@ -61,7 +61,7 @@ fn put_plan(
     text: &mut [u8],
 ) -> usize
     requires { (valid (lent capacities flights closing) ≡ true) × Legal (lent capacities flights closing) holds.now × (4096 ≤ length text.old) }
-    ensures { Front text.new result (planText flights.now holds.now) }
+    ensures { Front text.new result (plan_text flights.now holds.now) }
 {
     let written = plan_text::write_plan(capacities, flights, closing, holds, text, 0);
     let code = code_of(written);

@@ -6,9 +6,9 @@ use Prim.Native.Nat.{ℕ, ◌+◌, ◌<◌}
 use native.Mathlib.Omega.{arith}
 use lib.Dec.{ltb, eqb}
 use borrow.Author.Tests.{eqb-true, ltb-false, not-false}
-use Rattle.day.specs.Day.{Day, P, N, flightAt, jump, limit, latest, last_of, last}
-use Rattle.day.specs.Plan.{jumpOrLimit, firstJumpOrLimit}
-use Rattle.day.proofs.Costs.{latest-missing}
+use Rattle.day.specs.Day.{Day, P, N, flight_at, jump, limit, latest, last_of, last}
+use Rattle.day.specs.Plan.{jump_or_limit, first_jump_or_limit}
+use Rattle.day.proofs.Costs.{latest_missing}
 use Rattle.day.proofs.Tests.{none_passes}
 
 -- neither of two tests passes
@@ -20,21 +20,21 @@ neither true b e = (e, after b e)
     after true e = e
     after false e = refl
 
-module _ (d : Day) (applies : firstJumpOrLimit d.flights ≡ N d) (i : ℕ) (l : i < N d) where
+module _ (d : Day) (applies : first_jump_or_limit d.flights ≡ N d) (i : ℕ) (l : i < N d) where
   plain : (ltb 0 (jump d i) ≡ false) × (not (eqb (limit d i) 255) ≡ false)
-  unfolding firstJumpOrLimit jumpOrLimit flightAt
-  plain = neither (ltb 0 (jump d i)) (not (eqb (limit d i) 255)) (none_passes (N d) (λ k. jumpOrLimit (flightAt d.flights k)) applies i l)
+  unfolding first_jump_or_limit jump_or_limit flight_at
+  plain = neither (ltb 0 (jump d i)) (not (eqb (limit d i) 255)) (none_passes (N d) (λ k. jump_or_limit (flight_at d.flights k)) applies i l)
 
   pub no_jump : jump d i ≡ 0
   no_jump = omega (arith, ltb-false 0 (jump d i) plain.0)
 
-  pub no-limit : limit d i ≡ 255
-  no-limit = eqb-true (limit d i) 255 (not-false (eqb (limit d i) 255) plain.1)
+  pub no_limit_lem : limit d i ≡ 255
+  no_limit_lem = eqb-true (limit d i) 255 (not-false (eqb (limit d i) 255) plain.1)
 
   -- so it may land in the closing period
-  pub latest-closing : latest d i ≡ P d + 1
-  latest-closing = latest-missing d i no-limit
+  pub latest_closing : latest d i ≡ P d + 1
+  latest_closing = latest_missing d i no_limit_lem
 
-  pub last-closing : last d i ≡ P d + 1
+  pub last_closing : last d i ≡ P d + 1
   unfolding last_of
-  last-closing = omega (arith, latest-closing)
+  last_closing = omega (arith, latest_closing)

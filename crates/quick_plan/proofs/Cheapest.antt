@@ -12,17 +12,17 @@ use native.Mathlib.Nat.{zero-add, suc-add}
 use lib.Dec.{T, leb, ltb, eqb, leb→le, le→leb}
 use borrow.Author.Tests.{lt-ltb, le-ltb, le-leb, lt-leb, eq-eqb, ne_eqb}
 use Rattle.assignment.specs.Sum.{gate, sum, count}
-use Rattle.assignment.proofs.Tests.{and_T, lt?, eq?}
-use Rattle.assignment.proofs.Sums.{sum-ext, sum-le, sum-add, sum_same, sum-swap, sum-member, count-le}
+use Rattle.assignment.proofs.Tests.{and_t, lt?, eq?}
+use Rattle.assignment.proofs.Sums.{sum_ext, sum_le, sum_add, sum_same, sum_swap, sum_member, count_le}
 use Rattle.day.specs.Day.{Day, unlimited, P, N, due, rate, capacity, cost, hold, land, landings, total_of, total, valid}
-use Rattle.day.specs.Plan.{Legal, HasPlan, Cheapest, firstJumpOrLimit}
-use Rattle.day.proofs.Costs.{takes-in, takes-closing, counted-line, counted-from, cost-plain}
-use Rattle.day.proofs.Valid.{valid-means}
-use Rattle.quick_plan.specs.NextCost.{nextCost}
-use Rattle.quick_plan.specs.Quick.{ahead, eligible, operates, quickBy, leftOver, rates, quick}
+use Rattle.day.specs.Plan.{Legal, HasPlan, Cheapest, first_jump_or_limit}
+use Rattle.day.proofs.Costs.{takes_in, takes_closing, counted_line, counted_from, cost_plain}
+use Rattle.day.proofs.Valid.{valid_means}
+use Rattle.quick_plan.specs.NextCost.{next_cost}
+use Rattle.quick_plan.specs.Quick.{ahead, eligible, operates, quick_by, left_over, rates, quick}
 use Rattle.quick_plan.proofs.Applies.{no_jump}
-use Rattle.quick_plan.proofs.First.{ahead-cost, rest, crowd, crowd-none, Upwards, left_over}
-use Rattle.quick_plan.proofs.Plan.{due-by, end, end-from, end-to, eligible-end, operates-end, quick-land, quick-legal}
+use Rattle.quick_plan.proofs.First.{ahead_cost, rest, crowd, crowd_none, Upwards, left_over_lem}
+use Rattle.quick_plan.proofs.Plan.{due_by_lem, end, end_from, end_to, eligible_end, operates_end, quick_land, quick_legal}
 
 -- ---- sums
 
@@ -56,7 +56,7 @@ layers m r a h = upto m ∙ ap (gate a) (low m h)
 crowds : (d : Day) (costs : ℕ → ℕ) (a b : ℕ → Bool) → ((t : ℕ) → crowd d (λ i. leb t (costs i)) a ≤ crowd d (λ i. leb t (costs i)) b)
     → sum (N d) (λ i. gate (a i) (costs i)) ≤ sum (N d) (λ i. gate (b i) (costs i))
 unfolding crowd
-crowds d costs a b h = omega (arith, by a, by b, sum-le most (reach a) (reach b) (λ t l. h (suc t)))
+crowds d costs a b h = omega (arith, by a, by b, sum_le most (reach a) (reach b) (λ t l. h (suc t)))
   where
     most : ℕ
     most = sum (N d) costs
@@ -65,9 +65,9 @@ crowds d costs a b h = omega (arith, by a, by b, sum-le most (reach a) (reach b)
     reach e t = crowd d (λ i. leb (suc t) (costs i)) e
 
     by : (e : ℕ → Bool) → sum (N d) (λ i. gate (e i) (costs i)) ≡ sum most (reach e)
-    by e = sum-ext (N d) (λ i. gate (e i) (costs i)) (λ i. sum most (λ t. gate (leb (suc t) (costs i) && e i) 1))
-        (λ i l. sym (layers most (costs i) (e i) (sum-member (N d) i costs l)))
-        ∙ sum-swap (N d) most (λ i t. gate (leb (suc t) (costs i) && e i) 1)
+    by e = sum_ext (N d) (λ i. gate (e i) (costs i)) (λ i. sum most (λ t. gate (leb (suc t) (costs i) && e i) 1))
+        (λ i l. sym (layers most (costs i) (e i) (sum_member (N d) i costs l)))
+        ∙ sum_swap (N d) most (λ i t. gate (leb (suc t) (costs i) && e i) 1)
 
 -- the sum of f over the periods from d to before l
 stretch : (m d l : ℕ) (f : ℕ → ℕ) → l ≤ m → sum m (λ j. gate (leb d j && ltb j l) (f j)) ≡ sum (l - d) (λ t. f (d + t))
@@ -134,22 +134,22 @@ depart true d l j = go (leb d (suc j))
     ]
 
 module _ (d : Day) (l : ℕ → ℕ) where
-  crowd-arrive : (u : ℕ → Bool) (j : ℕ) → ((i : ℕ) → i < N d → due d i ≤ l i)
+  crowd_arrive : (u : ℕ → Bool) (j : ℕ) → ((i : ℕ) → i < N d → due d i ≤ l i)
       → crowd d u (waits_in d l j) ≡ crowd d u (waits d l j) + crowd d u (λ i. eqb (due d i) (suc j))
   unfolding crowd
-  crowd-arrive u j h =
-      sum-ext (N d) (λ i. gate (u i && waits_in d l j i) 1) (λ i. gate (u i && waits d l j i) 1 + gate (u i && eqb (due d i) (suc j)) 1)
+  crowd_arrive u j h =
+      sum_ext (N d) (λ i. gate (u i && waits_in d l j i) 1) (λ i. gate (u i && waits d l j i) 1 + gate (u i && eqb (due d i) (suc j)) 1)
       (λ i m. arrive (u i) (due d i) (l i) j (h i m))
-      ∙ sum-add (N d) (λ i. gate (u i && waits d l j i) 1) (λ i. gate (u i && eqb (due d i) (suc j)) 1)
+      ∙ sum_add (N d) (λ i. gate (u i && waits d l j i) 1) (λ i. gate (u i && eqb (due d i) (suc j)) 1)
 
-  crowd-depart : (u : ℕ → Bool) (j : ℕ) → crowd d u (waits_in d l j) ≤ crowd d u (waits d l (suc j)) + count (N d) l (suc j)
+  crowd_depart : (u : ℕ → Bool) (j : ℕ) → crowd d u (waits_in d l j) ≤ crowd d u (waits d l (suc j)) + count (N d) l (suc j)
   unfolding crowd count
-  crowd-depart u j =
+  crowd_depart u j =
       omega (
         arith,
-        sum-le (N d) (λ i. gate (u i && waits_in d l j i) 1) (λ i. gate (u i && waits d l (suc j) i) 1 + gate (eqb (l i) (suc j)) 1)
+        sum_le (N d) (λ i. gate (u i && waits_in d l j i) 1) (λ i. gate (u i && waits d l (suc j) i) 1 + gate (eqb (l i) (suc j)) 1)
             (λ i m. depart (u i) (due d i) (l i) j),
-        sum-add (N d) (λ i. gate (u i && waits d l (suc j) i) 1) (λ i. gate (eqb (l i) (suc j)) 1),
+        sum_add (N d) (λ i. gate (u i && waits d l (suc j) i) 1) (λ i. gate (eqb (l i) (suc j)) 1),
       )
 
 -- ---- what a plan costs
@@ -164,11 +164,11 @@ unfolding sum
 spent d next holds = sum (N d) (λ i. paid d next i (hold holds i))
 
 -- it is, added up by periods, the next costs of those who wait
-waits-sum : (d : Day) (next : ℕ → ℕ → ℕ) (l : ℕ → ℕ) (m : ℕ) → ((i : ℕ) → i < N d → l i ≤ m)
+waits_sum : (d : Day) (next : ℕ → ℕ → ℕ) (l : ℕ → ℕ) (m : ℕ) → ((i : ℕ) → i < N d → l i ≤ m)
     → sum (N d) (λ i. paid d next i (l i - due d i)) ≡ sum m (λ j. sum (N d) (λ i. gate (waits d l j i) (next j i)))
-waits-sum d next l m h =
-    sum-ext (N d) (λ i. paid d next i (l i - due d i)) (λ i. sum m (λ j. gate (waits d l j i) (next j i))) (λ i k. sym (stretch m (due d i) (l i) (λ j. next j i) (h i k)))
-    ∙ sum-swap (N d) m (λ i j. gate (waits d l j i) (next j i))
+waits_sum d next l m h =
+    sum_ext (N d) (λ i. paid d next i (l i - due d i)) (λ i. sum m (λ j. gate (waits d l j i) (next j i))) (λ i k. sym (stretch m (due d i) (l i) (λ j. next j i) (h i k)))
+    ∙ sum_swap (N d) m (λ i j. gate (waits d l j i) (next j i))
 
 -- ---- the quick plan against another
 
@@ -177,21 +177,21 @@ waits-sum d next l m h =
 -- the quick plan has the fewest of them waiting after that period.
 module _ (d : Day) (next : ℕ → ℕ → ℕ) (v : valid d ≡ true) (y : List ℕ) (legal : Legal d y) where
   -- the landings of the quick plan
-  abbrev lands-in : ℕ → ℕ
-  lands-in = end d next v
+  abbrev lands_in : ℕ → ℕ
+  lands_in = end d next v
 
-  module _ (u : ℕ → Bool) (last : ℕ) (in-day : last ≤ P d) (closed : (j : ℕ) → j ≤ last → Upwards d (next j) u (eligible d next j)) where
-    left-next : (j : ℕ) → j < last
-        → crowd d u (waits d lands-in (suc j)) ≤ crowd d u (waits_in d lands-in j) - capacity d (suc j)
+  module _ (u : ℕ → Bool) (last : ℕ) (in_day : last ≤ P d) (closed : (j : ℕ) → j ≤ last → Upwards d (next j) u (eligible d next j)) where
+    left_next : (j : ℕ) → j < last
+        → crowd d u (waits d lands_in (suc j)) ≤ crowd d u (waits_in d lands_in j) - capacity d (suc j)
     unfolding crowd operates
-    left-next j p =
+    left_next j p =
         omega (
           arith,
-          left_over d (next (suc j)) u (capacity d (suc j)) (eligible d next (suc j)) (closed (suc j) p),
-          sum-ext (N d) (λ i. gate (u i && rest d (next (suc j)) (capacity d (suc j)) (eligible d next (suc j)) i) 1) (λ i. gate (u i && waits d lands-in (suc j) i) 1)
+          left_over_lem d (next (suc j)) u (capacity d (suc j)) (eligible d next (suc j)) (closed (suc j) p),
+          sum_ext (N d) (λ i. gate (u i && rest d (next (suc j)) (capacity d (suc j)) (eligible d next (suc j)) i) 1) (λ i. gate (u i && waits d lands_in (suc j) i) 1)
               (λ i l. ap (λ x. gate (u i && x) 1) (still i l)),
-          sum-ext (N d) (λ i. gate (u i && eligible d next (suc j) i) 1) (λ i. gate (u i && waits_in d lands-in j i) 1)
-              (λ i l. ap (λ x. gate (u i && x) 1) (eligible-end d next v j i l (omega arith))),
+          sum_ext (N d) (λ i. gate (u i && eligible d next (suc j) i) 1) (λ i. gate (u i && waits_in d lands_in j i) 1)
+              (λ i l. ap (λ x. gate (u i && x) 1) (eligible_end d next v j i l (omega arith))),
         )
       where
         go : (x : Bool) (e : ℕ) → (x && ltb j e && not (eqb e (suc j))) ≡ (x && ltb (suc j) e)
@@ -204,53 +204,53 @@ module _ (d : Day) (next : ℕ → ℕ → ℕ) (v : valid d ≡ true) (y : List
           ])
         ]
 
-        still : (i : ℕ) → i < N d → rest d (next (suc j)) (capacity d (suc j)) (eligible d next (suc j)) i ≡ waits d lands-in (suc j) i
-        still i l = rw (operates-end d next v j i l (omega arith), eligible-end d next v j i l (omega arith)) (go (leb (due d i) (suc j)) (lands-in i))
+        still : (i : ℕ) → i < N d → rest d (next (suc j)) (capacity d (suc j)) (eligible d next (suc j)) i ≡ waits d lands_in (suc j) i
+        still i l = rw (operates_end d next v j i l (omega arith), eligible_end d next v j i l (omega arith)) (go (leb (due d i) (suc j)) (lands_in i))
 
     -- of them, the quick plan has no more waiting
-    fewer : (j : ℕ) → j ≤ last → crowd d u (waits d lands-in j) ≤ crowd d u (waits d (land d y) j)
-    fewer zero p = omega (arith, crowd-none d u (waits d lands-in 0) (λ i l h s. omega (arith, ((valid-means v).flight i l).due-from, leb→le (due d i) 0 (and_T (leb (due d i) 0) (ltb 0 (lands-in i)) s).0)))
+    fewer : (j : ℕ) → j ≤ last → crowd d u (waits d lands_in j) ≤ crowd d u (waits d (land d y) j)
+    fewer zero p = omega (arith, crowd_none d u (waits d lands_in 0) (λ i l h s. omega (arith, ((valid_means v).flight i l).due_from, leb→le (due d i) 0 (and_t (leb (due d i) 0) (ltb 0 (lands_in i)) s).0)))
     fewer (suc j) p =
         omega (
           arith,
           fewer j (omega arith),
-          left-next j p,
-          crowd-arrive d lands-in u j (end-from d next v),
-          crowd-arrive d (land d y) u j (λ i l. omega arith),
-          crowd-depart d (land d y) u j,
-          legal.room (suc j) (omega arith) (omega (arith, counted-from (P d) d.closing)),
-          takes-in d.capacities d.closing (suc j) (omega arith),
+          left_next j p,
+          crowd_arrive d lands_in u j (end_from d next v),
+          crowd_arrive d (land d y) u j (λ i l. omega arith),
+          crowd_depart d (land d y) u j,
+          legal.room (suc j) (omega arith) (omega (arith, counted_from (P d) d.closing)),
+          takes_in d.capacities d.closing (suc j) (omega arith),
         )
 
   -- everyone is such a set: no legal plan leaves fewer flights for the closing period
-  left-least : leftOver d next ≤ landings d y (P d + 1)
-  unfolding leftOver crowd count
-  left-least =
+  left_least : left_over d next ≤ landings d y (P d + 1)
+  unfolding left_over crowd count
+  left_least =
       omega (
         arith,
         fewer (λ i. true) (P d) (omega arith) (λ j l k i _ _ _ _ _ t. t) (P d) (omega arith),
-        sum-ext (N d) (λ i. gate (eqb (land d (quickBy d next) i) (P d + 1)) 1) (λ i. gate (waits d lands-in (P d) i) 1)
-            (λ i l. rw (quick-land d next v i l) (standing i (lands-in i) l (end-to d next v i l))),
-        sum-ext (N d) (λ i. gate (eqb (land d y i) (P d + 1)) 1) (λ i. gate (waits d (land d y) (P d) i) 1)
+        sum_ext (N d) (λ i. gate (eqb (land d (quick_by d next) i) (P d + 1)) 1) (λ i. gate (waits d lands_in (P d) i) 1)
+            (λ i l. rw (quick_land d next v i l) (standing i (lands_in i) l (end_to d next v i l))),
+        sum_ext (N d) (λ i. gate (eqb (land d y i) (P d + 1)) 1) (λ i. gate (waits d (land d y) (P d) i) 1)
             (λ i l. standing i (land d y i) l (legal.window i l).closing),
       )
     where
       standing : (i k : ℕ) → i < N d → k ≤ P d + 1 → gate (eqb k (P d + 1)) 1 ≡ gate (leb (due d i) (P d) && ltb (P d) k) 1
-      standing i k l to = rw (le-leb (due d i) (P d) ((valid-means v).flight i l).due-to) (elim (eq? k (P d + 1)) [
+      standing i k l to = rw (le-leb (due d i) (P d) ((valid_means v).flight i l).due_to) (elim (eq? k (P d + 1)) [
         | inl e ↦ rw (eq-eqb k (P d + 1) e, lt-ltb (P d) k (omega arith))
         | inr o ↦ rw (ne_eqb k (P d + 1) o, le-ltb (P d) k (omega arith))
       ])
 
   -- so where there is a legal plan the closing period has room for those left
-  pub left-fits : leftOver d next ≤ d.closing
-  left-fits = elim (lt? d.closing unlimited) [
+  pub left_fits : left_over d next ≤ d.closing
+  left_fits = elim (lt? d.closing unlimited) [
     | inl line ↦ omega (
       arith,
-      left-least,
-      legal.room (P d + 1) (omega arith) (omega (arith, counted-line (P d) d.closing line)),
-      takes-closing d.capacities d.closing,
+      left_least,
+      legal.room (P d + 1) (omega arith) (omega (arith, counted_line (P d) d.closing line)),
+      takes_closing d.capacities d.closing,
     )
-    | inr none ↦ omega (arith, left-least, count-le (N d) (land d y) (P d + 1), (valid-means v).flights-to)
+    | inr none ↦ omega (arith, left_least, count_le (N d) (land d y) (P d + 1), (valid_means v).flights_to)
   ]
 
 -- the report's regular costs (section 2.2.1): who goes before whom among flights that are due goes before in the next period too
@@ -263,70 +263,70 @@ Regular d next = (j k i : ℕ) → j < P d → k < N d → i < N d → due d k �
 -- the periods.
 module _ (d : Day) (next : ℕ → ℕ → ℕ) (v : valid d ≡ true) (regular : Regular d next) (y : List ℕ) (legal : Legal d y) where
   -- who goes before whom in period j does so in every later one
-  stays-ahead : (g j k i : ℕ) → g + j ≤ P d → k < N d → i < N d → due d k ≤ j → due d i ≤ j → T (ahead d (next j) k i) → T (ahead d (next (g + j)) k i)
-  stays-ahead zero j k i p l m a b t = rw zero-add t
-  stays-ahead (suc g) j k i p l m a b t =
-      rw suc-add (regular (g + j) k i (omega arith) l m (omega arith) (omega arith) (stays-ahead g j k i (omega arith) l m a b t))
+  stays_ahead : (g j k i : ℕ) → g + j ≤ P d → k < N d → i < N d → due d k ≤ j → due d i ≤ j → T (ahead d (next j) k i) → T (ahead d (next (g + j)) k i)
+  stays_ahead zero j k i p l m a b t = rw zero-add t
+  stays_ahead (suc g) j k i p l m a b t =
+      rw suc-add (regular (g + j) k i (omega arith) l m (omega arith) (omega arith) (stays_ahead g j k i (omega arith) l m a b t))
 
-  module _ (t last : ℕ) (in-day : last ≤ P d) where
+  module _ (t last : ℕ) (in_day : last ≤ P d) where
     -- the flights whose next cost in period `last` is t or more
     high : ℕ → Bool
     high i = leb t (next last i)
 
-    high-upwards : (j : ℕ) → j ≤ last → Upwards d (next j) high (eligible d next j)
+    high_upwards : (j : ℕ) → j ≤ last → Upwards d (next j) high (eligible d next j)
     unfolding high
-    high-upwards j o k i l m s r a h =
+    high_upwards j o k i l m s r a h =
         let all : last - j + j ≡ last = omega arith in
-        let by = due-by d next v j in
-        let later = rw all at (stays-ahead (last - j) j k i (omega arith) l m (by k l s) (by i m r) a) in
-        le→leb t (next last k) (omega (arith, leb→le t (next last i) h, ahead-cost d (next last) k i later))
+        let by = due_by_lem d next v j in
+        let later = rw all at (stays_ahead (last - j) j k i (omega arith) l m (by k l s) (by i m r) a) in
+        le→leb t (next last k) (omega (arith, leb→le t (next last i) h, ahead_cost d (next last) k i later))
 
-    fewer-high : crowd d high (waits d (end d next v) last) ≤ crowd d high (waits d (land d y) last)
-    fewer-high = fewer d next v y legal high last in-day high-upwards last (omega arith)
+    fewer_high : crowd d high (waits d (end d next v) last) ≤ crowd d high (waits d (land d y) last)
+    fewer_high = fewer d next v y legal high last in_day high_upwards last (omega arith)
 
-  spent-is : (h : List ℕ) → spent d next h ≡ sum (N d) (λ i. paid d next i (land d h i - due d i))
+  spent_is : (h : List ℕ) → spent d next h ≡ sum (N d) (λ i. paid d next i (land d h i - due d i))
   unfolding spent
-  spent-is h = sum-ext (N d) (λ i. paid d next i (hold h i)) (λ i. paid d next i (land d h i - due d i)) (λ i l.
+  spent_is h = sum_ext (N d) (λ i. paid d next i (hold h i)) (λ i. paid d next i (land d h i - due d i)) (λ i l.
       let e : hold h i ≡ land d h i - due d i = omega arith in ap (paid d next i) e)
 
-  pub plan-least : spent d next (quickBy d next) ≤ spent d next y
+  pub plan_least : spent d next (quick_by d next) ≤ spent d next y
   unfolding high
-  plan-least =
+  plan_least =
       omega (
         arith,
-        spent-is (quickBy d next),
-        spent-is y,
-        sum-ext (N d) (λ i. paid d next i (land d (quickBy d next) i - due d i)) (λ i. paid d next i (end d next v i - due d i)) (λ i l. ap (λ x. paid d next i (x - due d i)) (quick-land d next v i l)),
-        waits-sum d next (end d next v) (P d + 1) (end-to d next v),
-        waits-sum d next (land d y) (P d + 1) (λ i l. (legal.window i l).closing),
-        sum-le (P d + 1) (λ j. sum (N d) (λ i. gate (waits d (end d next v) j i) (next j i))) (λ j. sum (N d) (λ i. gate (waits d (land d y) j i) (next j i)))
-            (λ j l. crowds d (next j) (waits d (end d next v) j) (waits d (land d y) j) (λ t. fewer-high t j (omega arith))),
+        spent_is (quick_by d next),
+        spent_is y,
+        sum_ext (N d) (λ i. paid d next i (land d (quick_by d next) i - due d i)) (λ i. paid d next i (end d next v i - due d i)) (λ i l. ap (λ x. paid d next i (x - due d i)) (quick_land d next v i l)),
+        waits_sum d next (end d next v) (P d + 1) (end_to d next v),
+        waits_sum d next (land d y) (P d + 1) (λ i l. (legal.window i l).closing),
+        sum_le (P d + 1) (λ j. sum (N d) (λ i. gate (waits d (end d next v) j i) (next j i))) (λ j. sum (N d) (λ i. gate (waits d (land d y) j i) (next j i)))
+            (λ j l. crowds d (next j) (waits d (end d next v) j) (waits d (land d y) j) (λ t. fewer_high t j (omega arith))),
       )
 
 -- ---- document 01's quick plan: the next cost is the rate
 
-rates-regular : (d : Day) → Regular d (rates d)
-unfolding nextCost
-rates-regular d j k i p l m a b t = t
+rates_regular : (d : Day) → Regular d (rates d)
+unfolding next_cost
+rates_regular d j k i p l m a b t = t
 
 -- with no jumps a total is what the flights pay at their rates
-plain-total : (d : Day) → firstJumpOrLimit d.flights ≡ N d → (h : List ℕ) → total d h ≡ spent d (rates d) h
-unfolding total_of spent nextCost
-plain-total d applies h = sum-ext (N d) (λ i. cost d i (hold h i)) (λ i. sum (hold h i) (λ t. rate d i)) (λ i l.
-    cost-plain d i (hold h i) (no_jump d applies i l) ∙ sym (sum_same (hold h i) (rate d i)))
+plain_total : (d : Day) → first_jump_or_limit d.flights ≡ N d → (h : List ℕ) → total d h ≡ spent d (rates d) h
+unfolding total_of spent next_cost
+plain_total d applies h = sum_ext (N d) (λ i. cost d i (hold h i)) (λ i. sum (hold h i) (λ t. rate d i)) (λ i l.
+    cost_plain d i (hold h i) (no_jump d applies i l) ∙ sym (sum_same (hold h i) (rate d i)))
 
 -- where there is a legal plan, the quick plan is legal, and no legal plan costs less
-pub quick-cheapest : (d : Day) → valid d ≡ true → firstJumpOrLimit d.flights ≡ N d → HasPlan d → Cheapest d (quick d)
-quick-cheapest d v applies some = record {
-  legal = quick-legal d (rates d) v applies (left-fits d (rates d) v some.holds some.legal);
+pub quick_cheapest : (d : Day) → valid d ≡ true → first_jump_or_limit d.flights ≡ N d → HasPlan d → Cheapest d (quick d)
+quick_cheapest d v applies some = record {
+  legal = quick_legal d (rates d) v applies (left_fits d (rates d) v some.holds some.legal);
   least = λ y legal. omega (
     arith,
-    plain-total d applies (quick d),
-    plain-total d applies y,
-    plan-least d (rates d) v (rates-regular d) y legal,
+    plain_total d applies (quick d),
+    plain_total d applies y,
+    plan_least d (rates d) v (rates_regular d) y legal,
   );
 }
 
 -- so it costs as much as any other cheapest plan
-pub same_total : (d : Day) → valid d ≡ true → firstJumpOrLimit d.flights ≡ N d → (holds : List ℕ) → Cheapest d holds → total d (quick d) ≡ total d holds
-same_total d v applies holds w = let q = quick-cheapest d v applies (record { holds = holds; legal = w.legal }) in omega (arith, q.least holds w.legal, w.least (quick d) q.legal)
+pub same_total : (d : Day) → valid d ≡ true → first_jump_or_limit d.flights ≡ N d → (holds : List ℕ) → Cheapest d holds → total d (quick d) ≡ total d holds
+same_total d v applies holds w = let q = quick_cheapest d v applies (record { holds = holds; legal = w.legal }) in omega (arith, q.least holds w.legal, w.least (quick d) q.legal)

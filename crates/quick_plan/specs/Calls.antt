@@ -4,37 +4,37 @@ use Rattle.std.specs.Prelude.{Bool, cond, not, List, ℕ, ◌+◌, ◌-◌, leng
 use Rattle.answers.specs.Answers.{Outcome, outcome}
 use Rattle.answers.specs.declared.Answer.TheVariants.{Planned, BadDay, BadLength, JumpOrLimit, NoPlan}
 use Rattle.day.specs.Day.{Day, P, N, valid, total}
-use Rattle.day.specs.Plan.{mustLand, room, first_of, firstJumpOrLimit}
+use Rattle.day.specs.Plan.{must_land, room, first_of, first_jump_or_limit}
 use Rattle.quick_plan.specs.declared.QuickCheck.{QuickCheck}
 use Rattle.quick_plan.specs.declared.QuickCheck.TheVariants.{Applies, Refused}
-use Rattle.quick_plan.specs.Quick.{leftOver, rates, quick}
+use Rattle.quick_plan.specs.Quick.{left_over, rates, quick}
 
 -- what every quick plan tests first: refusals 6, 7 and 8 in this order
-unfoldable pub quickCheck : Day → List ℕ → QuickCheck
-quickCheck d holds =
+unfoldable pub quick_check : Day → List ℕ → QuickCheck
+quick_check d holds =
     cond (not (valid d)) (Refused BadDay)
     (cond (not (eqb (length holds) (N d))) (Refused (BadLength (N d)))
-    (cond (ltb (firstJumpOrLimit d.flights) (N d)) (Refused (JumpOrLimit (firstJumpOrLimit d.flights)))
+    (cond (ltb (first_jump_or_limit d.flights) (N d)) (Refused (JumpOrLimit (first_jump_or_limit d.flights)))
     Applies))
 
 -- a refusal leaves the row as it was
-abbrev pub onQuick : QuickCheck → List ℕ → Outcome → Outcome
-onQuick Applies holds plan = plan
-onQuick (Refused answer) holds plan = outcome answer holds
+abbrev pub on_quick : QuickCheck → List ℕ → Outcome → Outcome
+on_quick Applies holds plan = plan
+on_quick (Refused answer) holds plan = outcome answer holds
 
 -- of the short stretches that end in period b "the largest first period", or 0 where there are none
-unfoldable pub shortFrom : Day → ℕ → ℕ
-shortFrom d b = b - first_of b (λ k. ltb (room d (b - k) b) (mustLand d (b - k) b))
+unfoldable pub short_from : Day → ℕ → ℕ
+short_from d b = b - first_of b (λ k. ltb (room d (b - k) b) (must_land d (b - k) b))
 
 -- "more flights are left than c" (#108)
-abbrev pub moreLeft : Day → (next : ℕ → ℕ → ℕ) → Bool
-moreLeft d next = ltb d.closing (leftOver d next)
+abbrev pub more_left : Day → (next : ℕ → ℕ → ℕ) → Bool
+more_left d next = ltb d.closing (left_over d next)
 
 -- "The quick plans, old and growing, now answer 9" then, and leave the row as it was; on a day without limits a short stretch ends in the
 -- closing period
-abbrev pub ifRoom : Day → (next : ℕ → ℕ → ℕ) → List ℕ → Outcome → Outcome
-ifRoom d next holds plan = cond (moreLeft d next) (outcome (NoPlan (shortFrom d (P d + 1)) (P d + 1)) holds) plan
+abbrev pub if_room : Day → (next : ℕ → ℕ → ℕ) → List ℕ → Outcome → Outcome
+if_room d next holds plan = cond (more_left d next) (outcome (NoPlan (short_from d (P d + 1)) (P d + 1)) holds) plan
 
 -- the quick plan, and its total
-unfoldable pub quickPlan : Day → List ℕ → Outcome
-quickPlan d holds = onQuick (quickCheck d holds) holds (ifRoom d (rates d) holds (outcome (Planned (total d (quick d))) (quick d)))
+unfoldable pub quick_plan : Day → List ℕ → Outcome
+quick_plan d holds = on_quick (quick_check d holds) holds (if_room d (rates d) holds (outcome (Planned (total d (quick d))) (quick d)))

@@ -5,9 +5,9 @@
 use Rattle.std.specs.Prelude.{Bool, false, cond, not, ◌&&◌, ◌||◌, List, ℕ, zero, suc, ◌+◌, ◌-◌, ltb, eqb}
 use Rattle.assignment.specs.Sum.{gate, sum}
 use Rattle.assignment.specs.Rows.{row}
-use Rattle.day.specs.Day.{Day, P, N, dueOf, due, capacity, landings}
+use Rattle.day.specs.Day.{Day, P, N, due_of, due, capacity, landings}
 use Rattle.quick_plan.specs.declared.NextCost.TheVariants.{Rate}
-use Rattle.quick_plan.specs.NextCost.{nextCost}
+use Rattle.quick_plan.specs.NextCost.{next_cost}
 
 -- a is less than b, or they are equal and the next test decides
 abbrev pub less : ℕ → ℕ → Bool → Bool
@@ -16,7 +16,7 @@ less a b next = ltb a b || eqb a b && next
 -- with these next costs, flight k goes before flight i: its own is higher; "Ties: earlier due, then lower table place." Of flights that
 -- wait, the one that is due earlier is the one "held longest" (#105).
 unfoldable pub before : (flights : List ℕ) (costK costI k i : ℕ) → Bool
-before flights costK costI k i = less costI costK (less (dueOf flights k) (dueOf flights i) (ltb k i))
+before flights costK costI k i = less costI costK (less (due_of flights k) (due_of flights i) (ltb k i))
 
 -- the same where `costs` has the next cost of every flight in the period
 unfoldable pub ahead_of : (flights : List ℕ) (costs : ℕ → ℕ) → ℕ → ℕ → Bool
@@ -26,13 +26,13 @@ abbrev pub ahead : Day → (ℕ → ℕ) → ℕ → ℕ → Bool
 ahead d = ahead_of d.flights
 
 -- how many flights of a set go before flight i
-unfoldable pub goingBefore : Day → (ℕ → ℕ) → (ℕ → Bool) → ℕ → ℕ
-goingBefore d costs set i = sum (N d) (λ k. gate (set k && ahead d costs k i) 1)
+unfoldable pub going_before : Day → (ℕ → ℕ) → (ℕ → Bool) → ℕ → ℕ
+going_before d costs set i = sum (N d) (λ k. gate (set k && ahead d costs k i) 1)
 
 -- flight i is one of the m flights of a set that go first: "The capacity's number of highest rates land, or all if fewer.", and with #105
 -- "the highest next costs"
 unfoldable pub highest : Day → (ℕ → ℕ) → ℕ → (ℕ → Bool) → ℕ → Bool
-highest d costs m set i = set i && ltb (goingBefore d costs set i) m
+highest d costs m set i = set i && ltb (going_before d costs set i) m
 
 -- below, `next` has what one more period of hold costs, at the period and the table place
 
@@ -52,16 +52,16 @@ lands d next zero i = P d + 1
 lands d next (suc j) i = cond (operates d next (suc j) i) (suc j) (lands d next j i)
 
 -- the holds, in table order
-unfoldable pub quickBy : Day → (next : ℕ → ℕ → ℕ) → List ℕ
-quickBy d next = row (N d) (λ i. lands d next (P d) i - due d i)
+unfoldable pub quick_by : Day → (next : ℕ → ℕ → ℕ) → List ℕ
+quick_by d next = row (N d) (λ i. lands d next (P d) i - due d i)
 
 -- "Those left land in P+1.": how many they are
-unfoldable pub leftOver : Day → (next : ℕ → ℕ → ℕ) → ℕ
-leftOver d next = landings d (quickBy d next) (P d + 1)
+unfoldable pub left_over : Day → (next : ℕ → ℕ → ℕ) → ℕ
+left_over d next = landings d (quick_by d next) (P d + 1)
 
 -- document 01's quick plan: "The capacity's number of highest rates land"
 abbrev pub rates : Day → ℕ → ℕ → ℕ
-rates d = nextCost Rate d.flights
+rates d = next_cost Rate d.flights
 
 abbrev pub quick : Day → List ℕ
-quick d = quickBy d (rates d)
+quick d = quick_by d (rates d)

@@ -2,13 +2,13 @@
 // would cost most. A hold row starts with every flight at the closing period, so that a flight that stands there has yet to land.
 ghost use Rattle.std.specs.Prelude.{◌≡◌, true, ◌+◌, ◌*◌, ◌<◌, ◌≤◌, length};
 ghost use Rattle.assignment.specs.Rows.{row};
-ghost use Rattle.day.specs.Day.{lent, N, mostPeriods, width, capacity, valid};
-ghost use Rattle.day.specs.Plan.{jumpOrLimit, firstJumpOrLimit};
+ghost use Rattle.day.specs.Day.{lent, N, most_periods, width, capacity, valid};
+ghost use Rattle.day.specs.Plan.{jump_or_limit, first_jump_or_limit};
 ghost use Rattle.growth.specs.Growth.{HoldsFactors};
-ghost use Rattle.quick_plan.specs.NextCost.{nextCost, fits};
+ghost use Rattle.quick_plan.specs.NextCost.{next_cost, fits};
 ghost use Rattle.quick_plan.specs.Quick.{before};
-ghost use Rattle.quick_plan.specs.Loop.{lentRows, DueBy, atClosing, waiting, top, landAll, rowTo};
-ghost use Rattle.quick_plan.specs.Calls.{quickCheck, quickPlan};
+ghost use Rattle.quick_plan.specs.Loop.{lent_rows, DueBy, at_closing, waiting, top, land_all, row_to};
+ghost use Rattle.quick_plan.specs.Calls.{quick_check, quick_plan};
 
 use answers::Answer;
 use day::{Flight, MISSING, due_of, flight_at, flight_count, is_valid, of_period, rate_of, wide};
@@ -33,7 +33,7 @@ pub enum QuickCheck {
 // What one more period of hold costs flight i in period j.
 fn next_cost(next: NextCost, factors: &FactorTable, flights: &[u32], j: usize, i: usize) -> usize
     requires { HoldsFactors factors.now × (fits next j ≡ true) × DueBy flights.now j i }
-    ensures { result ≡ nextCost next flights.now j i }
+    ensures { result ≡ next_cost next flights.now j i }
 {
     let rate = rate_of(flights, i);
     match next {
@@ -62,8 +62,8 @@ fn goes_before(flights: &[u32], cost: usize, other: usize, k: usize, i: usize) -
 
 // Flight i is due by period j, and stands at the closing period yet.
 pub fn is_waiting(capacities: &[u32], flights: &[u32], holds: &[u32], j: usize, i: usize) -> bool
-    requires { ((i + 1) * width ≤ length flights.now) × (i < length holds.now) × (length capacities.now ≤ mostPeriods) }
-    ensures { result ≡ waiting (lentRows capacities.entry flights.entry) holds.now j i }
+    requires { ((i + 1) * width ≤ length flights.now) × (i < length holds.now) × (length capacities.now ≤ most_periods) }
+    ensures { result ≡ waiting (lent_rows capacities.entry flights.entry) holds.now j i }
 {
     let due = due_of(flights, i);
     if j < due {
@@ -82,8 +82,8 @@ fn first_waiting(
     holds: &[u32],
     j: usize,
 ) -> usize
-    requires { (valid (lentRows capacities flights) ≡ true) × (length holds.now ≡ N (lentRows capacities flights)) × HoldsFactors factors.now × (fits next j ≡ true) }
-    ensures { result ≡ top (lentRows capacities.entry flights.entry) (nextCost next flights.now j) j holds.now }
+    requires { (valid (lent_rows capacities flights) ≡ true) × (length holds.now ≡ N (lent_rows capacities flights)) × HoldsFactors factors.now × (fits next j ≡ true) }
+    ensures { result ≡ top (lent_rows capacities.entry flights.entry) (next_cost next flights.now j) j holds.now }
 {
     let n = holds.len();
     let mut best = n;
@@ -112,8 +112,8 @@ fn land_period(
     holds: &mut [u32],
     j: usize,
 )
-    requires { (valid (lentRows capacities flights) ≡ true) × (length holds.old ≡ N (lentRows capacities flights)) × HoldsFactors factors.now × (fits next j ≡ true) × (j ≤ length capacities.now) }
-    ensures { holds.new ≡ landAll (lentRows capacities.entry flights.entry) (nextCost next flights.now j) j (capacity (lentRows capacities.entry flights.entry) j) holds.old }
+    requires { (valid (lent_rows capacities flights) ≡ true) × (length holds.old ≡ N (lent_rows capacities flights)) × HoldsFactors factors.now × (fits next j ≡ true) × (j ≤ length capacities.now) }
+    ensures { holds.new ≡ land_all (lent_rows capacities.entry flights.entry) (next_cost next flights.now j) j (capacity (lent_rows capacities.entry flights.entry) j) holds.old }
 {
     let n = holds.len();
     let mut left = of_period(capacities, j);
@@ -130,8 +130,8 @@ fn land_period(
 
 // Every flight at the closing period.
 fn start_row(capacities: &[u32], flights: &[u32], holds: &mut [u32])
-    requires { (valid (lentRows capacities flights) ≡ true) × (length holds.old ≡ N (lentRows capacities flights)) }
-    ensures { holds.new ≡ row (N (lentRows capacities.entry flights.entry)) (atClosing (lentRows capacities.entry flights.entry)) }
+    requires { (valid (lent_rows capacities flights) ≡ true) × (length holds.old ≡ N (lent_rows capacities flights)) }
+    ensures { holds.new ≡ row (N (lent_rows capacities.entry flights.entry)) (at_closing (lent_rows capacities.entry flights.entry)) }
 {
     let mut i = 0;
     while i < holds.len() {
@@ -143,9 +143,9 @@ fn start_row(capacities: &[u32], flights: &[u32], holds: &mut [u32])
 
 // The row after the periods 1 to stop.
 pub fn plan_to(next: NextCost, capacities: &[u32], flights: &[u32], holds: &mut [u32], stop: usize)
-    requires flights_value { (valid (lentRows capacities flights) ≡ true) × (length holds.old ≡ N (lentRows capacities flights)) }
+    requires flights_value { (valid (lent_rows capacities flights) ≡ true) × (length holds.old ≡ N (lent_rows capacities flights)) }
     requires capacities_value { (fits next (length capacities.now) ≡ true) × (stop ≤ length capacities.now) }
-    ensures { holds.new ≡ rowTo (lentRows capacities.entry flights.entry) (nextCost next flights.now) stop }
+    ensures { holds.new ≡ row_to (lent_rows capacities.entry flights.entry) (next_cost next flights.now) stop }
 {
     let factors = factor_table();
     start_row(capacities, flights, holds);
@@ -158,14 +158,14 @@ pub fn plan_to(next: NextCost, capacities: &[u32], flights: &[u32], holds: &mut 
 
 // What the quick plan refuses.
 fn has_jump_or_limit(f: Flight) -> bool
-    ensures { result ≡ jumpOrLimit f }
+    ensures { result ≡ jump_or_limit f }
 {
     0 < f.jump || f.limit != MISSING
 }
 
 // The table place of the first flight with a jump or a limit, or the number of flights.
 pub fn first_jump_or_limit(flights: &[u32]) -> usize
-    ensures { result ≡ firstJumpOrLimit flights.now }
+    ensures { result ≡ first_jump_or_limit flights.now }
 {
     let n = flight_count(flights);
     let mut i = 0;
@@ -181,7 +181,7 @@ pub fn first_jump_or_limit(flights: &[u32]) -> usize
 // What every quick plan tests first. Refusals, in this order: 6, a bad day; 7, a row that has not one entry for each flight; 8, the first
 // flight with a jump or a limit.
 pub fn check_quick(capacities: &[u32], flights: &[u32], closing: u32, holds: &[u32]) -> QuickCheck
-    ensures { result ≡ quickCheck (lent capacities.entry flights.entry closing) holds.now }
+    ensures { result ≡ quick_check (lent capacities.entry flights.entry closing) holds.now }
 {
     if !is_valid(capacities, flights, closing) {
         return QuickCheck::Refused(Answer::BadDay);
@@ -200,8 +200,8 @@ pub fn check_quick(capacities: &[u32], flights: &[u32], closing: u32, holds: &[u
 // Fills the hold row with the quick plan and answers its total; or refuses, and leaves the row as it was. The plan leaves more flights than
 // the closing period takes exactly where a stretch is short: then 9 is answered before anything is stored.
 pub fn quick_plan(capacities: &[u32], flights: &[u32], closing: u32, holds: &mut [u32]) -> Answer
-    ensures value { result ≡ (quickPlan (lent capacities.entry flights.entry closing) holds.old).answer }
-    ensures holds_after { holds.new ≡ (quickPlan (lent capacities.entry flights.entry closing) holds.old).holds }
+    ensures value { result ≡ (quick_plan (lent capacities.entry flights.entry closing) holds.old).answer }
+    ensures holds_after { holds.new ≡ (quick_plan (lent capacities.entry flights.entry closing) holds.old).holds }
 {
     let found = check_quick(capacities, flights, closing, holds);
     if let QuickCheck::Refused(refusal) = found {

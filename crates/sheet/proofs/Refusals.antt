@@ -10,14 +10,14 @@ use Rattle.text.specs.Fixed.{starts_with}
 use Rattle.text.specs.declared.Number.{Number}
 use Rattle.text.specs.declared.Number.TheVariants.{Value, Bad}
 use Rattle.day.specs.declared.Flight.{Flight}
-use Rattle.day.specs.Day.{unlimited, mostPeriods, mostFlights, flightFits}
+use Rattle.day.specs.Day.{unlimited, most_periods, most_flights, flight_fits}
 use Rattle.sheet.specs.declared.PeriodLine.{PeriodLine}
 use Rattle.sheet.specs.declared.PeriodLine.TheVariants.{Period, NoPeriod}
 use Rattle.sheet.specs.declared.FlightLine.{FlightLine}
 use Rattle.sheet.specs.declared.FlightLine.TheVariants.{Row, NoRow}
-use Rattle.sheet.specs.Text.{periodNames, flightNames, closingName}
-use Rattle.sheet.specs.Lines.{periodLine, closingLine, flightLine, used}
-use Rattle.sheet.specs.Sheet.{Reading, read, refused, onFlight, readFlights, named, onClosing, endsPeriods, periodsEnd, onPeriod, readPeriods, readSheet}
+use Rattle.sheet.specs.Text.{period_names, flight_names, closing_name}
+use Rattle.sheet.specs.Lines.{period_line, closing_line, flight_line, used}
+use Rattle.sheet.specs.Sheet.{Reading, read, refused, on_flight, read_flights, named, on_closing, ends_periods, periods_end, on_period, read_periods, read_sheet}
 
 -- a reading's refusal, if it is one, has a number above 0
 abbrev pub Numbered : Reading → Type 0
@@ -28,50 +28,50 @@ either : (b : Bool) (x y : Reading) → Numbered x → Numbered y → Numbered (
 either true x y p q = p
 either false x y p q = q
 
-on-flight : (at : ℕ) (capacities : List ℕ) (above : List Flight) (l : FlightLine) (go : Flight → ℕ → Reading)
-    → ((f : Flight) (next : ℕ) → Numbered (go f next)) → Numbered (onFlight at capacities above l go)
-on-flight at capacities above NoRow go p = lit< tt
-on-flight at capacities above (Row f next) go p =
-    either (flightFits (length capacities) f) _ _ (either (used f.number above) _ _ (lit< tt) (p f next)) (lit< tt)
+on_flight_lem : (at : ℕ) (capacities : List ℕ) (above : List Flight) (l : FlightLine) (go : Flight → ℕ → Reading)
+    → ((f : Flight) (next : ℕ) → Numbered (go f next)) → Numbered (on_flight at capacities above l go)
+on_flight_lem at capacities above NoRow go p = lit< tt
+on_flight_lem at capacities above (Row f next) go p =
+    either (flight_fits (length capacities) f) _ _ (either (used f.number above) _ _ (lit< tt) (p f next)) (lit< tt)
 
-flights-numbered : (k : ℕ) (s : List ℕ) (at : ℕ) (capacities : List ℕ) (closing : ℕ) (above : List Flight)
-    → Numbered (readFlights k s at capacities closing above)
-unfolding readFlights
-flights-numbered zero s at capacities closing above = either (eqb at (length s)) _ _ tt (lit< tt)
-flights-numbered (suc k) s at capacities closing above =
+flights_numbered : (k : ℕ) (s : List ℕ) (at : ℕ) (capacities : List ℕ) (closing : ℕ) (above : List Flight)
+    → Numbered (read_flights k s at capacities closing above)
+unfolding read_flights
+flights_numbered zero s at capacities closing above = either (eqb at (length s)) _ _ tt (lit< tt)
+flights_numbered (suc k) s at capacities closing above =
     either (eqb at (length s)) _ _ tt
-    (on-flight at capacities above (flightLine s at) _ (λ f next. flights-numbered k s next capacities closing (above ++ (f ∷ []))))
+    (on_flight_lem at capacities above (flight_line s at) _ (λ f next. flights_numbered k s next capacities closing (above ++ (f ∷ []))))
 
-named-numbered : (s : List ℕ) (at : ℕ) (capacities : List ℕ) (closing : ℕ) → Numbered (named s at capacities closing)
+named_numbered : (s : List ℕ) (at : ℕ) (capacities : List ℕ) (closing : ℕ) → Numbered (named s at capacities closing)
 unfolding named
-named-numbered s at capacities closing =
-    either (starts_with (drop at s) flightNames) _ _ (flights-numbered mostFlights s (at + length flightNames) capacities closing []) (lit< tt)
+named_numbered s at capacities closing =
+    either (starts_with (drop at s) flight_names) _ _ (flights_numbered most_flights s (at + length flight_names) capacities closing []) (lit< tt)
 
-on-closing : (at : ℕ) (l : Number) (go : ℕ → ℕ → Reading) → ((c next : ℕ) → Numbered (go c next)) → Numbered (onClosing at l go)
-on-closing at Bad go p = lit< tt
-on-closing at (Value c next) go p = either (leb c 255) _ _ (p c next) (lit< tt)
+on_closing_lem : (at : ℕ) (l : Number) (go : ℕ → ℕ → Reading) → ((c next : ℕ) → Numbered (go c next)) → Numbered (on_closing at l go)
+on_closing_lem at Bad go p = lit< tt
+on_closing_lem at (Value c next) go p = either (leb c 255) _ _ (p c next) (lit< tt)
 
-end-numbered : (s : List ℕ) (at : ℕ) (capacities : List ℕ) → Numbered (periodsEnd s at capacities)
-unfolding periodsEnd
-end-numbered s at capacities =
+end_numbered : (s : List ℕ) (at : ℕ) (capacities : List ℕ) → Numbered (periods_end s at capacities)
+unfolding periods_end
+end_numbered s at capacities =
     either (eqb (length capacities) 0) _ _ (lit< tt)
-    (either (starts_with (drop at s) closingName) _ _ (on-closing at (closingLine s at) _ (λ c next. named-numbered s next capacities c)) (named-numbered s at capacities unlimited))
+    (either (starts_with (drop at s) closing_name) _ _ (on_closing_lem at (closing_line s at) _ (λ c next. named_numbered s next capacities c)) (named_numbered s at capacities unlimited))
 
-on-period : (at : ℕ) (above : List ℕ) (l : PeriodLine) (go : ℕ → ℕ → Reading)
-    → ((c next : ℕ) → Numbered (go c next)) → Numbered (onPeriod at above l go)
-on-period at above NoPeriod go p = lit< tt
-on-period at above (Period j c next) go p = either (eqb j (length above + 1) && leb c 255) _ _ (p c next) (lit< tt)
+on_period_lem : (at : ℕ) (above : List ℕ) (l : PeriodLine) (go : ℕ → ℕ → Reading)
+    → ((c next : ℕ) → Numbered (go c next)) → Numbered (on_period at above l go)
+on_period_lem at above NoPeriod go p = lit< tt
+on_period_lem at above (Period j c next) go p = either (eqb j (length above + 1) && leb c 255) _ _ (p c next) (lit< tt)
 
-periods-numbered : (k : ℕ) (s : List ℕ) (at : ℕ) (above : List ℕ) → Numbered (readPeriods k s at above)
-unfolding readPeriods
-periods-numbered zero s at above =
-    either (endsPeriods s at) _ _ (end-numbered s at above) (either (eqb at (length s)) _ _ (lit< tt) (lit< tt))
-periods-numbered (suc k) s at above =
-    either (endsPeriods s at) _ _ (end-numbered s at above)
-    (on-period at above (periodLine s at) _ (λ c next. periods-numbered k s next (above ++ (c ∷ []))))
+periods_numbered : (k : ℕ) (s : List ℕ) (at : ℕ) (above : List ℕ) → Numbered (read_periods k s at above)
+unfolding read_periods
+periods_numbered zero s at above =
+    either (ends_periods s at) _ _ (end_numbered s at above) (either (eqb at (length s)) _ _ (lit< tt) (lit< tt))
+periods_numbered (suc k) s at above =
+    either (ends_periods s at) _ _ (end_numbered s at above)
+    (on_period_lem at above (period_line s at) _ (λ c next. periods_numbered k s next (above ++ (c ∷ []))))
 
-pub sheet-numbered : (s : List ℕ) → Numbered (readSheet s)
-unfolding readSheet
-sheet-numbered s =
+pub sheet_numbered : (s : List ℕ) → Numbered (read_sheet s)
+unfolding read_sheet
+sheet_numbered s =
     either (ltb 8192 (length s)) _ _ (lit< tt)
-    (either (starts_with s periodNames) _ _ (periods-numbered mostPeriods s (length periodNames) []) (lit< tt))
+    (either (starts_with s period_names) _ _ (periods_numbered most_periods s (length period_names) []) (lit< tt))

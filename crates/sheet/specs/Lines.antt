@@ -1,50 +1,50 @@
 -- One line read at a place: its values and where the next line begins, or that it has not the line's form.
 -- Assumes nothing.
 use Rattle.std.specs.Prelude.{ℕ, ◌+◌, List, [], ◌∷◌, Bool, false, cond, ◌||◌, leb, eqb, length, get_or}
-use Rattle.text.specs.Digits.{comma, lineEnd}
-use Rattle.text.specs.Reading.{field, Numbers, whole, upto, separatedAt, Line, values, noLine, line_at}
+use Rattle.text.specs.Digits.{comma, line_end}
+use Rattle.text.specs.Reading.{field, Numbers, whole, upto, separated_at, Line, values, no_line, line_at}
 use Rattle.text.specs.declared.Number.{Number}
 use Rattle.text.specs.declared.Number.TheVariants.{Value, Bad}
 use Rattle.day.specs.declared.Flight.{Flight}
-use Rattle.sheet.specs.Text.{closingName}
+use Rattle.sheet.specs.Text.{closing_name}
 use Rattle.sheet.specs.declared.PeriodLine.{PeriodLine}
 use Rattle.sheet.specs.declared.PeriodLine.TheVariants.{Period, NoPeriod}
 use Rattle.sheet.specs.declared.FlightLine.{FlightLine}
 use Rattle.sheet.specs.declared.FlightLine.TheVariants.{Row, NoRow}
 
 -- "Numbers are base ten, 1 to 7 digits"
-abbrev pub mostDigits : ℕ
-mostDigits = 7
+abbrev pub most_digits : ℕ
+most_digits = 7
 
-abbrev pub periodOf : Line → PeriodLine
-periodOf (values numbers capacity next) = Period (get_or numbers 0 0) capacity next
-periodOf noLine = NoPeriod
+abbrev pub period_of : Line → PeriodLine
+period_of (values numbers capacity next) = Period (get_or numbers 0 0) capacity next
+period_of no_line = NoPeriod
 
 -- a period line: its number, its capacity and the place behind it
-unfoldable pub periodLine : List ℕ → ℕ → PeriodLine
-periodLine s at = periodOf (line_at 1 mostDigits s at)
+unfoldable pub period_line : List ℕ → ℕ → PeriodLine
+period_line s at = period_of (line_at 1 most_digits s at)
 
 -- a line that begins "closing,": the number behind that and the place behind the line, or `Bad` where the line is not of the form
 -- `closing,c` (#108)
-unfoldable pub closingLine : List ℕ → ℕ → Number
-closingLine s at = field mostDigits lineEnd s (at + length closingName)
+unfoldable pub closing_line : List ℕ → ℕ → Number
+closing_line s at = field most_digits line_end s (at + length closing_name)
 
 -- a written limit as it is in memory: 256, which is in no range, for one above 96, since 255 in memory means missing
-unfoldable pub limitRead : ℕ → ℕ
-limitRead n = cond (leb n 96) n 256
+unfoldable pub limit_read : ℕ → ℕ
+limit_read n = cond (leb n 96) n 256
 
-abbrev pub withLimit : Number → Number
-withLimit (Value n next) = Value (limitRead n) next
-withLimit Bad = Bad
+abbrev pub with_limit : Number → Number
+with_limit (Value n next) = Value (limit_read n) next
+with_limit Bad = Bad
 
 -- the limit's field: "A missing limit is the single byte `-`" (45), else a number
-unfoldable pub limitField : List ℕ → ℕ → Number
-limitField s at =
-    cond (eqb (get_or s at 0) 45) (cond (eqb (get_or s (at + 1) 0) comma) (Value 255 (at + 2)) Bad) (withLimit (field mostDigits comma s at))
+unfoldable pub limit_field : List ℕ → ℕ → Number
+limit_field s at =
+    cond (eqb (get_or s at 0) 45) (cond (eqb (get_or s (at + 1) 0) comma) (Value 255 (at + 2)) Bad) (with_limit (field most_digits comma s at))
 
 -- the flight of the five numbers before the limit, the limit and the late
-abbrev pub flightWith : List ℕ → ℕ → ℕ → Flight
-flightWith numbers limit late = record {
+abbrev pub flight_with : List ℕ → ℕ → ℕ → Flight
+flight_with numbers limit late = record {
   number = get_or numbers 0 0;
   due = get_or numbers 1 0;
   rate = get_or numbers 2 0;
@@ -54,21 +54,21 @@ flightWith numbers limit late = record {
   late = late;
 }
 
-abbrev pub rowWith : List ℕ → ℕ → Number → FlightLine
-rowWith numbers limit (Value late next) = Row (flightWith numbers limit late) next
-rowWith numbers limit Bad = NoRow
+abbrev pub row_with : List ℕ → ℕ → Number → FlightLine
+row_with numbers limit (Value late next) = Row (flight_with numbers limit late) next
+row_with numbers limit Bad = NoRow
 
-abbrev pub thenLate : List ℕ → Number → (ℕ → Number) → FlightLine
-thenLate numbers (Value limit next) late = rowWith numbers limit (late next)
-thenLate numbers Bad late = NoRow
+abbrev pub then_late : List ℕ → Number → (ℕ → Number) → FlightLine
+then_late numbers (Value limit next) late = row_with numbers limit (late next)
+then_late numbers Bad late = NoRow
 
-abbrev pub thenLimit : Numbers → (limit late : ℕ → Number) → FlightLine
-thenLimit (whole numbers next) limit late = thenLate numbers (limit next) late
-thenLimit (upto numbers) limit late = NoRow
+abbrev pub then_limit : Numbers → (limit late : ℕ → Number) → FlightLine
+then_limit (whole numbers next) limit late = then_late numbers (limit next) late
+then_limit (upto numbers) limit late = NoRow
 
 -- a flight line: its flight and the place behind it
-unfoldable pub flightLine : List ℕ → ℕ → FlightLine
-flightLine s at = thenLimit (separatedAt 5 mostDigits s at) (limitField s) (field mostDigits lineEnd s)
+unfoldable pub flight_line : List ℕ → ℕ → FlightLine
+flight_line s at = then_limit (separated_at 5 most_digits s at) (limit_field s) (field most_digits line_end s)
 
 -- "flight number used above"
 unfoldable pub used : ℕ → List Flight → Bool

@@ -8,14 +8,14 @@ use Rattle.text.specs.Fixed.{starts_with}
 use Rattle.text.specs.declared.Number.{Number}
 use Rattle.text.specs.declared.Number.TheVariants.{Value, Bad}
 use Rattle.day.specs.declared.Flight.{Flight}
-use Rattle.day.specs.Day.{unlimited, mostPeriods, mostFlights, width, flightFits}
+use Rattle.day.specs.Day.{unlimited, most_periods, most_flights, width, flight_fits}
 use Rattle.day.specs.Flights.{row_of}
 use Rattle.sheet.specs.declared.PeriodLine.{PeriodLine}
 use Rattle.sheet.specs.declared.PeriodLine.TheVariants.{Period, NoPeriod}
 use Rattle.sheet.specs.declared.FlightLine.{FlightLine}
 use Rattle.sheet.specs.declared.FlightLine.TheVariants.{Row, NoRow}
-use Rattle.sheet.specs.Text.{periodNames, flightNames, closingName}
-use Rattle.sheet.specs.Lines.{periodLine, closingLine, flightLine, used}
+use Rattle.sheet.specs.Text.{period_names, flight_names, closing_name}
+use Rattle.sheet.specs.Lines.{period_line, closing_line, flight_line, used}
 
 -- the day's capacities, its flights and its closing number, or why there is no day
 pub data Reading : Type 0 where
@@ -23,63 +23,63 @@ pub data Reading : Type 0 where
   refused : Answer → Reading
 
 -- a flight line that begins at `at`: 2, 3 and 4, else what follows it
-abbrev pub onFlight : ℕ → List ℕ → List Flight → FlightLine → (Flight → ℕ → Reading) → Reading
-onFlight at capacities above NoRow go = refused (BadForm at)
-onFlight at capacities above (Row f next) go =
-    cond (flightFits (length capacities) f) (cond (used f.number above) (refused (NumberUsed at)) (go f next)) (refused (OutOfRange at))
+abbrev pub on_flight : ℕ → List ℕ → List Flight → FlightLine → (Flight → ℕ → Reading) → Reading
+on_flight at capacities above NoRow go = refused (BadForm at)
+on_flight at capacities above (Row f next) go =
+    cond (flight_fits (length capacities) f) (cond (used f.number above) (refused (NumberUsed at)) (go f next)) (refused (OutOfRange at))
 
 -- at most k more flight lines, after the flights above; 5 "where anything follows 128 flight lines"
-unfoldable pub readFlights : ℕ → List ℕ → ℕ → List ℕ → ℕ → List Flight → Reading
-readFlights zero s at capacities closing above = cond (eqb at (length s)) (read capacities above closing) (refused (BadCount at))
-readFlights (suc k) s at capacities closing above =
+unfoldable pub read_flights : ℕ → List ℕ → ℕ → List ℕ → ℕ → List Flight → Reading
+read_flights zero s at capacities closing above = cond (eqb at (length s)) (read capacities above closing) (refused (BadCount at))
+read_flights (suc k) s at capacities closing above =
     cond (eqb at (length s)) (read capacities above closing)
-    (onFlight at capacities above (flightLine s at) (λ f next. readFlights k s next capacities closing (above ++ (f ∷ []))))
+    (on_flight at capacities above (flight_line s at) (λ f next. read_flights k s next capacities closing (above ++ (f ∷ []))))
 
 -- only the second names line may stand at `at`, "else 2"; the flight lines follow it
 unfoldable pub named : List ℕ → ℕ → List ℕ → ℕ → Reading
 named s at capacities closing =
-    cond (starts_with (drop at s) flightNames) (readFlights mostFlights s (at + length flightNames) capacities closing []) (refused (BadForm at))
+    cond (starts_with (drop at s) flight_names) (read_flights most_flights s (at + length flight_names) capacities closing []) (refused (BadForm at))
 
 -- a closing line that begins at `at`: 2 and 3, else what follows it
-abbrev pub onClosing : ℕ → Number → (ℕ → ℕ → Reading) → Reading
-onClosing at Bad go = refused (BadForm at)
-onClosing at (Value c next) go = cond (leb c 255) (go c next) (refused (OutOfRange at))
+abbrev pub on_closing : ℕ → Number → (ℕ → ℕ → Reading) → Reading
+on_closing at Bad go = refused (BadForm at)
+on_closing at (Value c next) go = cond (leb c 255) (go c next) (refused (OutOfRange at))
 
 -- "The second names line ends the period lines.", and so does "any line beginning `closing,`" between the two names lines (#108)
-unfoldable pub endsPeriods : List ℕ → ℕ → Bool
-endsPeriods s at = starts_with (drop at s) flightNames || starts_with (drop at s) closingName
+unfoldable pub ends_periods : List ℕ → ℕ → Bool
+ends_periods s at = starts_with (drop at s) flight_names || starts_with (drop at s) closing_name
 
 -- such a line begins at `at`: 5 "where the second names line follows the first directly", and a closing line "straight after the first
 -- names line .. gets 5" too; else a closing line is read, "and only the second names line may follow it" (#108); without one the number is
 -- 256
-unfoldable pub periodsEnd : List ℕ → ℕ → List ℕ → Reading
-periodsEnd s at capacities =
+unfoldable pub periods_end : List ℕ → ℕ → List ℕ → Reading
+periods_end s at capacities =
     cond (eqb (length capacities) 0) (refused (BadCount at))
-    (cond (starts_with (drop at s) closingName) (onClosing at (closingLine s at) (λ c next. named s next capacities c)) (named s at capacities unlimited))
+    (cond (starts_with (drop at s) closing_name) (on_closing at (closing_line s at) (λ c next. named s next capacities c)) (named s at capacities unlimited))
 
 -- a period line that begins at `at`: 2 and 3, else what follows it
-abbrev pub onPeriod : ℕ → List ℕ → PeriodLine → (ℕ → ℕ → Reading) → Reading
-onPeriod at above NoPeriod go = refused (BadForm at)
-onPeriod at above (Period j c next) go = cond (eqb j (length above + 1) && leb c 255) (go c next) (refused (OutOfRange at))
+abbrev pub on_period : ℕ → List ℕ → PeriodLine → (ℕ → ℕ → Reading) → Reading
+on_period at above NoPeriod go = refused (BadForm at)
+on_period at above (Period j c next) go = cond (eqb j (length above + 1) && leb c 255) (go c next) (refused (OutOfRange at))
 
 -- at most k more period lines, after the capacities above; 5 where anything but a line that ends them "follows 96 period lines", and 2
 -- where the sheet ends there
-unfoldable pub readPeriods : ℕ → List ℕ → ℕ → List ℕ → Reading
-readPeriods zero s at above = cond (endsPeriods s at) (periodsEnd s at above) (cond (eqb at (length s)) (refused (BadForm at)) (refused (BadCount at)))
-readPeriods (suc k) s at above =
-    cond (endsPeriods s at) (periodsEnd s at above) (onPeriod at above (periodLine s at) (λ c next. readPeriods k s next (above ++ (c ∷ []))))
+unfoldable pub read_periods : ℕ → List ℕ → ℕ → List ℕ → Reading
+read_periods zero s at above = cond (ends_periods s at) (periods_end s at above) (cond (eqb at (length s)) (refused (BadForm at)) (refused (BadCount at)))
+read_periods (suc k) s at above =
+    cond (ends_periods s at) (periods_end s at above) (on_period at above (period_line s at) (λ c next. read_periods k s next (above ++ (c ∷ []))))
 
 -- the sheet's grammar
-unfoldable pub readSheet : List ℕ → Reading
-readSheet s =
+unfoldable pub read_sheet : List ℕ → Reading
+read_sheet s =
     cond (ltb 8192 (length s)) (refused TooLong)
-    (cond (starts_with s periodNames) (readPeriods mostPeriods s (length periodNames) []) (refused (BadForm 0)))
+    (cond (starts_with s period_names) (read_periods most_periods s (length period_names) []) (refused (BadForm 0)))
 
 -- the reader's call: "the reader tests its rows (7; capacity row first)"
 unfoldable pub reading : List ℕ → List ℕ → List ℕ → Reading
 reading s capacities flights =
-    cond (eqb (length capacities) mostPeriods) (cond (eqb (length flights) (mostFlights * width)) (readSheet s) (refused (BadLength (mostFlights * width))))
-    (refused (BadLength mostPeriods))
+    cond (eqb (length capacities) most_periods) (cond (eqb (length flights) (most_flights * width)) (read_sheet s) (refused (BadLength (most_flights * width))))
+    (refused (BadLength most_periods))
 
 -- its answer: P and N, or the refusal
 abbrev pub answer_of : Reading → Answer
@@ -87,15 +87,15 @@ answer_of (read capacities flights closing) = Read (length capacities) (length f
 answer_of (refused a) = a
 
 -- the closing number that "the reader answers .. beside P and N, 0 in a refusal" (#108)
-abbrev pub closingOf : Reading → ℕ
-closingOf (read capacities flights closing) = closing
-closingOf (refused a) = 0
+abbrev pub closing_of : Reading → ℕ
+closing_of (read capacities flights closing) = closing
+closing_of (refused a) = 0
 
 -- the lent rows afterwards: the day and, past it, what stood there; a refusal leaves them
-abbrev pub capacitiesAfter : Reading → List ℕ → List ℕ
-capacitiesAfter (read capacities flights closing) row = capacities ++ drop (length capacities) row
-capacitiesAfter (refused a) row = row
+abbrev pub capacities_after : Reading → List ℕ → List ℕ
+capacities_after (read capacities flights closing) row = capacities ++ drop (length capacities) row
+capacities_after (refused a) row = row
 
-abbrev pub flightsAfter : Reading → List ℕ → List ℕ
-flightsAfter (read capacities flights closing) row = row_of flights ++ drop (length (row_of flights)) row
-flightsAfter (refused a) row = row
+abbrev pub flights_after : Reading → List ℕ → List ℕ
+flights_after (read capacities flights closing) row = row_of flights ++ drop (length (row_of flights)) row
+flights_after (refused a) row = row

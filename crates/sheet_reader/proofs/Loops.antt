@@ -18,17 +18,17 @@ use Rattle.text.specs.declared.Number.TheVariants.{Value, Bad}
 use Rattle.text.proofs.Fixed.{starts_is}
 use Rattle.text.proofs.Reading.{within}
 use Rattle.day.specs.declared.Flight.{Flight}
-use Rattle.day.specs.Day.{unlimited, mostPeriods, mostFlights, width, flightFits}
-use Rattle.day.specs.Flights.{firstFlights, withFlight}
-use Rattle.day.proofs.Flights.{row-front, length-flights, with_first, with-length}
+use Rattle.day.specs.Day.{unlimited, most_periods, most_flights, width, flight_fits}
+use Rattle.day.specs.Flights.{first_flights, with_flight}
+use Rattle.day.proofs.Flights.{row_front, length_flights, with_first, with_length}
 use Rattle.sheet.specs.declared.PeriodLine.TheVariants.{Period, NoPeriod}
 use Rattle.sheet.specs.declared.FlightLine.TheVariants.{Row, NoRow}
-use Rattle.sheet.specs.Text.{periodNames, flightNames, closingName}
-use Rattle.sheet.specs.Lines.{mostDigits, periodLine, closingLine, flightLine, used}
-use Rattle.sheet.specs.Sheet.{Reading, read, refused, readFlights, named, endsPeriods, periodsEnd, readPeriods, readSheet, reading}
-use Rattle.sheet.proofs.Lines.{names-front, period-read, closing-read, flight-read, fits-small}
-use Rattle.sheet.proofs.Grammar.{length-names, length-top, length-closing, front_length}
-use Rattle.sheet_reader.specs.Loop.{turnedDown, goOn, Ready, Few, PeriodsRead, NoPeriods, FlightsRead, NoFlights, Outcome}
+use Rattle.sheet.specs.Text.{period_names, flight_names, closing_name}
+use Rattle.sheet.specs.Lines.{most_digits, period_line, closing_line, flight_line, used}
+use Rattle.sheet.specs.Sheet.{Reading, read, refused, read_flights, named, ends_periods, periods_end, read_periods, read_sheet, reading}
+use Rattle.sheet.proofs.Lines.{names_front, period_read, closing_read, flight_read, fits_small}
+use Rattle.sheet.proofs.Grammar.{length_names, length_top, length_closing, front_length}
+use Rattle.sheet_reader.specs.Loop.{turned_down, go_on, Ready, Few, PeriodsRead, NoPeriods, FlightsRead, NoFlights, Outcome}
 use Rattle.sheet_reader.specs.declared.SheetRead.{SheetRead}
 use Rattle.sheet_reader.specs.declared.Listing.{Listing}
 use Rattle.sheet_reader.specs.declared.Listing.TheVariants.{Listed}
@@ -37,143 +37,143 @@ use Rattle.sheet_reader.specs.declared.Periods.TheVariants.{Upto}
 
 -- a refusal where the period lines end: for every row of capacities
 abbrev NoEnd : List ℕ → (at n : ℕ) → Answer → Type 0
-NoEnd s at n a = Unit {0} × ((caps : List ℕ) → n ≤ length caps → periodsEnd s at (take n caps) ≡ refused a)
+NoEnd s at n a = Unit {0} × ((caps : List ℕ) → n ≤ length caps → periods_end s at (take n caps) ≡ refused a)
 
 module _ (s : List ℕ) (at n closing : ℕ) where
-  pub names-not : starts_with (drop at s) flightNames ≡ false → Unit {0} × ((caps : List ℕ) → named s at (take n caps) closing ≡ refused (BadForm at))
+  pub names_not : starts_with (drop at s) flight_names ≡ false → Unit {0} × ((caps : List ℕ) → named s at (take n caps) closing ≡ refused (BadForm at))
   unfolding named
-  names-not e = (tt, λ caps. rw e)
+  names_not e = (tt, λ caps. rw e)
 
-  module _ (e : starts_with (drop at s) flightNames ≡ true) (h : at ≤ length s) where
-    pub names-within : at + 38 ≤ length s
-    names-within = omega (arith, front_length s at flightNames _ (names-front s flightNames at e), length-names)
+  module _ (e : starts_with (drop at s) flight_names ≡ true) (h : at ≤ length s) where
+    pub names_within : at + 38 ≤ length s
+    names_within = omega (arith, front_length s at flight_names _ (names_front s flight_names at e), length_names)
 
-    pub names-on : n ≤ mostPeriods
-        → ((n ≤ mostPeriods) × (at + 38 ≤ length s)) × ((caps : List ℕ) → named s at (take n caps) closing ≡ readFlights mostFlights s (at + 38) (take n caps) closing [])
+    pub names_on : n ≤ most_periods
+        → ((n ≤ most_periods) × (at + 38 ≤ length s)) × ((caps : List ℕ) → named s at (take n caps) closing ≡ read_flights most_flights s (at + 38) (take n caps) closing [])
     unfolding named
-    names-on g = ((g, names-within), λ caps. rw (e, length-names))
+    names_on g = ((g, names_within), λ caps. rw (e, length_names))
 
 module _ (s : List ℕ) (at n : ℕ) where
-  pub end-first : n ≡ 0 → NoEnd s at n (BadCount at)
-  unfolding periodsEnd
-  end-first z = (tt, λ caps h. rw (length-take-le n caps h, eq-eqb n 0 z))
+  pub end_first : n ≡ 0 → NoEnd s at n (BadCount at)
+  unfolding periods_end
+  end_first z = (tt, λ caps h. rw (length-take-le n caps h, eq-eqb n 0 z))
 
   module _ (z : n ≡ 0 → ⊥) where
-    pub end-names : starts_with (drop at s) closingName ≡ false → (x : Periods) → Ready x s × ((caps : List ℕ) → named s at (take n caps) unlimited ≡ goOn x s caps)
-        → Ready x s × ((caps : List ℕ) → n ≤ length caps → periodsEnd s at (take n caps) ≡ goOn x s caps)
-    unfolding periodsEnd
-    end-names e x w = (w.0, λ caps h. rw (length-take-le n caps h, ne_eqb n 0 z, e) (w.1 caps))
+    pub end_names : starts_with (drop at s) closing_name ≡ false → (x : Periods) → Ready x s × ((caps : List ℕ) → named s at (take n caps) unlimited ≡ go_on x s caps)
+        → Ready x s × ((caps : List ℕ) → n ≤ length caps → periods_end s at (take n caps) ≡ go_on x s caps)
+    unfolding periods_end
+    end_names e x w = (w.0, λ caps h. rw (length-take-le n caps h, ne_eqb n 0 z, e) (w.1 caps))
 
-    module _ (e : starts_with (drop at s) closingName ≡ true) where
-      pub end-form : closingLine s at ≡ Bad → NoEnd s at n (BadForm at)
-      unfolding periodsEnd
-      end-form p = (tt, λ caps h. rw (length-take-le n caps h, ne_eqb n 0 z, e, p))
+    module _ (e : starts_with (drop at s) closing_name ≡ true) where
+      pub end_form : closing_line s at ≡ Bad → NoEnd s at n (BadForm at)
+      unfolding periods_end
+      end_form p = (tt, λ caps h. rw (length-take-le n caps h, ne_eqb n 0 z, e, p))
 
-      module _ {c next : ℕ} (p : closingLine s at ≡ Value c next) where
-        pub end-range : 255 < c → NoEnd s at n (OutOfRange at)
-        unfolding periodsEnd
-        end-range q = (tt, λ caps h. rw (length-take-le n caps h, ne_eqb n 0 z, e, p, lt-leb c 255 q))
+      module _ {c next : ℕ} (p : closing_line s at ≡ Value c next) where
+        pub end_range : 255 < c → NoEnd s at n (OutOfRange at)
+        unfolding periods_end
+        end_range q = (tt, λ caps h. rw (length-take-le n caps h, ne_eqb n 0 z, e, p, lt-leb c 255 q))
 
-        pub end-next : c ≤ 255 → (x : Periods) → Ready x s × ((caps : List ℕ) → named s next (take n caps) c ≡ goOn x s caps)
-            → Ready x s × ((caps : List ℕ) → n ≤ length caps → periodsEnd s at (take n caps) ≡ goOn x s caps)
-        unfolding periodsEnd
-        end-next q x w = (w.0, λ caps h. rw (length-take-le n caps h, ne_eqb n 0 z, e, p, le-leb c 255 q) (w.1 caps))
+        pub end_next : c ≤ 255 → (x : Periods) → Ready x s × ((caps : List ℕ) → named s next (take n caps) c ≡ go_on x s caps)
+            → Ready x s × ((caps : List ℕ) → n ≤ length caps → periods_end s at (take n caps) ≡ go_on x s caps)
+        unfolding periods_end
+        end_next q x w = (w.0, λ caps h. rw (length-take-le n caps h, ne_eqb n 0 z, e, p, le-leb c 255 q) (w.1 caps))
 
   -- a line that begins so has its number inside the sheet, and ends there
-  module _ (e : starts_with (drop at s) closingName ≡ true) (h : at ≤ length s) where
-    pub name-within : at + length closingName ≤ length s
-    name-within = omega (arith, front_length s at closingName _ (names-front s closingName at e), length-closing)
+  module _ (e : starts_with (drop at s) closing_name ≡ true) (h : at ≤ length s) where
+    pub name_within : at + length closing_name ≤ length s
+    name_within = omega (arith, front_length s at closing_name _ (names_front s closing_name at e), length_closing)
 
-    pub closing-within : (c next : ℕ) → closingLine s at ≡ Value c next → next ≤ length s
-    closing-within c next p = within (closing-read s at c next e p) h
+    pub closing_within : (c next : ℕ) → closing_line s at ≡ Value c next → next ≤ length s
+    closing_within c next p = within (closing_read s at c next e p) h
 
-pub closing_at : (s : List ℕ) (at : ℕ) → field mostDigits 10 s (at + 8) ≡ closingLine s at
-unfolding closingLine
-closing_at s at = rw length-closing
+pub closing_at : (s : List ℕ) (at : ℕ) → field most_digits 10 s (at + 8) ≡ closing_line s at
+unfolding closing_line
+closing_at s at = rw length_closing
 
-pub names-end : (s : List ℕ) (at : ℕ) → starts_with (drop at s) flightNames ≡ true → true ≡ endsPeriods s at
-unfolding endsPeriods
-names-end s at e = rw e
+pub names_end : (s : List ℕ) (at : ℕ) → starts_with (drop at s) flight_names ≡ true → true ≡ ends_periods s at
+unfolding ends_periods
+names_end s at e = rw e
 
-pub closing_end : (s : List ℕ) (at : ℕ) → starts_with (drop at s) flightNames ≡ false → {b : Bool} → b ≡ starts_with (drop at s) closingName → b ≡ endsPeriods s at
-unfolding endsPeriods
+pub closing_end : (s : List ℕ) (at : ℕ) → starts_with (drop at s) flight_names ≡ false → {b : Bool} → b ≡ starts_with (drop at s) closing_name → b ≡ ends_periods s at
+unfolding ends_periods
 closing_end s at e p = rw e p
 
-pub periods-start : (s caps : List ℕ) → length periodNames ≤ length s → length caps ≡ mostPeriods → PeriodsRead s caps 0 16
-periods-start s caps h l = record { upto = omega arith; inside = omega (arith, length-top); room = l; so_far = rw length-top refl }
+pub periods_start : (s caps : List ℕ) → length period_names ≤ length s → length caps ≡ most_periods → PeriodsRead s caps 0 16
+periods_start s caps h l = record { upto = omega arith; inside = omega (arith, length_top); room = l; so_far = rw length_top refl }
 
 module _ {s caps : List ℕ} {n at : ℕ} (r : PeriodsRead s caps n at) where
-  stop : (a : Answer) → readPeriods (mostPeriods - n) s at (take n caps) ≡ refused a → NoPeriods s caps a
+  stop : (a : Answer) → read_periods (most_periods - n) s at (take n caps) ≡ refused a → NoPeriods s caps a
   stop a e = (r.room, (r.so_far ∙ e, tt))
 
-  count-is : length (take n caps) ≡ n
-  count-is = length-take-le n caps (omega (arith, r.upto, r.room))
+  count_is : length (take n caps) ≡ n
+  count_is = length-take-le n caps (omega (arith, r.upto, r.room))
 
   -- the loop is left at the line that ends the period lines
-  pub periods-ended : endsPeriods s at ≡ true → (x : Periods) → Ready x s × ((caps : List ℕ) → n ≤ length caps → periodsEnd s at (take n caps) ≡ goOn x s caps)
-      → (length caps ≡ mostPeriods) × ((readPeriods mostPeriods s (length periodNames) [] ≡ goOn x s caps) × Ready x s)
-  unfolding readPeriods
-  periods-ended e x w = (r.room, (r.so_far ∙ (go (mostPeriods - n) ∙ w.1 caps (omega (arith, r.upto, r.room))), w.0))
+  pub periods_ended : ends_periods s at ≡ true → (x : Periods) → Ready x s × ((caps : List ℕ) → n ≤ length caps → periods_end s at (take n caps) ≡ go_on x s caps)
+      → (length caps ≡ most_periods) × ((read_periods most_periods s (length period_names) [] ≡ go_on x s caps) × Ready x s)
+  unfolding read_periods
+  periods_ended e x w = (r.room, (r.so_far ∙ (go (most_periods - n) ∙ w.1 caps (omega (arith, r.upto, r.room))), w.0))
     where
-      go : (k : ℕ) → readPeriods k s at (take n caps) ≡ periodsEnd s at (take n caps)
+      go : (k : ℕ) → read_periods k s at (take n caps) ≡ periods_end s at (take n caps)
       go zero = rw e
       go (suc k) = rw e
 
-  module _ (e : endsPeriods s at ≡ false) where
-    pub full-end : n ≡ mostPeriods → at ≡ length s → NoPeriods s caps (BadForm at)
-    unfolding readPeriods
-    full-end h z = let k : mostPeriods - n ≡ 0 = omega arith in stop (BadForm at) (rw (k, e, eq-eqb at (length s) z))
+  module _ (e : ends_periods s at ≡ false) where
+    pub full_end : n ≡ most_periods → at ≡ length s → NoPeriods s caps (BadForm at)
+    unfolding read_periods
+    full_end h z = let k : most_periods - n ≡ 0 = omega arith in stop (BadForm at) (rw (k, e, eq-eqb at (length s) z))
 
-    pub full-more : n ≡ mostPeriods → (at ≡ length s → ⊥) → NoPeriods s caps (BadCount at)
-    unfolding readPeriods
-    full-more h z = let k : mostPeriods - n ≡ 0 = omega arith in stop (BadCount at) (rw (k, e, ne_eqb at (length s) z))
+    pub full_more : n ≡ most_periods → (at ≡ length s → ⊥) → NoPeriods s caps (BadCount at)
+    unfolding read_periods
+    full_more h z = let k : most_periods - n ≡ 0 = omega arith in stop (BadCount at) (rw (k, e, ne_eqb at (length s) z))
 
-    module _ (f : n ≡ mostPeriods → ⊥) where
-      one_more : mostPeriods - n ≡ suc (mostPeriods - (n + 1))
+    module _ (f : n ≡ most_periods → ⊥) where
+      one_more : most_periods - n ≡ suc (most_periods - (n + 1))
       one_more = omega (arith, r.upto)
 
-      pub period-form : periodLine s at ≡ NoPeriod → NoPeriods s caps (BadForm at)
-      unfolding readPeriods
-      period-form p = stop (BadForm at) (rw (one_more, e, p))
+      pub period_form : period_line s at ≡ NoPeriod → NoPeriods s caps (BadForm at)
+      unfolding read_periods
+      period_form p = stop (BadForm at) (rw (one_more, e, p))
 
-      module _ {j c next : ℕ} (p : periodLine s at ≡ Period j c next) where
-        pub period-count : (j ≡ n + 1 → ⊥) → NoPeriods s caps (OutOfRange at)
-        unfolding readPeriods
-        period-count z = stop (OutOfRange at) (rw (one_more, e, p, count-is, ne_eqb j (n + 1) z))
+      module _ {j c next : ℕ} (p : period_line s at ≡ Period j c next) where
+        pub period_count : (j ≡ n + 1 → ⊥) → NoPeriods s caps (OutOfRange at)
+        unfolding read_periods
+        period_count z = stop (OutOfRange at) (rw (one_more, e, p, count_is, ne_eqb j (n + 1) z))
 
-        pub period-range : j ≡ n + 1 → 255 < c → NoPeriods s caps (OutOfRange at)
-        unfolding readPeriods
-        period-range z q = stop (OutOfRange at) (rw (one_more, e, p, count-is, eq-eqb j (n + 1) z, lt-leb c 255 q))
+        pub period_range : j ≡ n + 1 → 255 < c → NoPeriods s caps (OutOfRange at)
+        unfolding read_periods
+        period_range z q = stop (OutOfRange at) (rw (one_more, e, p, count_is, eq-eqb j (n + 1) z, lt-leb c 255 q))
 
-        pub period-next : j ≡ n + 1 → c ≤ 255 → PeriodsRead s (set caps n c) (n + 1) next
-        unfolding readPeriods
-        period-next z q =
+        pub period_next : j ≡ n + 1 → c ≤ 255 → PeriodsRead s (set caps n c) (n + 1) next
+        unfolding read_periods
+        period_next z q =
             let t : take (suc n) (set caps n c) ≡ take n caps ++ (c ∷ []) = take-suc-set caps n c (omega (arith, r.upto, r.room)) in
             record {
               upto = omega (arith, r.upto);
-              inside = within (period-read s at j c next p) r.inside;
+              inside = within (period_read s at j c next p) r.inside;
               room = rw length-set r.room;
-              so_far = r.so_far ∙ rw (one_more, e, p, count-is, eq-eqb j (n + 1) z, le-leb c 255 q, add-one n, t);
+              so_far = r.so_far ∙ rw (one_more, e, p, count_is, eq-eqb j (n + 1) z, le-leb c 255 q, add-one n, t);
             }
 
-pub flights-start : (s : List ℕ) (start p : ℕ) (row : List ℕ) → start ≤ length s → p ≤ mostPeriods → length row ≡ mostFlights * width
+pub flights_start : (s : List ℕ) (start p : ℕ) (row : List ℕ) → start ≤ length s → p ≤ most_periods → length row ≡ most_flights * width
     → FlightsRead s start p row 0 start
-unfolding firstFlights
-flights-start s start p row h f l = record { upto = omega arith; inside = h; periods = f; room = l; so_far = λ caps closing k. refl }
+unfolding first_flights
+flights_start s start p row h f l = record { upto = omega arith; inside = h; periods = f; room = l; so_far = λ caps closing k. refl }
 
 module _ {s : List ℕ} {start p : ℕ} {row : List ℕ} {n at : ℕ} (r : FlightsRead s start p row n at) where
-  halt : (a : Answer) → ((caps : List ℕ) (closing : ℕ) → length caps ≡ p → readFlights (mostFlights - n) s at caps closing (firstFlights n row) ≡ refused a)
+  halt : (a : Answer) → ((caps : List ℕ) (closing : ℕ) → length caps ≡ p → read_flights (most_flights - n) s at caps closing (first_flights n row) ≡ refused a)
       → NoFlights s start p row a
   halt a e = (r.room, (tt, λ caps closing k. r.so_far caps closing k ∙ e caps closing k))
 
-  pub flights-end : length s ≤ at
-      → (length row ≡ mostFlights * width)
-      × ((n ≤ mostFlights)
-      × ((caps : List ℕ) (closing : ℕ) → length caps ≡ p → readFlights mostFlights s start caps closing [] ≡ read caps (firstFlights n row) closing))
-  unfolding readFlights
-  flights-end h = (r.room, (r.upto, λ caps closing k. r.so_far caps closing k ∙ go caps closing (mostFlights - n)))
+  pub flights_end : length s ≤ at
+      → (length row ≡ most_flights * width)
+      × ((n ≤ most_flights)
+      × ((caps : List ℕ) (closing : ℕ) → length caps ≡ p → read_flights most_flights s start caps closing [] ≡ read caps (first_flights n row) closing))
+  unfolding read_flights
+  flights_end h = (r.room, (r.upto, λ caps closing k. r.so_far caps closing k ∙ go caps closing (most_flights - n)))
     where
-      go : (caps : List ℕ) (closing k : ℕ) → readFlights k s at caps closing (firstFlights n row) ≡ read caps (firstFlights n row) closing
+      go : (caps : List ℕ) (closing k : ℕ) → read_flights k s at caps closing (first_flights n row) ≡ read caps (first_flights n row) closing
       go caps closing zero = rw (eq-eqb at (length s) (omega (arith, r.inside)))
       go caps closing (suc k) = rw (eq-eqb at (length s) (omega (arith, r.inside)))
 
@@ -181,87 +181,87 @@ module _ {s : List ℕ} {start p : ℕ} {row : List ℕ} {n at : ℕ} (r : Fligh
     not_end : eqb at (length s) ≡ false
     not_end = ne_eqb at (length s) (λ e. omega arith)
 
-    pub flights-full : n ≡ mostFlights → NoFlights s start p row (BadCount at)
-    unfolding readFlights
-    flights-full h = let k : mostFlights - n ≡ 0 = omega arith in halt (BadCount at) (λ caps closing l. rw (k, not_end))
+    pub flights_full : n ≡ most_flights → NoFlights s start p row (BadCount at)
+    unfolding read_flights
+    flights_full h = let k : most_flights - n ≡ 0 = omega arith in halt (BadCount at) (λ caps closing l. rw (k, not_end))
 
-    module _ (h : n ≡ mostFlights → ⊥) where
-      another : mostFlights - n ≡ suc (mostFlights - (n + 1))
+    module _ (h : n ≡ most_flights → ⊥) where
+      another : most_flights - n ≡ suc (most_flights - (n + 1))
       another = omega (arith, r.upto)
 
-      pub flight-form : flightLine s at ≡ NoRow → NoFlights s start p row (BadForm at)
-      unfolding readFlights
-      flight-form e = halt (BadForm at) (λ caps closing l. rw (another, not_end, e))
+      pub flight_form : flight_line s at ≡ NoRow → NoFlights s start p row (BadForm at)
+      unfolding read_flights
+      flight_form e = halt (BadForm at) (λ caps closing l. rw (another, not_end, e))
 
-      module _ {f : Flight} {next : ℕ} (e : flightLine s at ≡ Row f next) where
-        pub flight-range : flightFits p f ≡ false → NoFlights s start p row (OutOfRange at)
-        unfolding readFlights
-        flight-range q = halt (OutOfRange at) (λ caps closing l. rw (another, not_end, e, l, q))
+      module _ {f : Flight} {next : ℕ} (e : flight_line s at ≡ Row f next) where
+        pub flight_range : flight_fits p f ≡ false → NoFlights s start p row (OutOfRange at)
+        unfolding read_flights
+        flight_range q = halt (OutOfRange at) (λ caps closing l. rw (another, not_end, e, l, q))
 
-        pub flight-again : flightFits p f ≡ true → used f.number (firstFlights n row) ≡ true → NoFlights s start p row (NumberUsed at)
-        unfolding readFlights
-        flight-again q u = halt (NumberUsed at) (λ caps closing l. rw (another, not_end, e, l, q, u))
+        pub flight_again : flight_fits p f ≡ true → used f.number (first_flights n row) ≡ true → NoFlights s start p row (NumberUsed at)
+        unfolding read_flights
+        flight_again q u = halt (NumberUsed at) (λ caps closing l. rw (another, not_end, e, l, q, u))
 
         place : n * width + width ≤ length row
         place = omega (arith, r.room, r.upto)
 
-        pub flight-next : flightFits p f ≡ true → used f.number (firstFlights n row) ≡ false → (after : List ℕ) → after ≡ withFlight row n f
+        pub flight_next : flight_fits p f ≡ true → used f.number (first_flights n row) ≡ false → (after : List ℕ) → after ≡ with_flight row n f
             → FlightsRead s start p after (n + 1) next
-        unfolding readFlights
-        flight-next q u after w = record {
+        unfolding read_flights
+        flight_next q u after w = record {
           upto = omega (arith, r.upto);
-          inside = within (flight-read s at f next e (fits-small p f r.periods q).limit) r.inside;
+          inside = within (flight_read s at f next e (fits_small p f r.periods q).limit) r.inside;
           periods = r.periods;
-          room = rw w (with-length row n f place ∙ r.room);
+          room = rw w (with_length row n f place ∙ r.room);
           so_far = λ caps closing l. r.so_far caps closing l ∙ rw (another, not_end, e, l, q, u, w, with_first row n f place);
         }
 
 -- the whole call
 
 -- a refusal leaves the rows
-pub refused-so : {R : Reading} {a : Answer} {caps flights : List ℕ} {r : SheetRead} → R ≡ refused a → r ≡ turnedDown a → Outcome R caps flights r caps flights
-refused-so e d = rw (e, d) (refl, (refl, (refl, refl)))
+pub refused_so : {R : Reading} {a : Answer} {caps flights : List ℕ} {r : SheetRead} → R ≡ refused a → r ≡ turned_down a → Outcome R caps flights r caps flights
+refused_so e d = rw (e, d) (refl, (refl, (refl, refl)))
 
 module _ (s caps flights : List ℕ) where
-  pub call-caps : (length caps ≡ mostPeriods → ⊥) → reading s caps flights ≡ refused (BadLength mostPeriods)
+  pub call_caps : (length caps ≡ most_periods → ⊥) → reading s caps flights ≡ refused (BadLength most_periods)
   unfolding reading
-  call-caps h = rw (ne_eqb (length caps) mostPeriods h)
+  call_caps h = rw (ne_eqb (length caps) most_periods h)
 
-  module _ (h : length caps ≡ mostPeriods) where
-    pub call-flights : (length flights ≡ mostFlights * width → ⊥) → reading s caps flights ≡ refused (BadLength (mostFlights * width))
+  module _ (h : length caps ≡ most_periods) where
+    pub call_flights : (length flights ≡ most_flights * width → ⊥) → reading s caps flights ≡ refused (BadLength (most_flights * width))
     unfolding reading
-    call-flights g = rw (eq-eqb (length caps) mostPeriods h, ne_eqb (length flights) (mostFlights * width) g)
+    call_flights g = rw (eq-eqb (length caps) most_periods h, ne_eqb (length flights) (most_flights * width) g)
 
-    module _ (g : length flights ≡ mostFlights * width) where
-      sheet-read : reading s caps flights ≡ readSheet s
+    module _ (g : length flights ≡ most_flights * width) where
+      sheet_read : reading s caps flights ≡ read_sheet s
       unfolding reading
-      sheet-read = rw (eq-eqb (length caps) mostPeriods h, eq-eqb (length flights) (mostFlights * width) g)
+      sheet_read = rw (eq-eqb (length caps) most_periods h, eq-eqb (length flights) (most_flights * width) g)
 
       pub call_long : 8192 < length s → reading s caps flights ≡ refused TooLong
-      unfolding readSheet
-      call_long l = sheet-read ∙ rw (lt-ltb 8192 (length s) l)
+      unfolding read_sheet
+      call_long l = sheet_read ∙ rw (lt-ltb 8192 (length s) l)
 
       module _ (l : length s ≤ 8192) where
-        pub call-top : starts_with s periodNames ≡ false → reading s caps flights ≡ refused (BadForm 0)
-        unfolding readSheet
-        call-top t = sheet-read ∙ rw (le-ltb 8192 (length s) l, t)
+        pub call_top : starts_with s period_names ≡ false → reading s caps flights ≡ refused (BadForm 0)
+        unfolding read_sheet
+        call_top t = sheet_read ∙ rw (le-ltb 8192 (length s) l, t)
 
-        pub call-on : starts_with s periodNames ≡ true → reading s caps flights ≡ readPeriods mostPeriods s (length periodNames) []
-        unfolding readSheet
-        call-on t = sheet-read ∙ rw (le-ltb 8192 (length s) l, t)
+        pub call_on : starts_with s period_names ≡ true → reading s caps flights ≡ read_periods most_periods s (length period_names) []
+        unfolding read_sheet
+        call_on t = sheet_read ∙ rw (le-ltb 8192 (length s) l, t)
 
-pub top_within : (s : List ℕ) → starts_with s periodNames ≡ true → length periodNames ≤ length s
-top_within s e = omega (arith, length-take (length periodNames) s, ap length (starts_is s periodNames e))
+pub top_within : (s : List ℕ) → starts_with s period_names ≡ true → length period_names ≤ length s
+top_within s e = omega (arith, length-take (length period_names) s, ap length (starts_is s period_names e))
 
-pub read-so : (R : Reading) (C row caps flights : List ℕ) (p n closing : ℕ) → R ≡ read C (firstFlights n row) closing → length C ≡ p → n * width ≤ length row
+pub read_so : (R : Reading) (C row caps flights : List ℕ) (p n closing : ℕ) → R ≡ read C (first_flights n row) closing → length C ≡ p → n * width ≤ length row
     → (caps' flights' : List ℕ) → caps' ≡ C ++ drop p caps → flights' ≡ take (n * width) row ++ drop (n * width) flights
     → Outcome R caps flights (record { answer = Read p n; closing = closing }) caps' flights'
-read-so R C row caps flights p n closing e l h caps' flights' a b =
+read_so R C row caps flights p n closing e l h caps' flights' a b =
     let t : length (take (n * width) row) ≡ n * width = length-take-le (n * width) row h in
-    rw (e, a, b, l, length-flights n row, row-front n row h, t) (refl, (refl, (refl, refl)))
+    rw (e, a, b, l, length_flights n row, row_front n row h, t) (refl, (refl, (refl, refl)))
 
-pub few-listed : (x : Listing) (n : ℕ) → x ≡ Listed n → Few x → n ≤ mostFlights
-few-listed x n e h = rw e at h
+pub few_listed : (x : Listing) (n : ℕ) → x ≡ Listed n → Few x → n ≤ most_flights
+few_listed x n e h = rw e at h
 
-pub ready-upto : (x : Periods) (s : List ℕ) (p at closing : ℕ) → x ≡ Upto p at closing → Ready x s → (p ≤ mostPeriods) × (at ≤ length s)
-ready-upto x s p at closing e h = rw e at h
+pub ready_upto : (x : Periods) (s : List ℕ) (p at closing : ℕ) → x ≡ Upto p at closing → Ready x s → (p ≤ most_periods) × (at ≤ length s)
+ready_upto x s p at closing e h = rw e at h

@@ -1,12 +1,12 @@
 // The reader of day sheets: it fills two lent rows from a sheet and answers the closing number, or says why not.
 ghost use Rattle.std.specs.Prelude.{◌≡◌, List, [], ◌++◌, ℕ, ◌+◌, ◌-◌, ◌*◌, ◌≤◌, ◌<◌, length, take, drop};
 ghost use Rattle.text.specs.Fixed.{starts_with};
-ghost use Rattle.day.specs.Day.{mostPeriods, mostFlights, width};
-ghost use Rattle.day.specs.Flights.{firstFlights};
-ghost use Rattle.sheet.specs.Text.{periodNames, flightNames, closingName};
-ghost use Rattle.sheet.specs.Lines.{limitField, periodLine, closingLine, flightLine, used};
-ghost use Rattle.sheet.specs.Sheet.{endsPeriods, named, periodsEnd, readPeriods, readFlights, reading, answer_of, closingOf, capacitiesAfter, flightsAfter};
-ghost use Rattle.sheet_reader.specs.Loop.{turnedDown, goOn, Ready, filled, Few};
+ghost use Rattle.day.specs.Day.{most_periods, most_flights, width};
+ghost use Rattle.day.specs.Flights.{first_flights};
+ghost use Rattle.sheet.specs.Text.{period_names, flight_names, closing_name};
+ghost use Rattle.sheet.specs.Lines.{limit_field, period_line, closing_line, flight_line, used};
+ghost use Rattle.sheet.specs.Sheet.{ends_periods, named, periods_end, read_periods, read_flights, reading, answer_of, closing_of, capacities_after, flights_after};
+ghost use Rattle.sheet_reader.specs.Loop.{turned_down, go_on, Ready, filled, Few};
 
 use answers::Answer;
 use day::{
@@ -22,7 +22,7 @@ use text::{COMMA, LINE_END, Number, Place, field_at, fixed_at, line_at, separate
 // The limit of a flight line: a dash for a missing one, or a number.
 fn limit_at(s: &[u8], at: usize) -> Number
     requires { at ≤ length s.now }
-    ensures { result ≡ limitField s.now at }
+    ensures { result ≡ limit_field s.now at }
 {
     if at < s.len() {
         if s[at] == DASH {
@@ -50,7 +50,7 @@ fn limit_at(s: &[u8], at: usize) -> Number
 
 fn period_line(s: &[u8], at: usize) -> PeriodLine
     requires { at ≤ length s.now }
-    ensures { result ≡ periodLine s.now at }
+    ensures { result ≡ period_line s.now at }
 {
     let mut numbers = [0u32; 1];
     let p = line_at(s, at, DIGITS, &mut numbers);
@@ -66,7 +66,7 @@ fn period_line(s: &[u8], at: usize) -> PeriodLine
 
 fn flight_line(s: &[u8], at: usize) -> FlightLine
     requires { at ≤ length s.now }
-    ensures { result ≡ flightLine s.now at }
+    ensures { result ≡ flight_line s.now at }
 {
     let mut numbers = [0u32; 5];
     let p = separated_at(s, at, DIGITS, &mut numbers);
@@ -127,7 +127,7 @@ pub enum Listing {
 // The second names line, with its end byte.
 fn names_here(s: &[u8], at: usize) -> bool
     requires { at ≤ length s.now }
-    ensures { result ≡ starts_with (drop at s.now) flightNames }
+    ensures { result ≡ starts_with (drop at s.now) flight_names }
 {
     fixed_at(s, at, &FLIGHT_NAMES)
 }
@@ -135,7 +135,7 @@ fn names_here(s: &[u8], at: usize) -> bool
 // What a closing line begins with.
 fn closing_here(s: &[u8], at: usize) -> bool
     requires { at ≤ length s.now }
-    ensures { result ≡ starts_with (drop at s.now) closingName }
+    ensures { result ≡ starts_with (drop at s.now) closing_name }
 {
     fixed_at(s, at, &CLOSING_NAME)
 }
@@ -143,7 +143,7 @@ fn closing_here(s: &[u8], at: usize) -> bool
 // A line that ends the period lines.
 fn end_here(s: &[u8], at: usize) -> bool
     requires { at ≤ length s.now }
-    ensures { result ≡ endsPeriods s.now at }
+    ensures { result ≡ ends_periods s.now at }
 {
     if names_here(s, at) {
         return true;
@@ -153,23 +153,23 @@ fn end_here(s: &[u8], at: usize) -> bool
 
 // The number of a line that begins as a closing line.
 fn closing_line(s: &[u8], at: usize) -> Number
-    requires { at + length closingName ≤ length s.now }
-    ensures { result ≡ closingLine s.now at }
+    requires { at + length closing_name ≤ length s.now }
+    ensures { result ≡ closing_line s.now at }
 {
     field_at(s, at + CLOSING_NAME_LEN, DIGITS, LINE_END)
 }
 
 // The first names line.
 fn top_here(s: &[u8]) -> bool
-    ensures { result ≡ starts_with s.now periodNames }
+    ensures { result ≡ starts_with s.now period_names }
 {
     fixed_at(s, 0, &PERIOD_NAMES)
 }
 
 // Whether one of the first n flights of the row has this number.
 fn number_used(row: &[u32; FLIGHT_ROW], n: usize, number: u32) -> bool
-    requires { n ≤ mostFlights }
-    ensures { result ≡ used number (firstFlights n row.now) }
+    requires { n ≤ most_flights }
+    ensures { result ≡ used number (first_flights n row.now) }
 {
     let mut j = n;
     while 0 < j {
@@ -183,9 +183,9 @@ fn number_used(row: &[u32; FLIGHT_ROW], n: usize, number: u32) -> bool
 
 // The second names line, where only it may stand, after n period lines.
 fn read_names(s: &[u8], at: usize, n: usize, closing: u32) -> Periods
-    requires { (at ≤ length s.now) × (n ≤ mostPeriods) }
+    requires { (at ≤ length s.now) × (n ≤ most_periods) }
     ensures ready { Ready result s.now }
-    ensures by_index { (caps : List ℕ) → named s.now at (take n caps) closing ≡ goOn result s.now caps }
+    ensures by_index { (caps : List ℕ) → named s.now at (take n caps) closing ≡ go_on result s.now caps }
 {
     if !names_here(s, at) {
         return Periods::Stopped(Answer::BadForm { line: at });
@@ -200,9 +200,9 @@ fn read_names(s: &[u8], at: usize, n: usize, closing: u32) -> Periods
 
 // The line that ends n period lines and, where it is a closing line, the second names line behind it.
 fn read_end(s: &[u8], at: usize, n: usize) -> Periods
-    requires { (at ≤ length s.now) × (n ≤ mostPeriods) }
+    requires { (at ≤ length s.now) × (n ≤ most_periods) }
     ensures ready { Ready result s.now }
-    ensures by_index { (caps : List ℕ) → n ≤ length caps → periodsEnd s.now at (take n caps) ≡ goOn result s.now caps }
+    ensures by_index { (caps : List ℕ) → n ≤ length caps → periods_end s.now at (take n caps) ≡ go_on result s.now caps }
 {
     if n == 0 {
         return Periods::Stopped(Answer::BadCount { line: at });
@@ -222,9 +222,9 @@ fn read_end(s: &[u8], at: usize, n: usize) -> Periods
 
 // The period lines, into the row, and what ends them.
 fn read_periods(s: &[u8], caps: &mut [u32; PERIODS]) -> Periods
-    requires { (length periodNames ≤ length s.now) × (length caps.old ≡ mostPeriods) }
-    ensures caps_len { length caps.new ≡ mostPeriods }
-    ensures period_names_value { readPeriods mostPeriods s.now (length periodNames) [] ≡ goOn result s.now caps.new }
+    requires { (length period_names ≤ length s.now) × (length caps.old ≡ most_periods) }
+    ensures caps_len { length caps.new ≡ most_periods }
+    ensures period_names_value { read_periods most_periods s.now (length period_names) [] ≡ go_on result s.now caps.new }
     ensures ready { Ready result s.now }
 {
     let mut n: usize = 0;
@@ -262,10 +262,10 @@ fn read_periods(s: &[u8], caps: &mut [u32; PERIODS]) -> Periods
 }
 
 fn read_flights(s: &[u8], start: usize, p: usize, row: &mut [u32; FLIGHT_ROW]) -> Listing
-    requires { (start ≤ length s.now) × (p ≤ mostPeriods) × (length row.old ≡ mostFlights * width) }
-    ensures row_len { length row.new ≡ mostFlights * width }
+    requires { (start ≤ length s.now) × (p ≤ most_periods) × (length row.old ≡ most_flights * width) }
+    ensures row_len { length row.new ≡ most_flights * width }
     ensures few { Few result }
-    ensures by_index { (caps : List ℕ) (closing : ℕ) → length caps ≡ p → readFlights mostFlights s.now start caps closing [] ≡ filled result caps closing row.new }
+    ensures by_index { (caps : List ℕ) (closing : ℕ) → length caps ≡ p → read_flights most_flights s.now start caps closing [] ≡ filled result caps closing row.new }
 {
     let mut n: usize = 0;
     let mut at = start;
@@ -291,7 +291,7 @@ fn read_flights(s: &[u8], start: usize, p: usize, row: &mut [u32; FLIGHT_ROW]) -
 }
 
 fn refusal(answer: Answer) -> SheetRead
-    ensures { result ≡ turnedDown answer }
+    ensures { result ≡ turned_down answer }
 {
     SheetRead { answer, closing: 0 }
 }
@@ -306,11 +306,11 @@ fn read_rest(
     capacities: &mut [u32],
     flights: &mut [u32],
 ) -> SheetRead
-    requires { (at ≤ length sheet.now) × (count ≤ mostPeriods) × (length caps.now ≡ mostPeriods) × (length capacities.old ≡ mostPeriods) × (length flights.old ≡ mostFlights * width) }
-    ensures answer_value { result.answer ≡ answer_of (readFlights mostFlights sheet.now at (take count caps.now) closing []) }
-    ensures closing_value { result.closing ≡ closingOf (readFlights mostFlights sheet.now at (take count caps.now) closing []) }
-    ensures capacities_after { capacities.new ≡ capacitiesAfter (readFlights mostFlights sheet.now at (take count caps.now) closing []) capacities.old }
-    ensures flights_after { flights.new ≡ flightsAfter (readFlights mostFlights sheet.now at (take count caps.now) closing []) flights.old }
+    requires { (at ≤ length sheet.now) × (count ≤ most_periods) × (length caps.now ≡ most_periods) × (length capacities.old ≡ most_periods) × (length flights.old ≡ most_flights * width) }
+    ensures answer_value { result.answer ≡ answer_of (read_flights most_flights sheet.now at (take count caps.now) closing []) }
+    ensures closing_value { result.closing ≡ closing_of (read_flights most_flights sheet.now at (take count caps.now) closing []) }
+    ensures capacities_after { capacities.new ≡ capacities_after (read_flights most_flights sheet.now at (take count caps.now) closing []) capacities.old }
+    ensures flights_after { flights.new ≡ flights_after (read_flights most_flights sheet.now at (take count caps.now) closing []) flights.old }
 {
     let mut rows = [0u32; FLIGHT_ROW];
     let r = read_flights(sheet, at, count, &mut rows);
@@ -333,9 +333,9 @@ fn read_rest(
 // Reads a sheet into lent rows of the most periods and of the most flights.
 pub fn read_sheet(sheet: &[u8], capacities: &mut [u32], flights: &mut [u32]) -> SheetRead
     ensures answer_value { result.answer ≡ answer_of (reading sheet.now capacities.old flights.old) }
-    ensures closing_value { result.closing ≡ closingOf (reading sheet.now capacities.old flights.old) }
-    ensures capacities_after { capacities.new ≡ capacitiesAfter (reading sheet.now capacities.old flights.old) capacities.old }
-    ensures flights_after { flights.new ≡ flightsAfter (reading sheet.now capacities.old flights.old) flights.old }
+    ensures closing_value { result.closing ≡ closing_of (reading sheet.now capacities.old flights.old) }
+    ensures capacities_after { capacities.new ≡ capacities_after (reading sheet.now capacities.old flights.old) capacities.old }
+    ensures flights_after { flights.new ≡ flights_after (reading sheet.now capacities.old flights.old) flights.old }
 {
     if capacities.len() != PERIODS {
         return refusal(Answer::BadLength { needed: PERIODS });

@@ -12,112 +12,112 @@ use borrow.Author.Tests.{ltb-true, ltb-false}
 use Rattle.answers.specs.declared.Answer.TheVariants.{Written, BadDay, BadLength}
 use Rattle.text.specs.Digits.{ended, separated}
 use Rattle.text.specs.Writing.{Put}
-use Rattle.text.proofs.Writing.{placed-zero, put-none, then, not-fits, it-fits}
+use Rattle.text.proofs.Writing.{placed_zero, put_none, then, not_fits, it_fits}
 use Rattle.day.specs.declared.Flight.{Flight}
-use Rattle.day.specs.Day.{Day, N, unlimited, hasLine, flightAt, valid}
-use Rattle.day.specs.Flights.{firstFlights, flightsOf}
-use Rattle.sheet.specs.Text.{periodNames, flightNames, closingName, closingText, limitText, periodText, beforeLimit, flightText, periodsText, flightsText, sheetText, sheetOf}
-use Rattle.sheet.proofs.Lines.{text-missing, text-line, text-none}
-use Rattle.sheet.proofs.Grammar.{periods-snoc, flights-snoc, length-top, length-names, length-closing, flight-length}
-use Rattle.sheet_writer.specs.Write.{writeAnswer, writeAfter}
+use Rattle.day.specs.Day.{Day, N, unlimited, has_line, flight_at, valid}
+use Rattle.day.specs.Flights.{first_flights, flights_of}
+use Rattle.sheet.specs.Text.{period_names, flight_names, closing_name, closing_text, limit_text, period_text, before_limit, flight_text, periods_text, flights_text, sheet_text, sheet_of}
+use Rattle.sheet.proofs.Lines.{text_missing, text_line, text_none}
+use Rattle.sheet.proofs.Grammar.{periods_snoc, flights_snoc, length_top, length_names, length_closing, flight_length}
+use Rattle.sheet_writer.specs.Write.{write_answer, write_after}
 
 -- the limit's field
 
-pub put-dash : (o : List ℕ) (l : ℕ) → l ≡ 255 → length (limitText l) ≤ length o → Put o 0 (limitText l) 2 (set (set o 0 45) 1 44)
-put-dash o l e h = rw (text-missing l e) (go o (rw (text-missing l e) at h))
+pub put_dash : (o : List ℕ) (l : ℕ) → l ≡ 255 → length (limit_text l) ≤ length o → Put o 0 (limit_text l) 2 (set (set o 0 45) 1 44)
+put_dash o l e h = rw (text_missing l e) (go o (rw (text_missing l e) at h))
   where
     go : (o : List ℕ) → 2 ≤ length o → Put o 0 (45 ∷ 44 ∷ []) 2 (set (set o 0 45) 1 44)
     go [] h = absurd (omega arith)
     go (x ∷ []) h = absurd (omega arith)
-    go (x ∷ y ∷ o) h = record { place = refl; bytes = sym (placed-zero (x ∷ y ∷ o) (45 ∷ 44 ∷ [])) }
+    go (x ∷ y ∷ o) h = record { place = refl; bytes = sym (placed_zero (x ∷ y ∷ o) (45 ∷ 44 ∷ [])) }
 
 -- the closing line
 
-pub closing-length : (k : ℕ) → hasLine k ≡ true → length (closingText k) ≡ 8 + length (ended 10 k)
-closing-length k h = rw (text-line k (ltb-true k unlimited h), length-append, length-closing)
+pub closing_length : (k : ℕ) → has_line k ≡ true → length (closing_text k) ≡ 8 + length (ended 10 k)
+closing_length k h = rw (text_line k (ltb-true k unlimited h), length-append, length_closing)
 
-pub closing-put : {o o1 o2 : List ℕ} {at a r : ℕ} (k : ℕ) → hasLine k ≡ true → at + length (closingText k) ≤ length o
-    → Put o at closingName a o1 → Put o1 a (ended 10 k) r o2 → Put o at (closingText k) r o2
-closing-put k h g p q = rw (text-line k (ltb-true k unlimited h)) (then (omega (arith, closing-length k h, length-closing)) p q)
+pub closing_put : {o o1 o2 : List ℕ} {at a r : ℕ} (k : ℕ) → has_line k ≡ true → at + length (closing_text k) ≤ length o
+    → Put o at closing_name a o1 → Put o1 a (ended 10 k) r o2 → Put o at (closing_text k) r o2
+closing_put k h g p q = rw (text_line k (ltb-true k unlimited h)) (then (omega (arith, closing_length k h, length_closing)) p q)
 
-pub no-closing : (k : ℕ) → hasLine k ≡ false → closingText k ≡ []
-no-closing k h = text-none k (ltb-false k unlimited h)
+pub no_closing : (k : ℕ) → has_line k ≡ false → closing_text k ≡ []
+no_closing k h = text_none k (ltb-false k unlimited h)
 
-pub closing-none : (o : List ℕ) (at k : ℕ) → hasLine k ≡ false → at + length (closingText k) ≤ length o → Put o at (closingText k) at o
-closing-none o at k h g = rw (no-closing k h) (put-none o at (omega arith))
+pub closing_none : (o : List ℕ) (at k : ℕ) → has_line k ≡ false → at + length (closing_text k) ≤ length o → Put o at (closing_text k) at o
+closing_none o at k h g = rw (no_closing k h) (put_none o at (omega arith))
 
 -- one line
 
-pub flight-put : {o o1 o2 o3 : List ℕ} {a b r : ℕ} (f : Flight) → length (flightText f) ≤ length o → Put o 0 (separated (beforeLimit f)) a o1
-    → Put o1 a (limitText f.limit) b o2 → Put o2 b (ended 10 f.late) r o3 → Put o 0 (flightText f) r o3
-unfolding flightText
-flight-put f h p q t =
-    let l = flight-length f in
+pub flight_put : {o o1 o2 o3 : List ℕ} {a b r : ℕ} (f : Flight) → length (flight_text f) ≤ length o → Put o 0 (separated (before_limit f)) a o1
+    → Put o1 a (limit_text f.limit) b o2 → Put o2 b (ended 10 f.late) r o3 → Put o 0 (flight_text f) r o3
+unfolding flight_text
+flight_put f h p q t =
+    let l = flight_length f in
     rw append_assoc at (then (simp length-append (omega arith)) (then (omega arith) p q) t)
 
 -- one line more
 
-periods-append : (j : ℕ) (xs ys : List ℕ) → periodsText j (xs ++ ys) ≡ periodsText j xs ++ periodsText (j + length xs) ys
-unfolding periodsText
-periods-append j [] ys = let z : j + 0 ≡ j = omega arith in rw z
-periods-append j (x ∷ xs) ys = let z : suc j + length xs ≡ j + suc (length xs) = omega arith in rw (periods-append (suc j) xs ys, z, append_assoc)
+periods_append : (j : ℕ) (xs ys : List ℕ) → periods_text j (xs ++ ys) ≡ periods_text j xs ++ periods_text (j + length xs) ys
+unfolding periods_text
+periods_append j [] ys = let z : j + 0 ≡ j = omega arith in rw z
+periods_append j (x ∷ xs) ys = let z : suc j + length xs ≡ j + suc (length xs) = omega arith in rw (periods_append (suc j) xs ys, z, append_assoc)
 
-pub period-part : (caps : List ℕ) (i : ℕ) → i < length caps
-    → (periodsText 1 (take (i + 1) caps) ≡ periodsText 1 (take i caps) ++ periodText (i + 1) (get_or caps i 0))
-    × (length (periodsText 1 (take i caps)) + length (periodText (i + 1) (get_or caps i 0)) ≤ length (periodsText 1 caps))
-period-part caps i h =
+pub period_part : (caps : List ℕ) (i : ℕ) → i < length caps
+    → (periods_text 1 (take (i + 1) caps) ≡ periods_text 1 (take i caps) ++ period_text (i + 1) (get_or caps i 0))
+    × (length (periods_text 1 (take i caps)) + length (period_text (i + 1) (get_or caps i 0)) ≤ length (periods_text 1 caps))
+period_part caps i h =
     let l : length (take i caps) ≡ i = length-take-le i caps (omega arith) in
     let z : 1 + i ≡ i + 1 = omega arith in
     let e : take (i + 1) caps ≡ take i caps ++ (get_or caps i 0 ∷ []) = rw add-one (take-suc caps i 0 h) in
-    let a : periodsText 1 (take (i + 1) caps) ≡ periodsText 1 (take i caps) ++ periodText (i + 1) (get_or caps i 0) = rw e (periods-snoc 1 (take i caps) (get_or caps i 0) ∙ rw (l, z)) in
-    let b = rw take-append-drop at (periods-append 1 (take (i + 1) caps) (drop (i + 1) caps)) in
+    let a : periods_text 1 (take (i + 1) caps) ≡ periods_text 1 (take i caps) ++ period_text (i + 1) (get_or caps i 0) = rw e (periods_snoc 1 (take i caps) (get_or caps i 0) ∙ rw (l, z)) in
+    let b = rw take-append-drop at (periods_append 1 (take (i + 1) caps) (drop (i + 1) caps)) in
     let c = simp length-append at (ap length b) in
     let d = simp length-append at (ap length a) in
     (a, omega arith)
 
-pub flight-part : (row : List ℕ) (i : ℕ) → flightsText (firstFlights (i + 1) row) ≡ flightsText (firstFlights i row) ++ flightText (flightAt row i)
-unfolding firstFlights
-flight-part row i = rw add-one (flights-snoc (firstFlights i row) (flightAt row i))
+pub flight_part : (row : List ℕ) (i : ℕ) → flights_text (first_flights (i + 1) row) ≡ flights_text (first_flights i row) ++ flight_text (flight_at row i)
+unfolding first_flights
+flight_part row i = rw add-one (flights_snoc (first_flights i row) (flight_at row i))
 
-flights-grow : (row : List ℕ) (i k : ℕ) → length (flightsText (firstFlights i row)) ≤ length (flightsText (firstFlights (i + k) row))
-flights-grow row i zero = let z : i + 0 ≡ i = omega arith in rw z (omega arith)
-flights-grow row i (suc k) =
+flights_grow : (row : List ℕ) (i k : ℕ) → length (flights_text (first_flights i row)) ≤ length (flights_text (first_flights (i + k) row))
+flights_grow row i zero = let z : i + 0 ≡ i = omega arith in rw z (omega arith)
+flights_grow row i (suc k) =
     let z : i + suc k ≡ i + k + 1 = omega arith in
-    rw (z, flight-part row (i + k), length-append) (omega (arith, flights-grow row i k))
+    rw (z, flight_part row (i + k), length-append) (omega (arith, flights_grow row i k))
 
-pub flight-room : (row : List ℕ) (i n : ℕ) → i < n
-    → length (flightsText (firstFlights i row)) + length (flightText (flightAt row i)) ≤ length (flightsText (firstFlights n row))
-flight-room row i n h =
+pub flight_room : (row : List ℕ) (i n : ℕ) → i < n
+    → length (flights_text (first_flights i row)) + length (flight_text (flight_at row i)) ≤ length (flights_text (first_flights n row))
+flight_room row i n h =
     let z : i + 1 + (n - (i + 1)) ≡ n = omega arith in
-    let g = rw z at (flights-grow row (i + 1) (n - (i + 1))) in
-    let d = simp length-append at (ap length (flight-part row i)) in
+    let g = rw z at (flights_grow row (i + 1) (n - (i + 1))) in
+    let d = simp length-append at (ap length (flight_part row i)) in
     omega arith
 
-pub no-periods : periodsText 1 [] ≡ []
-unfolding periodsText
-no-periods = refl
+pub no_periods : periods_text 1 [] ≡ []
+unfolding periods_text
+no_periods = refl
 
-pub no-flights : (row : List ℕ) → flightsText (firstFlights 0 row) ≡ []
-unfolding flightsText firstFlights
-no-flights row = refl
+pub no_flights : (row : List ℕ) → flights_text (first_flights 0 row) ≡ []
+unfolding flights_text first_flights
+no_flights row = refl
 
 -- the whole
 
-length-sheet : (caps : List ℕ) (fs : List Flight) (k : ℕ)
-    → length (sheetText caps fs k) ≡ length (periodsText 1 caps) + length (flightsText fs) + length (closingText k) + 54
-unfolding sheetText
-length-sheet caps fs k = simp length-append (omega (arith, length-top, length-names))
+length_sheet : (caps : List ℕ) (fs : List Flight) (k : ℕ)
+    → length (sheet_text caps fs k) ≡ length (periods_text 1 caps) + length (flights_text fs) + length (closing_text k) + 54
+unfolding sheet_text
+length_sheet caps fs k = simp length-append (omega (arith, length_top, length_names))
 
-pub sheet-room : (caps : List ℕ) (fs : List Flight) (k : ℕ) {m : ℕ} → length (sheetText caps fs k) ≤ m
-    → length periodNames + length (periodsText 1 caps) + length (closingText k) + length flightNames + length (flightsText fs) ≤ m
-sheet-room caps fs k h = omega (arith, length-sheet caps fs k, length-top, length-names)
+pub sheet_room : (caps : List ℕ) (fs : List Flight) (k : ℕ) {m : ℕ} → length (sheet_text caps fs k) ≤ m
+    → length period_names + length (periods_text 1 caps) + length (closing_text k) + length flight_names + length (flights_text fs) ≤ m
+sheet_room caps fs k h = omega (arith, length_sheet caps fs k, length_top, length_names)
 
-pub sheet-put : {o o1 o2 o3 o4 o5 : List ℕ} {a1 a2 a3 a4 a5 : ℕ} (caps : List ℕ) (fs : List Flight) (k : ℕ) → length (sheetText caps fs k) ≤ length o
-    → Put o 0 periodNames a1 o1 → Put o1 a1 (periodsText 1 caps) a2 o2 → Put o2 a2 (closingText k) a3 o3 → Put o3 a3 flightNames a4 o4
-    → Put o4 a4 (flightsText fs) a5 o5 → Put o 0 (sheetText caps fs k) a5 o5
-unfolding sheetText
-sheet-put {o} caps fs k h d1 e2 e3 e4 e5 =
-    let g = sheet-room caps fs k h in
+pub sheet_put : {o o1 o2 o3 o4 o5 : List ℕ} {a1 a2 a3 a4 a5 : ℕ} (caps : List ℕ) (fs : List Flight) (k : ℕ) → length (sheet_text caps fs k) ≤ length o
+    → Put o 0 period_names a1 o1 → Put o1 a1 (periods_text 1 caps) a2 o2 → Put o2 a2 (closing_text k) a3 o3 → Put o3 a3 flight_names a4 o4
+    → Put o4 a4 (flights_text fs) a5 o5 → Put o 0 (sheet_text caps fs k) a5 o5
+unfolding sheet_text
+sheet_put {o} caps fs k h d1 e2 e3 e4 e5 =
+    let g = sheet_room caps fs k h in
     let d2 = then (omega arith) d1 e2 in
     let d3 = then (simp length-append (omega arith)) d2 e3 in
     let d4 = then (simp length-append (omega arith)) d3 e4 in
@@ -126,28 +126,28 @@ sheet-put {o} caps fs k h d1 e2 e3 e4 e5 =
 
 -- the outcomes of the call
 module _ (d : Day) (buffer : List ℕ) (place : ℕ) where
-  pub bad-day : valid d ≡ false → (BadDay ≡ writeAnswer d buffer place) × (buffer ≡ writeAfter d buffer place)
-  unfolding writeAnswer writeAfter
-  bad-day e = rw e (refl, refl)
+  pub bad_day : valid d ≡ false → (BadDay ≡ write_answer d buffer place) × (buffer ≡ write_after d buffer place)
+  unfolding write_answer write_after
+  bad_day e = rw e (refl, refl)
 
   module _ (v : valid d ≡ true) where
-    pub too_short : {k : ℕ} → k ≡ length (sheetOf d) → length buffer < place + k → (BadLength k ≡ writeAnswer d buffer place) × (buffer ≡ writeAfter d buffer place)
-    unfolding writeAnswer writeAfter
-    too_short e h = rw (v, e) (not-fits buffer (sheetOf d) place (rw e at h))
+    pub too_short : {k : ℕ} → k ≡ length (sheet_of d) → length buffer < place + k → (BadLength k ≡ write_answer d buffer place) × (buffer ≡ write_after d buffer place)
+    unfolding write_answer write_after
+    too_short e h = rw (v, e) (not_fits buffer (sheet_of d) place (rw e at h))
 
-    pub all-written : {k r : ℕ} {t out : List ℕ} → t ≡ sheetOf d → k ≡ length t → place + k ≤ length buffer → Put buffer place t r out
-        → (Written k ≡ writeAnswer d buffer place) × (out ≡ writeAfter d buffer place)
-    unfolding writeAnswer writeAfter
-    all-written {k = k} q e h p =
-        let z : k ≡ length (sheetOf d) = e ∙ ap length q in
-        rw (v, z) (it-fits buffer (sheetOf d) place (rw z at h) (rw q at p))
+    pub all_written : {k r : ℕ} {t out : List ℕ} → t ≡ sheet_of d → k ≡ length t → place + k ≤ length buffer → Put buffer place t r out
+        → (Written k ≡ write_answer d buffer place) × (out ≡ write_after d buffer place)
+    unfolding write_answer write_after
+    all_written {k = k} q e h p =
+        let z : k ≡ length (sheet_of d) = e ∙ ap length q in
+        rw (v, z) (it_fits buffer (sheet_of d) place (rw z at h) (rw q at p))
 
 -- what the writer's lines sum up to
-pub needed-is : (d : Day) {p f k : ℕ} → p ≡ length (periodsText 1 d.capacities) → f ≡ length (flightsText (firstFlights (N d) d.flights))
-    → k ≡ length (closingText d.closing) → p + f + k + 54 ≡ length (sheetOf d)
-unfolding sheetOf flightsOf
-needed-is d e g h = omega (arith, length-sheet d.capacities (firstFlights (N d) d.flights) d.closing, e, g, h)
+pub needed_is : (d : Day) {p f k : ℕ} → p ≡ length (periods_text 1 d.capacities) → f ≡ length (flights_text (first_flights (N d) d.flights))
+    → k ≡ length (closing_text d.closing) → p + f + k + 54 ≡ length (sheet_of d)
+unfolding sheet_of flights_of
+needed_is d e g h = omega (arith, length_sheet d.capacities (first_flights (N d) d.flights) d.closing, e, g, h)
 
-pub text_of : (d : Day) (n : ℕ) → n ≡ N d → sheetText d.capacities (firstFlights n d.flights) d.closing ≡ sheetOf d
-unfolding sheetOf flightsOf
+pub text_of : (d : Day) (n : ℕ) → n ≡ N d → sheet_text d.capacities (first_flights n d.flights) d.closing ≡ sheet_of d
+unfolding sheet_of flights_of
 text_of d n e = rw e

@@ -3,13 +3,13 @@
 use Rattle.std.specs.Prelude.{ℕ, List, cond}
 use Rattle.answers.specs.declared.Answer.{Answer}
 use Rattle.answers.specs.declared.Answer.TheVariants.{BadDay}
-use Rattle.text.specs.Writing.{textAnswer, textAfter}
+use Rattle.text.specs.Writing.{text_answer, text_after}
 use Rattle.day.specs.Day.{Day, valid}
-use Rattle.sheet.specs.Text.{sheetOf}
+use Rattle.sheet.specs.Text.{sheet_of}
 
-unfoldable pub writeAnswer : Day → List ℕ → ℕ → Answer
-writeAnswer d buffer place = cond (valid d) (textAnswer buffer place (sheetOf d)) BadDay
+unfoldable pub write_answer : Day → List ℕ → ℕ → Answer
+write_answer d buffer place = cond (valid d) (text_answer buffer place (sheet_of d)) BadDay
 
 -- the buffer afterwards
-unfoldable pub writeAfter : Day → List ℕ → ℕ → List ℕ
-writeAfter d buffer place = cond (valid d) (textAfter buffer place (sheetOf d)) buffer
+unfoldable pub write_after : Day → List ℕ → ℕ → List ℕ
+write_after d buffer place = cond (valid d) (text_after buffer place (sheet_of d)) buffer

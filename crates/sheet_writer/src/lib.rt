@@ -1,10 +1,10 @@
 // The writer of day sheets: it puts a day's sheet into a lent byte buffer, from a given place on.
 ghost use Rattle.std.specs.Prelude.{◌≡◌, ◌+◌, ◌*◌, ◌≤◌, ◌<◌, length};
 ghost use Rattle.text.specs.Writing.{Put};
-ghost use Rattle.day.specs.Day.{lent, hasLine, width, mostPeriods, mostFlights};
-ghost use Rattle.day.specs.Flights.{firstFlights};
-ghost use Rattle.sheet.specs.Text.{periodNames, flightNames, closingName, closingText, limitText, periodText, beforeLimit, flightText, periodsText, flightsText, sheetText};
-ghost use Rattle.sheet_writer.specs.Write.{writeAnswer, writeAfter};
+ghost use Rattle.day.specs.Day.{lent, has_line, width, most_periods, most_flights};
+ghost use Rattle.day.specs.Flights.{first_flights};
+ghost use Rattle.sheet.specs.Text.{period_names, flight_names, closing_name, closing_text, limit_text, period_text, before_limit, flight_text, periods_text, flights_text, sheet_text};
+ghost use Rattle.sheet_writer.specs.Write.{write_answer, write_after};
 
 use answers::Answer;
 use day::{Flight, MISSING, UNLIMITED, flight_at, flight_count, is_valid, wide};
@@ -22,8 +22,8 @@ const NAMES_LEN: usize = PERIOD_NAMES_LEN + FLIGHT_NAMES_LEN;
 
 // The limit of a flight line, at the front of out.
 fn put_limit(out: &mut [u8], limit: u32) -> usize
-    requires { length (limitText limit) ≤ length out.old }
-    ensures { Put out.old 0 (limitText limit) result out.new }
+    requires { length (limit_text limit) ≤ length out.old }
+    ensures { Put out.old 0 (limit_text limit) result out.new }
 {
     if limit == MISSING {
         out[0] = DASH;
@@ -34,7 +34,7 @@ fn put_limit(out: &mut [u8], limit: u32) -> usize
 }
 
 fn limit_len(limit: u32) -> usize
-    ensures { (result ≡ length (limitText limit)) × (result ≤ 21) }
+    ensures { (result ≡ length (limit_text limit)) × (result ≤ 21) }
 {
     if limit == MISSING {
         return 2;
@@ -44,7 +44,7 @@ fn limit_len(limit: u32) -> usize
 
 // The numbers of a flight line before its limit.
 fn values_of(f: Flight) -> [usize; 5]
-    ensures { result ≡ beforeLimit f }
+    ensures { result ≡ before_limit f }
 {
     [
         wide(f.number),
@@ -57,8 +57,8 @@ fn values_of(f: Flight) -> [usize; 5]
 
 // The limit from `at` on: the part that starts there is lent on.
 fn put_limit_at(out: &mut [u8], at: usize, limit: u32) -> usize
-    requires { at + length (limitText limit) ≤ length out.old }
-    ensures { Put out.old at (limitText limit) result out.new }
+    requires { at + length (limit_text limit) ≤ length out.old }
+    ensures { Put out.old at (limit_text limit) result out.new }
 {
     let k = put_limit(&mut out[at..], limit);
     at + k
@@ -66,8 +66,8 @@ fn put_limit_at(out: &mut [u8], at: usize, limit: u32) -> usize
 
 // A flight line, at the front of out.
 fn put_flight(out: &mut [u8], f: Flight) -> usize
-    requires { length (flightText f) ≤ length out.old }
-    ensures { Put out.old 0 (flightText f) result out.new }
+    requires { length (flight_text f) ≤ length out.old }
+    ensures { Put out.old 0 (flight_text f) result out.new }
 {
     let values = values_of(f);
     let at = put_separated(out, &values);
@@ -76,7 +76,7 @@ fn put_flight(out: &mut [u8], f: Flight) -> usize
 }
 
 fn flight_len(f: Flight) -> usize
-    ensures { (result ≡ length (flightText f)) × (result ≤ 147) }
+    ensures { (result ≡ length (flight_text f)) × (result ≤ 147) }
 {
     let values = values_of(f);
     separated_len(&values) + limit_len(f.limit) + number_len(wide(f.late))
@@ -84,8 +84,8 @@ fn flight_len(f: Flight) -> usize
 
 // A flight line from `at` on.
 fn put_flight_at(out: &mut [u8], at: usize, f: Flight) -> usize
-    requires { at + length (flightText f) ≤ length out.old }
-    ensures { Put out.old at (flightText f) result out.new }
+    requires { at + length (flight_text f) ≤ length out.old }
+    ensures { Put out.old at (flight_text f) result out.new }
 {
     let k = put_flight(&mut out[at..], f);
     at + k
@@ -93,23 +93,23 @@ fn put_flight_at(out: &mut [u8], at: usize, f: Flight) -> usize
 
 // The line of period j from `at` on.
 fn put_period_at(out: &mut [u8], at: usize, j: usize, capacity: usize) -> usize
-    requires { at + length (periodText j capacity) ≤ length out.old }
-    ensures { Put out.old at (periodText j capacity) result out.new }
+    requires { at + length (period_text j capacity) ≤ length out.old }
+    ensures { Put out.old at (period_text j capacity) result out.new }
 {
     let values = [j];
     put_line_at(out, at, &values, capacity)
 }
 
 fn period_len(j: usize, capacity: usize) -> usize
-    ensures { (result ≡ length (periodText j capacity)) × (result ≤ 42) }
+    ensures { (result ≡ length (period_text j capacity)) × (result ≤ 42) }
 {
     let values = [j];
     line_len(&values, capacity)
 }
 
 fn put_periods(out: &mut [u8], start: usize, capacities: &[u32]) -> usize
-    requires { (start + length (periodsText 1 capacities.now) ≤ length out.old) × (length capacities.now ≤ mostPeriods) }
-    ensures { Put out.old start (periodsText 1 capacities.now) result out.new }
+    requires { (start + length (periods_text 1 capacities.now) ≤ length out.old) × (length capacities.now ≤ most_periods) }
+    ensures { Put out.old start (periods_text 1 capacities.now) result out.new }
 {
     let mut at = start;
     let mut i: usize = 0;
@@ -121,8 +121,8 @@ fn put_periods(out: &mut [u8], start: usize, capacities: &[u32]) -> usize
 }
 
 fn periods_len(capacities: &[u32]) -> usize
-    requires { length capacities.now ≤ mostPeriods }
-    ensures { (result ≡ length (periodsText 1 capacities.now)) × (result ≤ 4032) }
+    requires { length capacities.now ≤ most_periods }
+    ensures { (result ≡ length (periods_text 1 capacities.now)) × (result ≤ 4032) }
 {
     let mut sum: usize = 0;
     let mut i: usize = 0;
@@ -134,8 +134,8 @@ fn periods_len(capacities: &[u32]) -> usize
 }
 
 fn put_flights(out: &mut [u8], start: usize, flights: &[u32], n: usize) -> usize
-    requires { (start + length (flightsText (firstFlights n flights.now)) ≤ length out.old) × (n ≤ mostFlights) × (n * width ≤ length flights.now) }
-    ensures { Put out.old start (flightsText (firstFlights n flights.now)) result out.new }
+    requires { (start + length (flights_text (first_flights n flights.now)) ≤ length out.old) × (n ≤ most_flights) × (n * width ≤ length flights.now) }
+    ensures { Put out.old start (flights_text (first_flights n flights.now)) result out.new }
 {
     let mut at = start;
     let mut i: usize = 0;
@@ -147,8 +147,8 @@ fn put_flights(out: &mut [u8], start: usize, flights: &[u32], n: usize) -> usize
 }
 
 fn flights_len(flights: &[u32], n: usize) -> usize
-    requires { (n ≤ mostFlights) × (n * width ≤ length flights.now) }
-    ensures { (result ≡ length (flightsText (firstFlights n flights.now))) × (result ≤ 18816) }
+    requires { (n ≤ most_flights) × (n * width ≤ length flights.now) }
+    ensures { (result ≡ length (flights_text (first_flights n flights.now))) × (result ≤ 18816) }
 {
     let mut sum: usize = 0;
     let mut i: usize = 0;
@@ -160,38 +160,38 @@ fn flights_len(flights: &[u32], n: usize) -> usize
 }
 
 fn put_period_names(out: &mut [u8]) -> usize
-    requires { length periodNames ≤ length out.old }
-    ensures { Put out.old 0 periodNames result out.new }
+    requires { length period_names ≤ length out.old }
+    ensures { Put out.old 0 period_names result out.new }
 {
     put_fixed(out, &PERIOD_NAMES)
 }
 
 fn put_flight_names(out: &mut [u8], at: usize) -> usize
-    requires { at + length flightNames ≤ length out.old }
-    ensures { Put out.old at flightNames result out.new }
+    requires { at + length flight_names ≤ length out.old }
+    ensures { Put out.old at flight_names result out.new }
 {
     put_fixed_at(out, at, &FLIGHT_NAMES)
 }
 
 // Whether a closing line is there.
 fn has_line(closing: u32) -> bool
-    ensures { result ≡ hasLine closing }
+    ensures { result ≡ has_line closing }
 {
     closing < UNLIMITED
 }
 
 // What the closing line begins with, from `at` on.
 fn put_closing_name(out: &mut [u8], at: usize) -> usize
-    requires { at + length closingName ≤ length out.old }
-    ensures { Put out.old at closingName result out.new }
+    requires { at + length closing_name ≤ length out.old }
+    ensures { Put out.old at closing_name result out.new }
 {
     put_fixed_at(out, at, &CLOSING_NAME)
 }
 
 // The closing line from `at` on, if there is one.
 fn put_closing(out: &mut [u8], at: usize, closing: u32) -> usize
-    requires { at + length (closingText closing) ≤ length out.old }
-    ensures { Put out.old at (closingText closing) result out.new }
+    requires { at + length (closing_text closing) ≤ length out.old }
+    ensures { Put out.old at (closing_text closing) result out.new }
 {
     if has_line(closing) {
         let k = put_closing_name(out, at);
@@ -201,7 +201,7 @@ fn put_closing(out: &mut [u8], at: usize, closing: u32) -> usize
 }
 
 fn closing_len(closing: u32) -> usize
-    ensures { (result ≡ length (closingText closing)) × (result ≤ 29) }
+    ensures { (result ≡ length (closing_text closing)) × (result ≤ 29) }
 {
     if has_line(closing) {
         return CLOSING_NAME_LEN + number_len(wide(closing));
@@ -211,8 +211,8 @@ fn closing_len(closing: u32) -> usize
 
 // The whole sheet, at the front of out.
 fn fill_sheet(out: &mut [u8], capacities: &[u32], flights: &[u32], n: usize, closing: u32) -> usize
-    requires { (length (sheetText capacities.now (firstFlights n flights.now) closing) ≤ length out.old) × (length capacities.now ≤ mostPeriods) × (n ≤ mostFlights) × (n * width ≤ length flights.now) }
-    ensures { Put out.old 0 (sheetText capacities.now (firstFlights n flights.now) closing) result out.new }
+    requires { (length (sheet_text capacities.now (first_flights n flights.now) closing) ≤ length out.old) × (length capacities.now ≤ most_periods) × (n ≤ most_flights) × (n * width ≤ length flights.now) }
+    ensures { Put out.old 0 (sheet_text capacities.now (first_flights n flights.now) closing) result out.new }
 {
     let a = put_period_names(out);
     let b = put_periods(out, a, capacities);
@@ -229,8 +229,8 @@ pub fn write_sheet(
     text: &mut [u8],
     place: usize,
 ) -> Answer
-    ensures value { result ≡ writeAnswer (lent capacities.entry flights.entry closing) text.old place }
-    ensures text_after { text.new ≡ writeAfter (lent capacities.entry flights.entry closing) text.old place }
+    ensures value { result ≡ write_answer (lent capacities.entry flights.entry closing) text.old place }
+    ensures text_after { text.new ≡ write_after (lent capacities.entry flights.entry closing) text.old place }
 {
     if !is_valid(capacities, flights, closing) {
         return Answer::BadDay;

@@ -5,17 +5,17 @@ use Rattle.std.specs.Prelude.{ℕ, zero, suc, ◌+◌, ◌/◌, ◌%◌, cond, L
 abbrev pub comma : ℕ
 comma = 44
 
-abbrev pub lineEnd : ℕ
-lineEnd = 10
+abbrev pub line_end : ℕ
+line_end = 10
 
 -- the decimal digits of n; the first argument bounds the recursion, and n itself is enough
-unfoldable pub digitsIn : ℕ → ℕ → List ℕ
-digitsIn zero n = (48 + n) ∷ []
-digitsIn (suc k) n = cond (ltb n 10) ((48 + n) ∷ []) (digitsIn k (n / 10) ++ ((48 + n % 10) ∷ []))
+unfoldable pub digits_in : ℕ → ℕ → List ℕ
+digits_in zero n = (48 + n) ∷ []
+digits_in (suc k) n = cond (ltb n 10) ((48 + n) ∷ []) (digits_in k (n / 10) ++ ((48 + n % 10) ∷ []))
 
 -- "Numbers are base ten, .. no leading zero except 0 itself."
 unfoldable pub digits : ℕ → List ℕ
-digits n = digitsIn n n
+digits n = digits_in n n
 
 -- a number and the byte that ends its field
 unfoldable pub ended : ℕ → ℕ → List ℕ
@@ -28,4 +28,4 @@ separated (n ∷ ns) = ended comma n ++ separated ns
 
 -- a line of values: numbers and a last number
 unfoldable pub line : List ℕ → ℕ → List ℕ
-line numbers last = separated numbers ++ ended lineEnd last
+line numbers last = separated numbers ++ ended line_end last

@@ -10,9 +10,9 @@ starts_with [] (y ∷ ys) = false
 starts_with (x ∷ xs) (y ∷ ys) = eqb x y && starts_with xs ys
 
 -- "refusal,first,second" and the end byte
-unfoldable pub refusalNames : List ℕ
-refusalNames = 114 ∷ 101 ∷ 102 ∷ 117 ∷ 115 ∷ 97 ∷ 108 ∷ 44 ∷ 102 ∷ 105 ∷ 114 ∷ 115 ∷ 116 ∷ 44 ∷ 115 ∷ 101 ∷ 99 ∷ 111 ∷ 110 ∷ 100 ∷ 10 ∷ []
+unfoldable pub refusal_names : List ℕ
+refusal_names = 114 ∷ 101 ∷ 102 ∷ 117 ∷ 115 ∷ 97 ∷ 108 ∷ 44 ∷ 102 ∷ 105 ∷ 114 ∷ 115 ∷ 116 ∷ 44 ∷ 115 ∷ 101 ∷ 99 ∷ 111 ∷ 110 ∷ 100 ∷ 10 ∷ []
 
 -- "A refusal is written as `refusal,first,second` and a line of those three numbers"
-unfoldable pub refusalText : ℕ → ℕ → ℕ → List ℕ
-refusalText number first second = refusalNames ++ line (number ∷ first ∷ []) second
+unfoldable pub refusal_text : ℕ → ℕ → ℕ → List ℕ
+refusal_text number first second = refusal_names ++ line (number ∷ first ∷ []) second

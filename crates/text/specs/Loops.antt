@@ -1,7 +1,7 @@
 -- What the loops of the readers and writers know where a turn begins. Only proofs cite it.
 -- Assumes nothing.
 use Rattle.std.specs.Prelude.{ℕ, zero, suc, ◌+◌, ◌-◌, ◌/◌, ◌%◌, ◌≤◌, ◌≡◌, List, [], ◌∷◌, ◌++◌, length, take, drop}
-use Rattle.text.specs.Reading.{withFront, separatedAt}
+use Rattle.text.specs.Reading.{with_front, separated_at}
 use Rattle.text.specs.Writing.{Put}
 
 -- the loop that reads separated numbers: i of them are read, the next one begins at `next`, and the rest of the row is as it was
@@ -10,7 +10,7 @@ pub record Walk (s : List ℕ) (at most : ℕ) (row₀ row : List ℕ) (i next :
   pub long : length row ≡ length row₀
   pub within : next ≤ length s
   pub rest : drop i row ≡ drop i row₀
-  pub so_far : separatedAt (length row₀) most s at ≡ withFront (take i row) (separatedAt (length row₀ - i) most s next)
+  pub so_far : separated_at (length row₀) most s at ≡ with_front (take i row) (separated_at (length row₀ - i) most s next)
 
 -- the last k digits of n, with zeros in front: what the writer's loop has written
 unfoldable pub dec : ℕ → ℕ → List ℕ

@@ -28,5 +28,5 @@ pub record FieldsHere (k most : ℕ) (s : List ℕ) (at : ℕ) (ns : List ℕ) (
 pub record LineHere (k most : ℕ) (s : List ℕ) (at : ℕ) (ns : List ℕ) (last next : ℕ) : Type 0 where
   pub count : length ns ≡ k
   pub short : AllShort most ns
-  pub last-short : length (digits last) ≤ most
+  pub last_short : length (digits last) ≤ most
   pub stands : Stands (line ns last) s at next

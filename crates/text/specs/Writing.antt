@@ -13,12 +13,12 @@ unfoldable pub fits : List ℕ → ℕ → List ℕ → Bool
 fits buffer place text = leb (place + length text) (length buffer)
 
 -- "bytes written, 0 (texts)", or 7 with "length needed (for a text its own bytes, the place not added)"
-unfoldable pub textAnswer : List ℕ → ℕ → List ℕ → Answer
-textAnswer buffer place text = cond (fits buffer place text) (Written (length text)) (BadLength (length text))
+unfoldable pub text_answer : List ℕ → ℕ → List ℕ → Answer
+text_answer buffer place text = cond (fits buffer place text) (Written (length text)) (BadLength (length text))
 
 -- the buffer afterwards
-unfoldable pub textAfter : List ℕ → ℕ → List ℕ → List ℕ
-textAfter buffer place text = cond (fits buffer place text) (placed buffer place text) buffer
+unfoldable pub text_after : List ℕ → ℕ → List ℕ → List ℕ
+text_after buffer place text = cond (fits buffer place text) (placed buffer place text) buffer
 
 -- what the line writers promise (only inner contracts cite it): the text stands in the buffer from `at` on, and r is the place behind it
 pub record Put (before : List ℕ) (at : ℕ) (text : List ℕ) (r : ℕ) (after : List ℕ) : Type 0 where

@@ -1,9 +1,9 @@
 // Numbers and fixed lines as bytes: read from a slice, and written to the front of a lent part.
 ghost use Rattle.std.specs.Prelude.{◌≡◌, ◌+◌, ◌-◌, ◌*◌, ◌%◌, ◌≤◌, ◌<◌, length, drop};
 ghost use Rattle.text.specs.Digits.{digits, ended, separated, line};
-ghost use Rattle.text.specs.Reading.{isDigit, run, value, number, field, separatedAt, place_of, rowAfter, line_at, last_of};
-ghost use Rattle.text.specs.Fixed.{starts_with, refusalNames, refusalText};
-ghost use Rattle.text.specs.Writing.{Put, textAnswer, textAfter};
+ghost use Rattle.text.specs.Reading.{is_digit, run, value, number, field, separated_at, place_of, row_after, line_at, last_of};
+ghost use Rattle.text.specs.Fixed.{starts_with, refusal_names, refusal_text};
+ghost use Rattle.text.specs.Writing.{Put, text_answer, text_after};
 
 use answers::Answer;
 
@@ -26,7 +26,7 @@ pub enum Place {
 }
 
 fn is_digit(d: u8) -> bool
-    ensures { result ≡ isDigit d }
+    ensures { result ≡ is_digit d }
 {
     if 48 <= d { d <= 57 } else { false }
 }
@@ -111,8 +111,8 @@ pub fn field_at(s: &[u8], at: usize, most: usize, e: u8) -> Number
 // As many numbers as the row has, each with a comma behind it, into the row; the place behind them.
 pub fn separated_at(s: &[u8], at: usize, most: usize, numbers: &mut [u32]) -> Place
     requires { (at ≤ length s.now) × (most ≤ 9) }
-    ensures value { result ≡ place_of (separatedAt (length numbers.old) most s.now at) }
-    ensures numbers_after { numbers.new ≡ rowAfter (separatedAt (length numbers.old) most s.now at) numbers.old }
+    ensures value { result ≡ place_of (separated_at (length numbers.old) most s.now at) }
+    ensures numbers_after { numbers.new ≡ row_after (separated_at (length numbers.old) most s.now at) numbers.old }
 {
     let mut next = at;
     let mut i: usize = 0;
@@ -132,7 +132,7 @@ pub fn separated_at(s: &[u8], at: usize, most: usize, numbers: &mut [u32]) -> Pl
 pub fn line_at(s: &[u8], at: usize, most: usize, numbers: &mut [u32]) -> Number
     requires { (at ≤ length s.now) × (most ≤ 9) }
     ensures value { result ≡ last_of (line_at (length numbers.old) most s.now at) }
-    ensures numbers_after { numbers.new ≡ rowAfter (separatedAt (length numbers.old) most s.now at) numbers.old }
+    ensures numbers_after { numbers.new ≡ row_after (separated_at (length numbers.old) most s.now at) numbers.old }
 {
     let p = separated_at(s, at, most, numbers);
     let Place::Behind { next } = p else {
@@ -291,16 +291,16 @@ const REFUSAL_NAMES_LEN: usize = 21;
 const REFUSAL_NAMES: [u8; 21] = *b"refusal,first,second\n";
 
 fn put_refusal_names(out: &mut [u8]) -> usize
-    requires { length refusalNames ≤ length out.old }
-    ensures { Put out.old 0 refusalNames result out.new }
+    requires { length refusal_names ≤ length out.old }
+    ensures { Put out.old 0 refusal_names result out.new }
 {
     put_fixed(out, &REFUSAL_NAMES)
 }
 
 // The text of a refusal, at the front of the buffer.
 pub fn write_refusal(number: usize, first: usize, second: usize, text: &mut [u8]) -> Answer
-    ensures value { result ≡ textAnswer text.old 0 (refusalText number first second) }
-    ensures text_after { text.new ≡ textAfter text.old 0 (refusalText number first second) }
+    ensures value { result ≡ text_answer text.old 0 (refusal_text number first second) }
+    ensures text_after { text.new ≡ text_after text.old 0 (refusal_text number first second) }
 {
     let values = [number, first];
     let needed = line_len(&values, second) + REFUSAL_NAMES_LEN;

@@ -1,7 +1,7 @@
 -- The capacities copied, and the closing number behind them.
 -- Assumes nothing.
 use borrow.Author.Rules.{rules}
-use Rattle.completion.proofs.Steps.{places-made}
+use Rattle.completion.proofs.Steps.{places_made}
 use Rattle.completion.proofs.all_places.Statement.{statement}
 use Rattle.completion.proofs.all_places.Tie as tie
 
@@ -22,9 +22,9 @@ same_length c = search rules
 
 returns : tie.Need-returns
 returns c =
-    let at-copy-front = c.before.before.before in
-    let at-start = at-copy-front.before.before.before.before in
-    places-made at-start.args.left.now at-start.args.closing at-copy-front.copy-front.ensures at-start.requires.1 c.Counted-of.ensures
+    let at_copy_front = c.before.before.before in
+    let at_start = at_copy_front.before.before.before.before in
+    places_made at_start.args.left.now at_start.args.closing at_copy_front.copy-front.ensures at_start.requires.1 c.Counted-of.ensures
 
 pub all-places-spec : {M : Type 1} → statement M
 all-places-spec =

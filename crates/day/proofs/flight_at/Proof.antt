@@ -2,7 +2,7 @@
 use native.Mathlib.Omega.{arith}
 use Prim.Native.Nat.{◌+◌, ◌*◌}
 use mathlib.Core.Path.{◌≡◌}
-use Rattle.day.specs.Day.{width, flightAt}
+use Rattle.day.specs.Day.{width, flight_at}
 use borrow.Author.Rules.{rules}
 use Rattle.day.proofs.flight_at.Statement.{statement}
 use Rattle.day.proofs.flight_at.Tie as tie
@@ -71,11 +71,11 @@ shared-slice-read-t30 : tie.Need-shared-slice-read-t30
 shared-slice-read-t30 c = search rules
 
 returns : tie.Need-returns
-unfolding flightAt
+unfolding flight_at
 returns c =
     let at_mul = c.before.before.before.before.before in
-    let at-start = at_mul.before.before in
-    let e : at-start.args.i * width + 0 ≡ at-start.args.i * width = omega arith in rw e
+    let at_start = at_mul.before.before in
+    let e : at_start.args.i * width + 0 ≡ at_start.args.i * width = omega arith in rw e
 
 pub flight-at-spec : {M : Type 1} → statement M
 flight-at-spec =

@@ -1,11 +1,11 @@
 -- The length divided by the width. Assumes nothing.
 use mathlib.Core.Path.{refl}
-use Rattle.day.specs.Day.{flightCount}
+use Rattle.day.specs.Day.{flight_count}
 use Rattle.day.proofs.flight_count.Statement.{statement}
 use Rattle.day.proofs.flight_count.Tie as tie
 
 returns : tie.Need-returns
-unfolding flightCount
+unfolding flight_count
 returns c = refl
 
 pub flight-count-spec : {M : Type 1} → statement M

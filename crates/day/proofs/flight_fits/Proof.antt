@@ -1,5 +1,5 @@
 -- The tests of the seven numbers, joined in the order of the definition. Assumes nothing.
-use Rattle.day.specs.Day.{flightFits}
+use Rattle.day.specs.Day.{flight_fits}
 use borrow.Author.Rules.{rules}
 use Rattle.day.proofs.flight_fits.Statement.{statement}
 use Rattle.day.proofs.flight_fits.Tie as tie
@@ -44,7 +44,7 @@ both-requires-6 : tie.Need-both-requires-6
 both-requires-6 c κs = search rules
 
 returns : tie.Need-returns
-unfolding flightFits
+unfolding flight_fits
 returns c =
     let limited = c.before.before in
     let jumped = limited.before.before in

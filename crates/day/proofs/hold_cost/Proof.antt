@@ -2,9 +2,9 @@
 -- Assumes nothing.
 use native.Mathlib.Omega.{arith}
 use Prim.Native.Nat.{◌+◌}
-use Rattle.day.specs.Day.{holdCost}
-use Rattle.day.proofs.Costs.{product-fits}
-use Rattle.assignment.proofs.Tests.{gate-lt, gate-ge}
+use Rattle.day.specs.Day.{hold_cost}
+use Rattle.day.proofs.Costs.{product_fits}
+use Rattle.assignment.proofs.Tests.{gate_lt, gate_ge}
 use borrow.Author.Rules.{rules}
 use Rattle.day.proofs.hold_cost.Statement.{statement}
 use Rattle.day.proofs.hold_cost.Tie as tie
@@ -13,7 +13,7 @@ wide-requires : tie.Need-wide-requires
 wide-requires c κs = search rules
 
 mul-run : tie.Need-overflow-mul-run
-mul-run c = rw c.wide.ensures (omega (arith, product-fits c.before.args.f.rate c.before.args.hold 0 (omega arith) c.before.requires (omega arith)))
+mul-run c = rw c.wide.ensures (omega (arith, product_fits c.before.args.f.rate c.before.args.hold 0 (omega arith) c.before.requires (omega arith)))
 
 wide-requires-2 : tie.Need-wide-requires-2
 wide-requires-2 c κs = search rules
@@ -32,27 +32,27 @@ add-result c =
     let rated = c.before.before.before.before in
     let s = rated.before in
     rw (rated.wide.ensures, c.wide4.ensures)
-    (omega (arith, product-fits s.args.f.rate s.args.hold s.args.f.jump (omega arith) s.requires (omega arith)))
+    (omega (arith, product_fits s.args.f.rate s.args.hold s.args.f.jump (omega arith) s.requires (omega arith)))
 
 returns : tie.Need-returns
-unfolding holdCost
+unfolding hold_cost
 returns c =
     let lated = c.before.before in
     let aftered = lated.before in
     let rated = aftered.before in
     let a = rated.before.args in
     let over = rw (aftered.wide2.ensures, lated.wide3.ensures) at c.before.if1.true in
-    rw (rated.wide.ensures, c.wide4.ensures) (omega (arith, gate-lt a.f.after (a.f.late + a.hold) a.f.jump over))
+    rw (rated.wide.ensures, c.wide4.ensures) (omega (arith, gate_lt a.f.after (a.f.late + a.hold) a.f.jump over))
 
 returns-2 : tie.Need-returns-2
-unfolding holdCost
+unfolding hold_cost
 returns-2 c =
     let lated = c.before in
     let aftered = lated.before in
     let rated = aftered.before in
     let a = rated.before.args in
     let under = rw (aftered.wide2.ensures, lated.wide3.ensures) at c.if1.false in
-    rw rated.wide.ensures (omega (arith, gate-ge a.f.after (a.f.late + a.hold) a.f.jump under))
+    rw rated.wide.ensures (omega (arith, gate_ge a.f.after (a.f.late + a.hold) a.f.jump under))
 
 pub hold-cost-spec : {M : Type 1} → statement M
 hold-cost-spec =

@@ -2,7 +2,7 @@
 -- Assumes nothing.
 use mathlib.Core.Path.{◌≡◌, sym, ap, ◌∙◌}
 use Rattle.choice.specs.declared.Which.TheVariants.{First, Second, Neither}
-use Rattle.desk.specs.Desk.{rowNumber}
+use Rattle.desk.specs.Desk.{row_number}
 use borrow.Author.Rules.{rules}
 use Rattle.desk.proofs.hold_desk_choice.Statement.{statement}
 use Rattle.desk.proofs.hold_desk_choice.Tie as tie
@@ -20,13 +20,13 @@ enum-told-3 : tie.Need-enum-told-3
 enum-told-3 c = search rules
 
 returns : tie.Need-returns
-returns c = let e : c.before.before.which-row.result ≡ First = cc in sym (ap rowNumber (sym c.before.before.which-row.ensures ∙ e))
+returns c = let e : c.before.before.which-row.result ≡ First = cc in sym (ap row_number (sym c.before.before.which-row.ensures ∙ e))
 
 returns-2 : tie.Need-returns-2
-returns-2 c = let e : c.before.before.which-row.result ≡ Second = cc in sym (ap rowNumber (sym c.before.before.which-row.ensures ∙ e))
+returns-2 c = let e : c.before.before.which-row.result ≡ Second = cc in sym (ap row_number (sym c.before.before.which-row.ensures ∙ e))
 
 returns-3 : tie.Need-returns-3
-returns-3 c = let e : c.before.before.which-row.result ≡ Neither = cc in sym (ap rowNumber (sym c.before.before.which-row.ensures ∙ e))
+returns-3 c = let e : c.before.before.which-row.result ≡ Neither = cc in sym (ap row_number (sym c.before.before.which-row.ensures ∙ e))
 
 pub hold-desk-choice-spec : {M : Type 1} → statement M
 hold-desk-choice-spec =

@@ -5,42 +5,42 @@ use Prim.Native.Nat.{◌≤◌, ◌-◌}
 use Rattle.examples.proofs.run_all.Statement.{statement}
 use Rattle.examples.proofs.run_all.Tie as tie
 
-abbrev invariant-loop : tie.invariant-loop
-invariant-loop input at₀ examples₀ at examples = examples ≤ 200
+abbrev invariant_loop : tie.invariant_loop
+invariant_loop input at₀ examples₀ at examples = examples ≤ 200
 
-abbrev decreases-loop : tie.decreases-loop
-decreases-loop input at₀ examples₀ at examples = 200 - examples
+abbrev decreases_loop : tie.decreases_loop
+decreases_loop input at₀ examples₀ at examples = 200 - examples
 
-loop-holds : tie.Need-loop-init invariant-loop decreases-loop
+loop-holds : tie.Need-loop-init invariant_loop decreases_loop
 loop-holds c = search rules
 
-add-examples : tie.Need-overflow-add-examples invariant-loop decreases-loop
+add-examples : tie.Need-overflow-add-examples invariant_loop decreases_loop
 add-examples c = search rules
 
-run-example-requires : tie.Need-run-example-requires invariant-loop decreases-loop
+run-example-requires : tie.Need-run-example-requires invariant_loop decreases_loop
 run-example-requires c κs = search rules
 
-loop-less : tie.Need-loop-smaller invariant-loop decreases-loop
+loop-less : tie.Need-loop-smaller invariant_loop decreases_loop
 loop-less c = search rules
 
-loop-again : tie.Need-loop-preserved invariant-loop decreases-loop
+loop-again : tie.Need-loop-preserved invariant_loop decreases_loop
 loop-again c = search rules
 
-loop-less-2 : tie.Need-loop-smaller-2 invariant-loop decreases-loop
+loop-less-2 : tie.Need-loop-smaller-2 invariant_loop decreases_loop
 loop-less-2 c = search rules
 
-loop-again-2 : tie.Need-loop-preserved-2 invariant-loop decreases-loop
+loop-again-2 : tie.Need-loop-preserved-2 invariant_loop decreases_loop
 loop-again-2 c = search rules
 
-returns : tie.Need-returns invariant-loop decreases-loop
+returns : tie.Need-returns invariant_loop decreases_loop
 returns c = search rules
 
 pub run-all-spec : {M : Type 1} → statement M
 run-all-spec =
     tie.close
     (tie.spec
-    invariant-loop
-    decreases-loop
+    invariant_loop
+    decreases_loop
     loop-holds
     add-examples
     run-example-requires

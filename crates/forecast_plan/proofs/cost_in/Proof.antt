@@ -4,7 +4,7 @@ use mathlib.Core.Path.{sym}
 use Prim.Native.Nat.{◌≤◌}
 use native.Mathlib.Omega.{arith}
 use Rattle.forecast_plan.specs.Loop.{weighed}
-use Rattle.forecast_plan.proofs.Choosing.{ground-fits, rates-fit, air-fits}
+use Rattle.forecast_plan.proofs.Choosing.{ground_fits, rates_fit, air_fits}
 use borrow.Author.Rules.{rules}
 use Rattle.forecast_plan.proofs.cost_in.Statement.{statement}
 use Rattle.forecast_plan.proofs.cost_in.Tie as tie
@@ -24,12 +24,12 @@ mul-result c = search rules
 mul-result-2 : tie.Need-overflow-mul-result-2
 mul-result-2 c =
     let p = c.before.before.before.requires in
-    omega (arith, ground-fits {rate = c.before.wide.result} (omega (arith, c.before.wide.ensures, p.0)) p.3)
+    omega (arith, ground_fits {rate = c.before.wide.result} (omega (arith, c.before.wide.ensures, p.0)) p.3)
 
 mul-result-3 : tie.Need-overflow-mul-result-3
 mul-result-3 c =
     let p = c.before.before.before.requires in
-    omega (arith, rates-fit {rate = c.before.wide.result} (omega (arith, c.before.wide.ensures, p.0)) p.1)
+    omega (arith, rates_fit {rate = c.before.wide.result} (omega (arith, c.before.wide.ensures, p.0)) p.1)
 
 mul-result-4 : tie.Need-overflow-mul-result-4
 mul-result-4 c = search rules
@@ -42,7 +42,7 @@ mul-result-5 c =
     let at_wide = c.before.before in
     let p = at_wide.before.before.requires in
     let air = rw (sym c.before.wide2.ensures) at p.4 in
-    omega (arith, air-fits {rate = at_wide.wide.result} (omega (arith, at_wide.wide.ensures, p.0)) p.1 air)
+    omega (arith, air_fits {rate = at_wide.wide.result} (omega (arith, at_wide.wide.ensures, p.0)) p.1 air)
 
 add-result : tie.Need-overflow-add-result
 add-result c =
@@ -50,7 +50,7 @@ add-result c =
     let p = at_wide.before.before.requires in
     let air = rw (sym c.before.wide2.ensures) at p.4 in
     let rate : at_wide.wide.result ≤ 10000 = omega (arith, at_wide.wide.ensures, p.0) in
-    omega (arith, ground-fits {rate = at_wide.wide.result} rate p.3, air-fits {rate = at_wide.wide.result} rate p.1 air)
+    omega (arith, ground_fits {rate = at_wide.wide.result} rate p.3, air_fits {rate = at_wide.wide.result} rate p.1 air)
 
 returns : tie.Need-returns
 unfolding weighed

@@ -2,8 +2,8 @@
 -- Assumes nothing.
 use borrow.Author.Tests.{not-true, not-false}
 use mathlib.Core.Path.{sym, ◌∙◌}
-use Rattle.answers.proofs.Outcomes.{says, says-as}
-use Rattle.forecast_plan.proofs.Calls.{bad-day, has-line, bad-terms, by_rows}
+use Rattle.answers.proofs.Outcomes.{says, says_as}
+use Rattle.forecast_plan.proofs.Calls.{bad_day, has_line_lem, bad_terms, by_rows}
 use borrow.Author.Rules.{rules}
 use Rattle.forecast_plan.proofs.forecast_plan.Statement.{statement}
 use Rattle.forecast_plan.proofs.forecast_plan.Tie as tie
@@ -12,10 +12,10 @@ is-valid-requires : tie.Need-is-valid-requires
 is-valid-requires c κs = search rules
 
 returns : tie.Need-returns
-returns c = says (bad-day _ _ _ (sym c.before.is-valid.ensures ∙ not-true _ c.if1.true))
+returns c = says (bad_day _ _ _ (sym c.before.is_valid.ensures ∙ not-true _ c.if1.true))
 
 returns-2 : tie.Need-returns-2
-returns-2 c = says (has-line _ _ _ (sym c.before.before.is-valid.ensures ∙ not-false _ c.before.if1.false) c.if2.true)
+returns-2 c = says (has_line_lem _ _ _ (sym c.before.before.is_valid.ensures ∙ not-false _ c.before.if1.false) c.if2.true)
 
 wide-requires : tie.Need-wide-requires
 wide-requires c κs = search rules
@@ -28,32 +28,32 @@ terms-fit-requires c κs = search rules
 
 returns-3 : tie.Need-returns-3
 returns-3 c =
-    let at-wide2 = c.before.before in
-    let at-if2 = at-wide2.before.before in
-    let at-if1 = at-if2.before in
-    let v = sym at-if1.before.is-valid.ensures ∙ not-false _ at-if1.if1.false in
-    says (bad-terms _ _ _ _ v at-if2.if2.false at-wide2.before.wide.ensures at-wide2.wide2.ensures (sym c.before.terms-fit.ensures ∙ not-true _ c.if3.true))
+    let at_wide2 = c.before.before in
+    let at_if2 = at_wide2.before.before in
+    let at_if1 = at_if2.before in
+    let v = sym at_if1.before.is_valid.ensures ∙ not-false _ at_if1.if1.false in
+    says (bad_terms _ _ _ _ v at_if2.if2.false at_wide2.before.wide.ensures at_wide2.wide2.ensures (sym c.before.terms-fit.ensures ∙ not-true _ c.if3.true))
 
 plan-rows-requires : tie.Need-plan-rows-requires
 plan-rows-requires c κs =
-    let at-if3 = c.before in
-    let at-if2 = at-if3.before.before.before.before in
-    let at-if1 = at-if2.before in
-    let v = sym at-if1.before.is-valid.ensures ∙ not-false _ at-if1.if1.false in
-    (rw at-if2.if2.false at v, sym at-if3.before.terms-fit.ensures ∙ not-false _ at-if3.if3.false)
+    let at_if3 = c.before in
+    let at_if2 = at_if3.before.before.before.before in
+    let at_if1 = at_if2.before in
+    let v = sym at_if1.before.is_valid.ensures ∙ not-false _ at_if1.if1.false in
+    (rw at_if2.if2.false at v, sym at_if3.before.terms-fit.ensures ∙ not-false _ at_if3.if3.false)
 
 same_length : tie.Need-same-length
 same_length c = search rules
 
 returns-4 : tie.Need-returns-4
 returns-4 c =
-    let at-plan-rows = c.before.before in
-    let at-if3 = at-plan-rows.before.before in
-    let at-wide2 = at-if3.before.before in
-    let at-if2 = at-wide2.before.before in
-    let at-if1 = at-if2.before in
-    let v = sym at-if1.before.is-valid.ensures ∙ not-false _ at-if1.if1.false in
-    says-as (by_rows _ _ _ _ v at-if2.if2.false at-wide2.before.wide.ensures at-wide2.wide2.ensures (sym at-if3.before.terms-fit.ensures ∙ not-false _ at-if3.if3.false)) at-plan-rows.plan-rows.ensures
+    let at_plan_rows = c.before.before in
+    let at_if3 = at_plan_rows.before.before in
+    let at_wide2 = at_if3.before.before in
+    let at_if2 = at_wide2.before.before in
+    let at_if1 = at_if2.before in
+    let v = sym at_if1.before.is_valid.ensures ∙ not-false _ at_if1.if1.false in
+    says_as (by_rows _ _ _ _ v at_if2.if2.false at_wide2.before.wide.ensures at_wide2.wide2.ensures (sym at_if3.before.terms-fit.ensures ∙ not-false _ at_if3.if3.false)) at_plan_rows.plan-rows.ensures
 
 pub forecast-plan-spec : {M : Type 1} → statement M
 forecast-plan-spec =

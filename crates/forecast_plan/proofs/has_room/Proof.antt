@@ -3,7 +3,7 @@
 use mathlib.Core.Path.{ap}
 use lib.Dec.{ltb}
 use Rattle.assignment.specs.Rows.{el}
-use Rattle.forecast_plan.proofs.Landing.{capacity-here}
+use Rattle.forecast_plan.proofs.Landing.{capacity_here}
 use borrow.Author.Rules.{rules}
 use Rattle.forecast_plan.proofs.has_room.Statement.{statement}
 use Rattle.forecast_plan.proofs.has_room.Tie as tie
@@ -28,8 +28,8 @@ wide-requires c κs = search rules
 
 returns : tie.Need-returns
 returns c =
-    let at-start = c.before.before.before.before.before in
-    ap (ltb (el at-start.args.waits.now at-start.args.j)) (capacity-here at-start.args.forecast.now at-start.requires.0 c.wide.ensures)
+    let at_start = c.before.before.before.before.before in
+    ap (ltb (el at_start.args.waits.now at_start.args.j)) (capacity_here at_start.args.forecast.now at_start.requires.0 c.wide.ensures)
 
 pub has-room-spec : {M : Type 1} → statement M
 has-room-spec =

@@ -1,6 +1,6 @@
 -- Nobody is held yet, and nobody waits.
 -- Assumes nothing.
-use Rattle.forecast_plan.proofs.Placing.{placed-none}
+use Rattle.forecast_plan.proofs.Placing.{placed_none}
 use borrow.Author.Rules.{rules}
 use Rattle.forecast_plan.proofs.hold_flights.Statement.{statement}
 use Rattle.forecast_plan.proofs.hold_flights.Tie as tie
@@ -13,8 +13,8 @@ slice-aggregate-hold-all-2 c = search rules
 
 hold-all-requires : tie.Need-hold-all-requires
 hold-all-requires c κs =
-    let at-start = c.before.before.before.before.before.before.before.before in
-    placed-none at-start.requires.0 at-start.requires.1
+    let at_start = c.before.before.before.before.before.before.before.before in
+    placed_none at_start.requires.0 at_start.requires.1
 
 same_length : tie.Need-same-length
 same_length c = search rules

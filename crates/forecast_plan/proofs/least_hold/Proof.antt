@@ -6,58 +6,58 @@ use native.Mathlib.Omega.{arith}
 use borrow.Author.Rules.{rules}
 use Rattle.assignment.specs.Rows.{el}
 use Rattle.forecast_plan.specs.Loop.{weighed, Chooses}
-use Rattle.forecast_plan.proofs.Choosing.{chooses_none, chooses-next, low-cost}
+use Rattle.forecast_plan.proofs.Choosing.{chooses_none, chooses_next, low_cost}
 use Rattle.forecast_plan.proofs.least_hold.Statement.{statement}
 use Rattle.forecast_plan.proofs.least_hold.Tie as tie
 
-abbrev invariant-loop : tie.invariant-loop
-invariant-loop f factor air last longest hold₀ best₀ hold best =
+abbrev invariant_loop : tie.invariant_loop
+invariant_loop f factor air last longest hold₀ best₀ hold best =
     (longest ≡ last - f.due) × (hold ≤ longest) × Chooses hold (weighed f factor (el air)) best
 
-abbrev decreases-loop : tie.decreases-loop
-decreases-loop f factor air last longest hold₀ best₀ hold best = longest - hold
+abbrev decreases_loop : tie.decreases_loop
+decreases_loop f factor air last longest hold₀ best₀ hold best = longest - hold
 
-wide-requires : tie.Need-wide-requires invariant-loop decreases-loop
+wide-requires : tie.Need-wide-requires invariant_loop decreases_loop
 wide-requires c κs = search rules
 
-sub-longest : tie.Need-overflow-sub-longest invariant-loop decreases-loop
+sub-longest : tie.Need-overflow-sub-longest invariant_loop decreases_loop
 sub-longest c = search rules
 
-cost-in-requires : tie.Need-cost-in-requires invariant-loop decreases-loop
-cost-in-requires c κs = low-cost c.before.before.requires (omega arith)
+cost-in-requires : tie.Need-cost-in-requires invariant_loop decreases_loop
+cost-in-requires c κs = low_cost c.before.before.requires (omega arith)
 
-loop-holds : tie.Need-loop-init invariant-loop decreases-loop
+loop-holds : tie.Need-loop-init invariant_loop decreases_loop
 loop-holds c = (ap (λ x. c.before.before.before.args.last - x) c.before.wide.ensures, omega arith, chooses_none c.cost-in.ensures)
 
-add-hold : tie.Need-overflow-add-hold invariant-loop decreases-loop
+add-hold : tie.Need-overflow-add-hold invariant_loop decreases_loop
 add-hold c = search rules
 
-cost-in-requires-2 : tie.Need-cost-in-requires-2 invariant-loop decreases-loop
-cost-in-requires-2 c κs = low-cost c.before.before.before.before.before.requires (omega (arith, c.before.loop.invariant.0, c.loop-test.true))
+cost-in-requires-2 : tie.Need-cost-in-requires-2 invariant_loop decreases_loop
+cost-in-requires-2 c κs = low_cost c.before.before.before.before.before.requires (omega (arith, c.before.loop.invariant.0, c.loop-test.true))
 
-cheaper-requires : tie.Need-cheaper-requires invariant-loop decreases-loop
+cheaper-requires : tie.Need-cheaper-requires invariant_loop decreases_loop
 cheaper-requires c κs = search rules
 
-loop-less : tie.Need-loop-smaller invariant-loop decreases-loop
+loop-less : tie.Need-loop-smaller invariant_loop decreases_loop
 loop-less c = search rules
 
-loop-again : tie.Need-loop-preserved invariant-loop decreases-loop
+loop-again : tie.Need-loop-preserved invariant_loop decreases_loop
 loop-again c =
-    let at-loop = c.before.before.before in
-    (at-loop.loop.invariant.0, omega arith, chooses-next at-loop.loop.invariant.2 c.before.cost-in2.ensures c.cheaper.ensures)
+    let at_loop = c.before.before.before in
+    (at_loop.loop.invariant.0, omega arith, chooses_next at_loop.loop.invariant.2 c.before.cost-in2.ensures c.cheaper.ensures)
 
-returns : tie.Need-returns invariant-loop decreases-loop
+returns : tie.Need-returns invariant_loop decreases_loop
 returns c =
-    let at-loop = c.before in
-    let e : at-loop.before.before.before.before.args.last - at-loop.before.before.before.before.args.f.due ≡ at-loop.loop.hold = omega (arith, at-loop.loop.invariant.0, at-loop.loop.invariant.1, c.loop-test.false) in
-    rw e at-loop.loop.invariant.2
+    let at_loop = c.before in
+    let e : at_loop.before.before.before.before.args.last - at_loop.before.before.before.before.args.f.due ≡ at_loop.loop.hold = omega (arith, at_loop.loop.invariant.0, at_loop.loop.invariant.1, c.loop-test.false) in
+    rw e at_loop.loop.invariant.2
 
 pub least-hold-spec : {M : Type 1} → statement M
 least-hold-spec =
     tie.close
     (tie.spec
-    invariant-loop
-    decreases-loop
+    invariant_loop
+    decreases_loop
     wide-requires
     sub-longest
     cost-in-requires

@@ -4,71 +4,71 @@ use mathlib.Core.Path.{sym, ◌∙◌}
 use Prim.Native.Nat.{◌-◌}
 use native.Mathlib.Omega.{arith}
 use borrow.Author.Rules.{rules}
-use Rattle.forecast_plan.proofs.Parts.{parted-rows, parted-waits}
-use Rattle.forecast_plan.proofs.Refreshing.{Refreshed, refreshed-none, refreshed-one, refreshed-next, refreshed-all}
+use Rattle.forecast_plan.proofs.Parts.{parted_rows, parted_waits}
+use Rattle.forecast_plan.proofs.Refreshing.{Refreshed, refreshed_none, refreshed_one, refreshed_next, refreshed_all}
 use Rattle.forecast_plan.proofs.refresh.Statement.{statement}
 use Rattle.forecast_plan.proofs.refresh.Tie as tie
 
-abbrev invariant-loop : tie.invariant-loop
-invariant-loop periods count rows held waits₀ from s₀ waits s = Refreshed periods count rows held waits from s
+abbrev invariant_loop : tie.invariant_loop
+invariant_loop periods count rows held waits₀ from s₀ waits s = Refreshed periods count rows held waits from s
 
-abbrev decreases-loop : tie.decreases-loop
-decreases-loop periods count rows held waits₀ from s₀ waits s = count - s
+abbrev decreases_loop : tie.decreases_loop
+decreases_loop periods count rows held waits₀ from s₀ waits s = count - s
 
-loop-holds : tie.Need-loop-init invariant-loop decreases-loop
+loop-holds : tie.Need-loop-init invariant_loop decreases_loop
 loop-holds c =
     let pre = c.before.before.before.requires in
-    refreshed-none pre.0 pre.1 pre.2 pre.3
+    refreshed_none pre.0 pre.1 pre.2 pre.3
 
-forecast-at-requires : tie.Need-forecast-at-requires invariant-loop decreases-loop
-forecast-at-requires c κs = parted-rows c.before.loop.invariant.parted c.loop-test.true
+forecast-at-requires : tie.Need-forecast-at-requires invariant_loop decreases_loop
+forecast-at-requires c κs = parted_rows c.before.loop.invariant.parted c.loop-test.true
 
-mul-place : tie.Need-overflow-mul-place invariant-loop decreases-loop
+mul-place : tie.Need-overflow-mul-place invariant_loop decreases_loop
 mul-place c = omega (arith, c.before.before.loop.invariant.parted.forecasts, c.before.loop-test.true)
 
-add-refresh-one : tie.Need-overflow-add-refresh-one invariant-loop decreases-loop
+add-refresh-one : tie.Need-overflow-add-refresh-one invariant_loop decreases_loop
 add-refresh-one c = omega (arith, c.before.before.loop.invariant.parted.forecasts, c.before.loop-test.true)
 
-mul-refresh-one : tie.Need-overflow-mul-refresh-one invariant-loop decreases-loop
+mul-refresh-one : tie.Need-overflow-mul-refresh-one invariant_loop decreases_loop
 mul-refresh-one c = omega (arith, c.before.before.loop.invariant.parted.forecasts, c.before.loop-test.true)
 
-sub-refresh-one : tie.Need-overflow-sub-refresh-one invariant-loop decreases-loop
+sub-refresh-one : tie.Need-overflow-sub-refresh-one invariant_loop decreases_loop
 sub-refresh-one c = omega arith
 
-part-refresh-one-start : tie.Need-slice-bounds-refresh-one-start invariant-loop decreases-loop
+part-refresh-one-start : tie.Need-slice-bounds-refresh-one-start invariant_loop decreases_loop
 part-refresh-one-start c = search rules
 
-part-refresh-one-end : tie.Need-slice-bounds-refresh-one-end invariant-loop decreases-loop
-part-refresh-one-end c = parted-waits c.before.before.loop.invariant.parted c.before.loop-test.true
+part-refresh-one-end : tie.Need-slice-bounds-refresh-one-end invariant_loop decreases_loop
+part-refresh-one-end c = parted_waits c.before.before.loop.invariant.parted c.before.loop-test.true
 
-refresh-one-requires : tie.Need-refresh-one-requires invariant-loop decreases-loop
-refresh-one-requires c κs = refreshed-one c.before.before.before.loop.invariant c.before.before.loop-test.true c.before.forecast-at.ensures
+refresh-one-requires : tie.Need-refresh-one-requires invariant_loop decreases_loop
+refresh-one-requires c κs = refreshed_one c.before.before.before.loop.invariant c.before.before.loop-test.true c.before.forecast-at.ensures
 
-add-s : tie.Need-overflow-add-s invariant-loop decreases-loop
+add-s : tie.Need-overflow-add-s invariant_loop decreases_loop
 add-s c = search rules
 
-loop-less : tie.Need-loop-smaller invariant-loop decreases-loop
+loop-less : tie.Need-loop-smaller invariant_loop decreases_loop
 loop-less c = search rules
 
-loop-again : tie.Need-loop-preserved invariant-loop decreases-loop
+loop-again : tie.Need-loop-preserved invariant_loop decreases_loop
 loop-again c =
     let at_one = c.before.before in
-    let at-forecast-at = at_one.before.before in
-    let at-loop = at-forecast-at.before.before in
-    refreshed-next at-loop.loop.invariant at-forecast-at.before.loop-test.true at-forecast-at.forecast-at.ensures at_one.refresh-one.ensures
+    let at_forecast_at = at_one.before.before in
+    let at_loop = at_forecast_at.before.before in
+    refreshed_next at_loop.loop.invariant at_forecast_at.before.loop-test.true at_forecast_at.forecast-at.ensures at_one.refresh-one.ensures
 
-same_length : tie.Need-same-length invariant-loop decreases-loop
+same_length : tie.Need-same-length invariant_loop decreases_loop
 same_length c = c.before.loop.invariant.parted.sizes ∙ sym c.before.before.before.before.before.requires.0.parted.sizes
 
-returns : tie.Need-returns invariant-loop decreases-loop
-returns c = refreshed-all c.before.loop.invariant c.loop-test.false
+returns : tie.Need-returns invariant_loop decreases_loop
+returns c = refreshed_all c.before.loop.invariant c.loop-test.false
 
 pub refresh-spec : {M : Type 1} → statement M
 refresh-spec =
     tie.close
     (tie.spec
-    invariant-loop
-    decreases-loop
+    invariant_loop
+    decreases_loop
     loop-holds
     forecast-at-requires
     mul-place

@@ -4,7 +4,7 @@ use Prim.Native.Nat.{◌-◌}
 use native.Mathlib.Omega.{arith}
 use lib.ListN.{length, length-drop}
 use borrow.Author.Rules.{rules}
-use Rattle.full_plan.proofs.Laws.{made-line, made-open}
+use Rattle.full_plan.proofs.Laws.{made_line, made_open}
 use Rattle.full_plan.proofs.plan_day.Statement.{statement}
 use Rattle.full_plan.proofs.plan_day.Tie as tie
 
@@ -34,9 +34,9 @@ same-length-2 c = search rules
 
 returns : tie.Need-returns
 returns c =
-    let at-insert-all = c.before.before.before.before.before in
-    let at-start = at-insert-all.before.before.before.before.before.before.before in
-    made-line _ at-start.requires at-insert-all.insert_all.ensures (omega (arith, length-drop (length at-start.args.capacities.now - 0) at-start.args.prices.now)) c.if1.true
+    let at_insert_all = c.before.before.before.before.before in
+    let at_start = at_insert_all.before.before.before.before.before.before.before in
+    made_line _ at_start.requires at_insert_all.insert_all.ensures (omega (arith, length-drop (length at_start.args.capacities.now - 0) at_start.args.prices.now)) c.if1.true
 
 same-length-3 : tie.Need-same-length-3
 same-length-3 c = search rules
@@ -46,9 +46,9 @@ same-length-4 c = search rules
 
 returns-2 : tie.Need-returns-2
 returns-2 c =
-    let at-insert-all = c.before.before.before.before.before in
-    let at-start = at-insert-all.before.before.before.before.before.before.before in
-    made-open _ at-start.requires at-insert-all.insert_all.ensures (omega (arith, length-drop (length at-start.args.capacities.now - 0) at-start.args.prices.now)) c.if1.false
+    let at_insert_all = c.before.before.before.before.before in
+    let at_start = at_insert_all.before.before.before.before.before.before.before in
+    made_open _ at_start.requires at_insert_all.insert_all.ensures (omega (arith, length-drop (length at_start.args.capacities.now - 0) at_start.args.prices.now)) c.if1.false
 
 pub plan-day-spec : {M : Type 1} → statement M
 plan-day-spec =

@@ -4,9 +4,9 @@ use borrow.Author.Rules.{rules}
 use borrow.Author.Tests.{not-true, not-false}
 use mathlib.Core.Path.{sym, ◌∙◌}
 use Rattle.answers.proofs.Outcomes.{says}
-use Rattle.quick_plan.proofs.Calls.{can-plan}
-use Rattle.quick_plan.proofs.Same.{valid-rows}
-use Rattle.growth_plan.proofs.Calls.{refused, bad-growth, can-make, no-plan, can-add, planned}
+use Rattle.quick_plan.proofs.Calls.{can_plan}
+use Rattle.quick_plan.proofs.Same.{valid_rows}
+use Rattle.growth_plan.proofs.Calls.{refused, bad_growth, can_make, no_plan_lem, can_add, planned}
 use Rattle.growth_plan.proofs.growth_plan.Statement.{statement}
 use Rattle.growth_plan.proofs.growth_plan.Tie as tie
 
@@ -21,9 +21,9 @@ same_length c = search rules
 
 returns : tie.Need-returns
 returns c =
-    let at-found = c.before in
-    let at-check = at-found.before.before in
-    says (refused _ _ _ (sym at-check.check-quick.ensures ∙ at-found.found.given.1))
+    let at_found = c.before in
+    let at_check = at_found.before.before in
+    says (refused _ _ _ (sym at_check.check-quick.ensures ∙ at_found.found.given.1))
 
 enum_told : tie.Need-enum-told
 enum_told c = search rules
@@ -39,18 +39,18 @@ same-length-2 c = search rules
 
 returns-2 : tie.Need-returns-2
 returns-2 c =
-    let at-fits = c.before in
-    let at_wide = at-fits.before in
+    let at_fits = c.before in
+    let at_wide = at_fits.before in
     let at_told = at_wide.before in
-    let at-check = at_told.before.before in
-    let e = sym at-check.check-quick.ensures ∙ at_told.enum_told.given.1 in
-    says (bad-growth _ _ _ e at_wide.wide.ensures at-fits.growth-fits.ensures (not-true _ c.if1.true))
+    let at_check = at_told.before.before in
+    let e = sym at_check.check-quick.ensures ∙ at_told.enum_told.given.1 in
+    says (bad_growth _ _ _ e at_wide.wide.ensures at_fits.growth-fits.ensures (not-true _ c.if1.true))
 
 find-short-requires : tie.Need-find-short-requires
 find-short-requires c κs =
     let at_told = c.before.before.before in
-    let at-check = at_told.before.before in
-    (can-plan _ _ (sym at-check.check-quick.ensures ∙ at_told.enum_told.given.1)).good
+    let at_check = at_told.before.before in
+    (can_plan _ _ (sym at_check.check-quick.ensures ∙ at_told.enum_told.given.1)).good
 
 enum-known-short : tie.Need-enum-known-short
 enum-known-short c = search rules
@@ -60,56 +60,56 @@ enum-told-2 c = search rules
 
 plan-to-requires : tie.Need-plan-to-requires
 plan-to-requires c κs =
-    let at-if = c.before.before.before.before in
-    let at-fits = at-if.before in
-    let at_wide = at-fits.before in
+    let at_if = c.before.before.before.before in
+    let at_fits = at_if.before in
+    let at_wide = at_fits.before in
     let at_told = at_wide.before in
-    let at-check = at_told.before.before in
-    let e = sym at-check.check-quick.ensures ∙ at_told.enum_told.given.1 in
-    let w = can-plan _ _ e in
-    ((valid-rows _ w.good, w.each), (can-make _ _ _ e at_wide.wide.ensures at-fits.growth-fits.ensures (not-false _ at-if.if1.false), search rules))
+    let at_check = at_told.before.before in
+    let e = sym at_check.check-quick.ensures ∙ at_told.enum_told.given.1 in
+    let w = can_plan _ _ e in
+    ((valid_rows _ w.good, w.each), (can_make _ _ _ e at_wide.wide.ensures at_fits.growth-fits.ensures (not-false _ at_if.if1.false), search rules))
 
 total-in-millionths-requires : tie.Need-total-in-millionths-requires
 total-in-millionths-requires c κs =
-    let at-plan-to = c.before.before.before in
-    let at-if = at-plan-to.before.before.before.before.before in
-    let at-fits = at-if.before in
-    let at_wide = at-fits.before in
+    let at_plan_to = c.before.before.before in
+    let at_if = at_plan_to.before.before.before.before.before in
+    let at_fits = at_if.before in
+    let at_wide = at_fits.before in
     let at_told = at_wide.before in
-    let at-check = at_told.before.before in
-    let e = sym at-check.check-quick.ensures ∙ at_told.enum_told.given.1 in
-    can-add _ _ _ e at_wide.wide.ensures at-fits.growth-fits.ensures (not-false _ at-if.if1.false) at-plan-to.plan-to.ensures
+    let at_check = at_told.before.before in
+    let e = sym at_check.check-quick.ensures ∙ at_told.enum_told.given.1 in
+    can_add _ _ _ e at_wide.wide.ensures at_fits.growth-fits.ensures (not-false _ at_if.if1.false) at_plan_to.plan-to.ensures
 
 same-length-3 : tie.Need-same-length-3
 same-length-3 c = search rules
 
 returns-3 : tie.Need-returns-3
 returns-3 c =
-    let at-short = c.before in
-    let at-find-short = at-short.before.before in
-    let at-if = at-find-short.before in
-    let at-fits = at-if.before in
-    let at_wide = at-fits.before in
+    let at_short = c.before in
+    let at_find_short = at_short.before.before in
+    let at_if = at_find_short.before in
+    let at_fits = at_if.before in
+    let at_wide = at_fits.before in
     let at_told = at_wide.before in
-    let at-check = at_told.before.before in
-    let e = sym at-check.check-quick.ensures ∙ at_told.enum_told.given.1 in
-    says (no-plan _ _ _ e at_wide.wide.ensures at-fits.growth-fits.ensures (not-false _ at-if.if1.false) (rw at-short.short.given.1 at at-find-short.find-short.ensures))
+    let at_check = at_told.before.before in
+    let e = sym at_check.check-quick.ensures ∙ at_told.enum_told.given.1 in
+    says (no_plan_lem _ _ _ e at_wide.wide.ensures at_fits.growth-fits.ensures (not-false _ at_if.if1.false) (rw at_short.short.given.1 at at_find_short.find-short.ensures))
 
 same-length-4 : tie.Need-same-length-4
 same-length-4 c = search rules
 
 returns-4 : tie.Need-returns-4
 returns-4 c =
-    let at-plan-to = c.before.before.before.before in
-    let at_clear = at-plan-to.before.before in
-    let at-find-short = at_clear.before.before in
-    let at-if = at-find-short.before in
-    let at-fits = at-if.before in
-    let at_wide = at-fits.before in
+    let at_plan_to = c.before.before.before.before in
+    let at_clear = at_plan_to.before.before in
+    let at_find_short = at_clear.before.before in
+    let at_if = at_find_short.before in
+    let at_fits = at_if.before in
+    let at_wide = at_fits.before in
     let at_told = at_wide.before in
-    let at-check = at_told.before.before in
-    let e = sym at-check.check-quick.ensures ∙ at_told.enum_told.given.1 in
-    says (planned _ _ _ e at_wide.wide.ensures at-fits.growth-fits.ensures (not-false _ at-if.if1.false) at-plan-to.plan-to.ensures (rw at_clear.enum-told2.given.1 at at-find-short.find-short.ensures) c.total-in-millionths.ensures)
+    let at_check = at_told.before.before in
+    let e = sym at_check.check-quick.ensures ∙ at_told.enum_told.given.1 in
+    says (planned _ _ _ e at_wide.wide.ensures at_fits.growth-fits.ensures (not-false _ at_if.if1.false) at_plan_to.plan-to.ensures (rw at_clear.enum-told2.given.1 at at_find_short.find-short.ensures) c.total-in-millionths.ensures)
 
 pub growth-plan-spec : {M : Type 1} → statement M
 growth-plan-spec =

@@ -1,155 +1,155 @@
 -- The steps hand over: first room, the search, the walk, the raise, and what is kept. Assumes nothing.
 use native.Mathlib.Omega.{arith}
 use mathlib.Core.Path.{refl, ◌∙◌}
-use Rattle.insertion.proofs.Inserting.{insert-room, insert-stands, insert-find, insert-search, insert-within, insert-rows, insert-walk, insert-raise, insert-forget, insert-add, insert-end, insert-kept}
+use Rattle.insertion.proofs.Inserting.{insert_room, insert_stands, insert_find, insert_search, insert_within, insert_rows, insert_walk, insert_raise, insert_forget, insert_add, insert_end, insert_kept}
 use Rattle.insertion.proofs.insert.Statement.{statement}
 use Rattle.insertion.proofs.insert.Tie as tie
 
 mul_wide : tie.Need-overflow-mul-wide
 mul_wide c =
-    let at-slice-known2 = c.before.before.before.before.before in
-    let at-start = at-slice-known2.before.before.before.before in
-    omega (arith, insert-room at-start.requires.0 at-start.requires.1.0 at-start.requires.1.1)
+    let at_slice_known2 = c.before.before.before.before.before in
+    let at_start = at_slice_known2.before.before.before.before in
+    omega (arith, insert_room at_start.requires.0 at_start.requires.1.0 at_start.requires.1.1)
 
 slice-read-wide : tie.Need-slice-read-wide
 slice-read-wide c =
-    let at-slice-known3 = c.before.before.before.before.before in
-    let at-start = at-slice-known3.before.before.before.before.before in
-    (insert-room at-start.requires.0 at-start.requires.1.0 at-start.requires.1.1).0
+    let at_slice_known3 = c.before.before.before.before.before in
+    let at_start = at_slice_known3.before.before.before.before.before in
+    (insert_room at_start.requires.0 at_start.requires.1.0 at_start.requires.1.1).0
 
 wide-requires : tie.Need-wide-requires
 wide-requires c κs = tt
 
 due-of-requires : tie.Need-due-of-requires
 due-of-requires c κs =
-    let at-slice-known4 = c.before.before.before.before.before in
-    let at-shared-slice-known = at-slice-known4.before.before.before.before.before in
-    let at-start = at-shared-slice-known.before in
-    insert-stands at-start.requires.0 at-start.requires.1.0 at-start.requires.1.1 c.wide.ensures
+    let at_slice_known4 = c.before.before.before.before.before in
+    let at_shared_slice_known = at_slice_known4.before.before.before.before.before in
+    let at_start = at_shared_slice_known.before in
+    insert_stands at_start.requires.0 at_start.requires.1.0 at_start.requires.1.1 c.wide.ensures
 
 first-with-room-requires : tie.Need-first-with-room-requires
 first-with-room-requires c κs =
-    let at-due-of = c.before in
-    let at_wide = at-due-of.before in
-    let at-slice-known4 = at_wide.before.before.before.before.before in
-    let at-shared-slice-known = at-slice-known4.before.before.before.before.before in
-    let at-start = at-shared-slice-known.before in
-    insert-find at-start.requires.0 at-start.requires.1.0 at-start.requires.1.1 at_wide.wide.ensures at-due-of.due-of.ensures.0
+    let at_due_of = c.before in
+    let at_wide = at_due_of.before in
+    let at_slice_known4 = at_wide.before.before.before.before.before in
+    let at_shared_slice_known = at_slice_known4.before.before.before.before.before in
+    let at_start = at_shared_slice_known.before in
+    insert_find at_start.requires.0 at_start.requires.1.0 at_start.requires.1.1 at_wide.wide.ensures at_due_of.due-of.ensures.0
 
 find-path-requires : tie.Need-find-path-requires
 find-path-requires c κs =
-    let at-first-with-room = c.before.before.before.before.before in
-    let at-due-of = at-first-with-room.before.before in
-    let at_wide = at-due-of.before in
-    let at-slice-known4 = at_wide.before.before.before.before.before in
-    let at-shared-slice-known = at-slice-known4.before.before.before.before.before in
-    let at-start = at-shared-slice-known.before in
-    insert-search at-start.requires.0 at-start.requires.1.0 at-start.requires.1.1 at_wide.wide.ensures at-due-of.due-of.ensures.0 at-first-with-room.first-with-room.ensures
+    let at_first_with_room = c.before.before.before.before.before in
+    let at_due_of = at_first_with_room.before.before in
+    let at_wide = at_due_of.before in
+    let at_slice_known4 = at_wide.before.before.before.before.before in
+    let at_shared_slice_known = at_slice_known4.before.before.before.before.before in
+    let at_start = at_shared_slice_known.before in
+    insert_search at_start.requires.0 at_start.requires.1.0 at_start.requires.1.1 at_wide.wide.ensures at_due_of.due-of.ensures.0 at_first_with_room.first-with-room.ensures
 
 mul-added : tie.Need-overflow-mul-added
 mul-added c =
-    let at-find-path-arg5 = c.before.before.before.before.before in
-    let at-first-with-room = at-find-path-arg5.before.before.before.before.before in
-    let at-due-of = at-first-with-room.before.before in
-    let at_wide = at-due-of.before in
-    let at-slice-known4 = at_wide.before.before.before.before.before in
-    let at-shared-slice-known = at-slice-known4.before.before.before.before.before in
-    let at-start = at-shared-slice-known.before in
-    omega (arith, insert-within at-start.requires.0 at-start.requires.1.0 at-start.requires.1.1 at_wide.wide.ensures at-due-of.due-of.ensures.0 at-first-with-room.first-with-room.ensures)
+    let at_find_path_arg5 = c.before.before.before.before.before in
+    let at_first_with_room = at_find_path_arg5.before.before.before.before.before in
+    let at_due_of = at_first_with_room.before.before in
+    let at_wide = at_due_of.before in
+    let at_slice_known4 = at_wide.before.before.before.before.before in
+    let at_shared_slice_known = at_slice_known4.before.before.before.before.before in
+    let at_start = at_shared_slice_known.before in
+    omega (arith, insert_within at_start.requires.0 at_start.requires.1.0 at_start.requires.1.1 at_wide.wide.ensures at_due_of.due-of.ensures.0 at_first_with_room.first-with-room.ensures)
 
 slice-read-added : tie.Need-slice-read-added
 slice-read-added c =
-    let at-find-path = c.before.before.before.before.before in
-    let at-find-path-arg = at-find-path.before.before.before.before.before in
-    let at-first-with-room = at-find-path-arg.before in
-    let at-due-of = at-first-with-room.before.before in
-    let at_wide = at-due-of.before in
-    let at-slice-known4 = at_wide.before.before.before.before.before in
-    let at-shared-slice-known = at-slice-known4.before.before.before.before.before in
-    let at-start = at-shared-slice-known.before in
-    (insert-rows at-start.requires.0 at-start.requires.1.0 at-start.requires.1.1 at_wide.wide.ensures at-due-of.due-of.ensures.0 at-first-with-room.first-with-room.ensures at-find-path.find-path.ensures).0
+    let at_find_path = c.before.before.before.before.before in
+    let at_find_path_arg = at_find_path.before.before.before.before.before in
+    let at_first_with_room = at_find_path_arg.before in
+    let at_due_of = at_first_with_room.before.before in
+    let at_wide = at_due_of.before in
+    let at_slice_known4 = at_wide.before.before.before.before.before in
+    let at_shared_slice_known = at_slice_known4.before.before.before.before.before in
+    let at_start = at_shared_slice_known.before in
+    (insert_rows at_start.requires.0 at_start.requires.1.0 at_start.requires.1.1 at_wide.wide.ensures at_due_of.due-of.ensures.0 at_first_with_room.first-with-room.ensures at_find_path.find-path.ensures).0
 
 walk-requires : tie.Need-walk-requires
 walk-requires c κs =
-    let at-via = c.before.before.before.before.before in
-    let at-find-path = at-via.before.before.before in
-    let at-find-path-arg = at-find-path.before.before.before.before.before in
-    let at-first-with-room = at-find-path-arg.before in
-    let at-due-of = at-first-with-room.before.before in
-    let at_wide = at-due-of.before in
-    let at-slice-known4 = at_wide.before.before.before.before.before in
-    let at-shared-slice-known = at-slice-known4.before.before.before.before.before in
-    let at-start = at-shared-slice-known.before in
-    insert-walk at-start.requires.0 at-start.requires.1.0 at-start.requires.1.1 at_wide.wide.ensures at-due-of.due-of.ensures.0 at-first-with-room.first-with-room.ensures at-find-path.find-path.ensures
+    let at_via = c.before.before.before.before.before in
+    let at_find_path = at_via.before.before.before in
+    let at_find_path_arg = at_find_path.before.before.before.before.before in
+    let at_first_with_room = at_find_path_arg.before in
+    let at_due_of = at_first_with_room.before.before in
+    let at_wide = at_due_of.before in
+    let at_slice_known4 = at_wide.before.before.before.before.before in
+    let at_shared_slice_known = at_slice_known4.before.before.before.before.before in
+    let at_start = at_shared_slice_known.before in
+    insert_walk at_start.requires.0 at_start.requires.1.0 at_start.requires.1.1 at_wide.wide.ensures at_due_of.due-of.ensures.0 at_first_with_room.first-with-room.ensures at_find_path.find-path.ensures
 
 raise-requires : tie.Need-raise-requires
 raise-requires c κs =
     let at_places = c.before.before.before.before.before in
-    let at-walk = at_places.before in
-    let at-slice-known10 = at-walk.before.before.before.before.before in
-    let at-find-path = at-slice-known10.before.before.before.before in
-    let at-find-path-arg = at-find-path.before.before.before.before.before in
-    let at-first-with-room = at-find-path-arg.before in
-    let at-due-of = at-first-with-room.before.before in
-    let at_wide = at-due-of.before in
-    let at-slice-known4 = at_wide.before.before.before.before.before in
-    let at-shared-slice-known = at-slice-known4.before.before.before.before.before in
-    let at-start = at-shared-slice-known.before in
-    insert-raise at-start.requires.0 at-start.requires.1.0 at-start.requires.1.1 at_wide.wide.ensures at-due-of.due-of.ensures.0 at-first-with-room.first-with-room.ensures at-find-path.find-path.ensures at-walk.walk.ensures
+    let at_walk = at_places.before in
+    let at_slice_known10 = at_walk.before.before.before.before.before in
+    let at_find_path = at_slice_known10.before.before.before.before in
+    let at_find_path_arg = at_find_path.before.before.before.before.before in
+    let at_first_with_room = at_find_path_arg.before in
+    let at_due_of = at_first_with_room.before.before in
+    let at_wide = at_due_of.before in
+    let at_slice_known4 = at_wide.before.before.before.before.before in
+    let at_shared_slice_known = at_slice_known4.before.before.before.before.before in
+    let at_start = at_shared_slice_known.before in
+    insert_raise at_start.requires.0 at_start.requires.1.0 at_start.requires.1.1 at_wide.wide.ensures at_due_of.due-of.ensures.0 at_first_with_room.first-with-room.ensures at_find_path.find-path.ensures at_walk.walk.ensures
 
 forget-requires : tie.Need-forget-requires
 forget-requires c κs =
-    let at-raise-arg = c.before.before.before.before.before in
-    let at-walk = at-raise-arg.before.before.before.before.before in
-    let at-slice-known10 = at-walk.before.before.before.before.before in
-    let at-find-path = at-slice-known10.before.before.before.before in
-    let at-find-path-arg = at-find-path.before.before.before.before.before in
-    let at-first-with-room = at-find-path-arg.before in
-    let at-due-of = at-first-with-room.before.before in
-    let at_wide = at-due-of.before in
-    let at-slice-known4 = at_wide.before.before.before.before.before in
-    let at-shared-slice-known = at-slice-known4.before.before.before.before.before in
-    let at-start = at-shared-slice-known.before in
-    insert-forget at-start.requires.0 at-start.requires.1.0 at-start.requires.1.1 at_wide.wide.ensures at-due-of.due-of.ensures.0 at-first-with-room.first-with-room.ensures at-find-path.find-path.ensures at-walk.walk.ensures
+    let at_raise_arg = c.before.before.before.before.before in
+    let at_walk = at_raise_arg.before.before.before.before.before in
+    let at_slice_known10 = at_walk.before.before.before.before.before in
+    let at_find_path = at_slice_known10.before.before.before.before in
+    let at_find_path_arg = at_find_path.before.before.before.before.before in
+    let at_first_with_room = at_find_path_arg.before in
+    let at_due_of = at_first_with_room.before.before in
+    let at_wide = at_due_of.before in
+    let at_slice_known4 = at_wide.before.before.before.before.before in
+    let at_shared_slice_known = at_slice_known4.before.before.before.before.before in
+    let at_start = at_shared_slice_known.before in
+    insert_forget at_start.requires.0 at_start.requires.1.0 at_start.requires.1.1 at_wide.wide.ensures at_due_of.due-of.ensures.0 at_first_with_room.first-with-room.ensures at_find_path.find-path.ensures at_walk.walk.ensures
 
 add-place-requires : tie.Need-add-place-requires
 add-place-requires c κs =
-    let at-forget-arg = c.before.before.before.before.before in
-    let at-raise-arg = at-forget-arg.before.before.before.before.before in
-    let at-walk = at-raise-arg.before.before.before.before.before in
-    let at-slice-known10 = at-walk.before.before.before.before.before in
-    let at-find-path = at-slice-known10.before.before.before.before in
-    let at-find-path-arg = at-find-path.before.before.before.before.before in
-    let at-first-with-room = at-find-path-arg.before in
-    let at-due-of = at-first-with-room.before.before in
-    let at_wide = at-due-of.before in
-    let at-slice-known4 = at_wide.before.before.before.before.before in
-    let at-shared-slice-known = at-slice-known4.before.before.before.before.before in
-    let at-start = at-shared-slice-known.before in
-    insert-add at-start.requires.0 at-start.requires.1.0 at-start.requires.1.1 at_wide.wide.ensures at-due-of.due-of.ensures.0 at-first-with-room.first-with-room.ensures at-find-path.find-path.ensures at-walk.walk.ensures
+    let at_forget_arg = c.before.before.before.before.before in
+    let at_raise_arg = at_forget_arg.before.before.before.before.before in
+    let at_walk = at_raise_arg.before.before.before.before.before in
+    let at_slice_known10 = at_walk.before.before.before.before.before in
+    let at_find_path = at_slice_known10.before.before.before.before in
+    let at_find_path_arg = at_find_path.before.before.before.before.before in
+    let at_first_with_room = at_find_path_arg.before in
+    let at_due_of = at_first_with_room.before.before in
+    let at_wide = at_due_of.before in
+    let at_slice_known4 = at_wide.before.before.before.before.before in
+    let at_shared_slice_known = at_slice_known4.before.before.before.before.before in
+    let at_start = at_shared_slice_known.before in
+    insert_add at_start.requires.0 at_start.requires.1.0 at_start.requires.1.1 at_wide.wide.ensures at_due_of.due-of.ensures.0 at_first_with_room.first-with-room.ensures at_find_path.find-path.ensures at_walk.walk.ensures
 
 same_length : tie.Need-same-length
 same_length c =
-    let at-add-place-arg2 = c.before.before.before.before.before in
-    let at-forget-arg = at-add-place-arg2.before.before.before.before.before in
-    let at-raise-arg = at-forget-arg.before.before.before.before.before in
-    let at-walk = at-raise-arg.before.before.before.before.before in
-    at-walk.walk.auto.1.0
+    let at_add_place_arg2 = c.before.before.before.before.before in
+    let at_forget_arg = at_add_place_arg2.before.before.before.before.before in
+    let at_raise_arg = at_forget_arg.before.before.before.before.before in
+    let at_walk = at_raise_arg.before.before.before.before.before in
+    at_walk.walk.auto.1.0
 
 same-length-2 : tie.Need-same-length-2
 same-length-2 c =
-    let at-add-place-arg2 = c.before.before.before.before.before in
-    let at-forget-arg = at-add-place-arg2.before.before.before.before.before in
-    let at-raise-arg = at-forget-arg.before.before.before.before.before in
-    let at-walk = at-raise-arg.before.before.before.before.before in
-    at-walk.walk.auto.1.1.0
+    let at_add_place_arg2 = c.before.before.before.before.before in
+    let at_forget_arg = at_add_place_arg2.before.before.before.before.before in
+    let at_raise_arg = at_forget_arg.before.before.before.before.before in
+    let at_walk = at_raise_arg.before.before.before.before.before in
+    at_walk.walk.auto.1.1.0
 
 same-length-3 : tie.Need-same-length-3
 same-length-3 c =
-    let at-add-place-arg2 = c.before.before.before.before.before in
-    let at-forget-arg = at-add-place-arg2.before.before.before.before.before in
-    let at-raise = at-forget-arg.before.before.before in
-    at-raise.raise.auto.0
+    let at_add_place_arg2 = c.before.before.before.before.before in
+    let at_forget_arg = at_add_place_arg2.before.before.before.before.before in
+    let at_raise = at_forget_arg.before.before.before in
+    at_raise.raise.auto.0
 
 same-length-4 : tie.Need-same-length-4
 same-length-4 c = c.before.before.before.before.add-place.auto.0
@@ -159,41 +159,41 @@ same-length-5 c = c.before.before.before.before.add-place.auto.1.0
 
 same-length-6 : tie.Need-same-length-6
 same-length-6 c =
-    let at-add-place-arg2 = c.before.before.before.before.before in
-    let at_forget = at-add-place-arg2.before.before.before.before in
-    let at-raise-arg2 = at_forget.before.before.before.before.before in
-    let at_places = at-raise-arg2.before.before.before.before.before in
-    let at-slice-known11 = at_places.before.before.before.before.before in
-    let at-find-path = at-slice-known11.before.before.before.before.before in
-    at_forget.forget.auto.0 ∙ at-find-path.find-path.auto.1.1.1.1.1.0
+    let at_add_place_arg2 = c.before.before.before.before.before in
+    let at_forget = at_add_place_arg2.before.before.before.before in
+    let at_raise_arg2 = at_forget.before.before.before.before.before in
+    let at_places = at_raise_arg2.before.before.before.before.before in
+    let at_slice_known11 = at_places.before.before.before.before.before in
+    let at_find_path = at_slice_known11.before.before.before.before.before in
+    at_forget.forget.auto.0 ∙ at_find_path.find-path.auto.1.1.1.1.1.0
 
 same-length-7 : tie.Need-same-length-7
 same-length-7 c =
-    let at-add-place-arg2 = c.before.before.before.before.before in
-    let at-forget-arg = at-add-place-arg2.before.before.before.before.before in
-    let at-raise-arg = at-forget-arg.before.before.before.before.before in
-    let at-walk = at-raise-arg.before.before.before.before.before in
-    let at-slice-known10 = at-walk.before.before.before.before.before in
-    let at-find-path = at-slice-known10.before.before.before.before in
-    at-find-path.find-path.auto.1.1.1.1.1.1.0
+    let at_add_place_arg2 = c.before.before.before.before.before in
+    let at_forget_arg = at_add_place_arg2.before.before.before.before.before in
+    let at_raise_arg = at_forget_arg.before.before.before.before.before in
+    let at_walk = at_raise_arg.before.before.before.before.before in
+    let at_slice_known10 = at_walk.before.before.before.before.before in
+    let at_find_path = at_slice_known10.before.before.before.before in
+    at_find_path.find-path.auto.1.1.1.1.1.1.0
 
 returns : tie.Need-returns
 returns c =
-    let at-add-place = c.before.before.before.before in
-    let at_forget = at-add-place.before.before.before.before.before in
-    let at-raise = at_forget.before.before.before.before in
-    let at-slice-known12 = at-raise.before.before.before.before.before in
-    let at-walk = at-slice-known12.before.before in
-    let at-slice-known10 = at-walk.before.before.before.before.before in
-    let at-find-path = at-slice-known10.before.before.before.before in
-    let at-find-path-arg = at-find-path.before.before.before.before.before in
-    let at-first-with-room = at-find-path-arg.before in
-    let at-due-of = at-first-with-room.before.before in
-    let at_wide = at-due-of.before in
-    let at-slice-known4 = at_wide.before.before.before.before.before in
-    let at-shared-slice-known = at-slice-known4.before.before.before.before.before in
-    let at-start = at-shared-slice-known.before in
-    (insert-end at-start.requires.0 at-start.requires.1.0 at-start.requires.1.1 at_wide.wide.ensures at-due-of.due-of.ensures.0 at-first-with-room.first-with-room.ensures at-find-path.find-path.ensures at-walk.walk.ensures at-raise.raise.ensures at-walk.walk.auto.1.1.0 at-raise.raise.auto.0 refl, insert-kept at-start.requires.0 at-start.requires.1.0 at-start.requires.1.1 at_wide.wide.ensures at-due-of.due-of.ensures.0 at-first-with-room.first-with-room.ensures at-find-path.find-path.ensures at-walk.walk.ensures at-add-place.add-place.ensures at_forget.forget.ensures at_forget.forget.auto.0)
+    let at_add_place = c.before.before.before.before in
+    let at_forget = at_add_place.before.before.before.before.before in
+    let at_raise = at_forget.before.before.before.before in
+    let at_slice_known12 = at_raise.before.before.before.before.before in
+    let at_walk = at_slice_known12.before.before in
+    let at_slice_known10 = at_walk.before.before.before.before.before in
+    let at_find_path = at_slice_known10.before.before.before.before in
+    let at_find_path_arg = at_find_path.before.before.before.before.before in
+    let at_first_with_room = at_find_path_arg.before in
+    let at_due_of = at_first_with_room.before.before in
+    let at_wide = at_due_of.before in
+    let at_slice_known4 = at_wide.before.before.before.before.before in
+    let at_shared_slice_known = at_slice_known4.before.before.before.before.before in
+    let at_start = at_shared_slice_known.before in
+    (insert_end at_start.requires.0 at_start.requires.1.0 at_start.requires.1.1 at_wide.wide.ensures at_due_of.due-of.ensures.0 at_first_with_room.first-with-room.ensures at_find_path.find-path.ensures at_walk.walk.ensures at_raise.raise.ensures at_walk.walk.auto.1.1.0 at_raise.raise.auto.0 refl, insert_kept at_start.requires.0 at_start.requires.1.0 at_start.requires.1.1 at_wide.wide.ensures at_due_of.due-of.ensures.0 at_first_with_room.first-with-room.ensures at_find_path.find-path.ensures at_walk.walk.ensures at_add_place.add-place.ensures at_forget.forget.ensures at_forget.forget.auto.0)
 
 pub insert-spec : {M : Type 1} → statement M
 insert-spec =

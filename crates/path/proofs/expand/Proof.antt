@@ -1,145 +1,145 @@
 -- The flights behind `next` that land in k have offered; the chain of the period leads from one to the next. Assumes nothing.
 use native.Mathlib.Omega.{arith}
-use Rattle.path.proofs.Expanding.{ExpandingAll, expand-room, expanding-start, expanding-sizes, expanding-end, expanding-room, expanding-less, expanding-stands, expanding-home, expanding-small, expanding-can, expanding-offered}
+use Rattle.path.proofs.Expanding.{ExpandingAll, expand_room, expanding_start, expanding_sizes, expanding_end, expanding_room, expanding_less, expanding_stands, expanding_home, expanding_small, expanding_can, expanding_offered}
 use Rattle.path.proofs.expand.Statement.{statement}
 use Rattle.path.proofs.expand.Tie as tie
 
-abbrev invariant-loop : tie.invariant-loop
-invariant-loop flights places links prices list dist₀ via₀ left target k from price next₀ dist via next = ExpandingAll flights places links prices list dist₀ dist via₀ via left target k from price next
+abbrev invariant_loop : tie.invariant_loop
+invariant_loop flights places links prices list dist₀ via₀ left target k from price next₀ dist via next = ExpandingAll flights places links prices list dist₀ dist via₀ via left target k from price next
 
-abbrev decreases-loop : tie.decreases-loop
-decreases-loop flights places links prices list dist₀ via₀ left target k from price next₀ dist via next = next
+abbrev decreases_loop : tie.decreases_loop
+decreases_loop flights places links prices list dist₀ via₀ left target k from price next₀ dist via next = next
 
-mul-from : tie.Need-overflow-mul-from invariant-loop decreases-loop
+mul-from : tie.Need-overflow-mul-from invariant_loop decreases_loop
 mul-from c =
-    let at-shared-slice-known2 = c.before.before.before.before.before in
-    let at-start = at-shared-slice-known2.before.before in
-    omega (arith, expand-room at-start.requires)
+    let at_shared_slice_known2 = c.before.before.before.before.before in
+    let at_start = at_shared_slice_known2.before.before in
+    omega (arith, expand_room at_start.requires)
 
-slice-read-from : tie.Need-slice-read-from invariant-loop decreases-loop
+slice-read-from : tie.Need-slice-read-from invariant_loop decreases_loop
 slice-read-from c =
-    let at-shared-slice-known3 = c.before.before.before.before.before in
-    let at-start = at-shared-slice-known3.before.before.before in
-    (expand-room at-start.requires).0
+    let at_shared_slice_known3 = c.before.before.before.before.before in
+    let at_start = at_shared_slice_known3.before.before.before in
+    (expand_room at_start.requires).0
 
-of-period-requires : tie.Need-of-period-requires invariant-loop decreases-loop
+of-period-requires : tie.Need-of-period-requires invariant_loop decreases_loop
 of-period-requires c κs = tt
 
-mul_next : tie.Need-overflow-mul-next invariant-loop decreases-loop
+mul_next : tie.Need-overflow-mul-next invariant_loop decreases_loop
 mul_next c =
-    let at-shared-slice-known4 = c.before.before.before.before.before in
-    let at-start = at-shared-slice-known4.before.before.before.before in
-    omega (arith, expand-room at-start.requires)
+    let at_shared_slice_known4 = c.before.before.before.before.before in
+    let at_start = at_shared_slice_known4.before.before.before.before in
+    omega (arith, expand_room at_start.requires)
 
-shared-slice-read-next : tie.Need-shared-slice-read-next invariant-loop decreases-loop
+shared-slice-read-next : tie.Need-shared-slice-read-next invariant_loop decreases_loop
 shared-slice-read-next c =
-    let at-shared-slice-known5 = c.before.before.before.before.before in
-    let at-start = at-shared-slice-known5.before.before.before.before.before in
-    (expand-room at-start.requires).1
+    let at_shared_slice_known5 = c.before.before.before.before.before in
+    let at_start = at_shared_slice_known5.before.before.before.before.before in
+    (expand_room at_start.requires).1
 
-loop-holds : tie.Need-loop-init invariant-loop decreases-loop
+loop-holds : tie.Need-loop-init invariant_loop decreases_loop
 loop-holds c =
-    let at-of-period = c.before in
-    let at-shared-slice-known4 = at-of-period.before.before.before.before.before in
-    let at-start = at-shared-slice-known4.before.before.before.before in
-    expanding-start at-start.requires at-of-period.of-period.ensures.0
+    let at_of_period = c.before in
+    let at_shared_slice_known4 = at_of_period.before.before.before.before.before in
+    let at_start = at_shared_slice_known4.before.before.before.before in
+    expanding_start at_start.requires at_of_period.of-period.ensures.0
 
-sub-who : tie.Need-overflow-sub-who invariant-loop decreases-loop
+sub-who : tie.Need-overflow-sub-who invariant_loop decreases_loop
 sub-who c = omega (arith, c.loop-test.true)
 
-add-next : tie.Need-overflow-add-next invariant-loop decreases-loop
-add-next c = omega (arith, expanding-room c.before.loop.invariant c.loop-test.true)
+add-next : tie.Need-overflow-add-next invariant_loop decreases_loop
+add-next c = omega (arith, expanding_room c.before.loop.invariant c.loop-test.true)
 
-mul-next-2 : tie.Need-overflow-mul-next-2 invariant-loop decreases-loop
-mul-next-2 c = omega (arith, expanding-room c.before.loop.invariant c.loop-test.true)
+mul-next-2 : tie.Need-overflow-mul-next-2 invariant_loop decreases_loop
+mul-next-2 c = omega (arith, expanding_room c.before.loop.invariant c.loop-test.true)
 
-shared-slice-read-next-2 : tie.Need-shared-slice-read-next-2 invariant-loop decreases-loop
-shared-slice-read-next-2 c = (expanding-room c.before.before.loop.invariant c.before.loop-test.true).1
+shared-slice-read-next-2 : tie.Need-shared-slice-read-next-2 invariant_loop decreases_loop
+shared-slice-read-next-2 c = (expanding_room c.before.before.loop.invariant c.before.loop-test.true).1
 
-mul_wide : tie.Need-overflow-mul-wide invariant-loop decreases-loop
-mul_wide c = omega (arith, expanding-room c.before.before.loop.invariant c.before.loop-test.true)
+mul_wide : tie.Need-overflow-mul-wide invariant_loop decreases_loop
+mul_wide c = omega (arith, expanding_room c.before.before.loop.invariant c.before.loop-test.true)
 
-shared-slice-read-wide : tie.Need-shared-slice-read-wide invariant-loop decreases-loop
-shared-slice-read-wide c = (expanding-room c.before.before.before.loop.invariant c.before.before.loop-test.true).0
+shared-slice-read-wide : tie.Need-shared-slice-read-wide invariant_loop decreases_loop
+shared-slice-read-wide c = (expanding_room c.before.before.before.loop.invariant c.before.before.loop-test.true).0
 
-wide-requires : tie.Need-wide-requires invariant-loop decreases-loop
+wide-requires : tie.Need-wide-requires invariant_loop decreases_loop
 wide-requires c κs = tt
 
-flight-at-requires : tie.Need-flight-at-requires invariant-loop decreases-loop
-flight-at-requires c κs = expanding-stands c.before.before.before.before.loop.invariant c.before.before.before.loop-test.true c.wide.ensures
+flight-at-requires : tie.Need-flight-at-requires invariant_loop decreases_loop
+flight-at-requires c κs = expanding_stands c.before.before.before.before.loop.invariant c.before.before.before.loop-test.true c.wide.ensures
 
-wide-requires-2 : tie.Need-wide-requires-2 invariant-loop decreases-loop
+wide-requires-2 : tie.Need-wide-requires-2 invariant_loop decreases_loop
 wide-requires-2 c κs = tt
 
-sub-hold-cost : tie.Need-overflow-sub-hold-cost invariant-loop decreases-loop
+sub-hold-cost : tie.Need-overflow-sub-hold-cost invariant_loop decreases_loop
 sub-hold-cost c =
-    let at-flight-at = c.before in
-    let at_wide = at-flight-at.before in
-    let at-loop-test = at_wide.before.before.before in
-    let at-loop = at-loop-test.before in
-    (expanding-home at-loop.loop.invariant at-loop-test.loop-test.true at_wide.wide.ensures at-flight-at.flight-at.ensures c.wide2.ensures).0
+    let at_flight_at = c.before in
+    let at_wide = at_flight_at.before in
+    let at_loop_test = at_wide.before.before.before in
+    let at_loop = at_loop_test.before in
+    (expanding_home at_loop.loop.invariant at_loop_test.loop-test.true at_wide.wide.ensures at_flight_at.flight-at.ensures c.wide2.ensures).0
 
-hold-cost-requires : tie.Need-hold-cost-requires invariant-loop decreases-loop
+hold-cost-requires : tie.Need-hold-cost-requires invariant_loop decreases_loop
 hold-cost-requires c κs =
-    let at-flight-at = c.before in
-    let at_wide = at-flight-at.before in
-    let at-loop-test = at_wide.before.before.before in
-    let at-loop = at-loop-test.before in
-    (expanding-home at-loop.loop.invariant at-loop-test.loop-test.true at_wide.wide.ensures at-flight-at.flight-at.ensures c.wide2.ensures).1
+    let at_flight_at = c.before in
+    let at_wide = at_flight_at.before in
+    let at_loop_test = at_wide.before.before.before in
+    let at_loop = at_loop_test.before in
+    (expanding_home at_loop.loop.invariant at_loop_test.loop-test.true at_wide.wide.ensures at_flight_at.flight-at.ensures c.wide2.ensures).1
 
-add-base : tie.Need-overflow-add-base invariant-loop decreases-loop
+add-base : tie.Need-overflow-add-base invariant_loop decreases_loop
 add-base c =
-    let at-wide2 = c.before in
-    let at-flight-at = at-wide2.before in
-    let at_wide = at-flight-at.before in
-    let at-loop-test = at_wide.before.before.before in
-    let at-loop = at-loop-test.before in
-    omega (arith, expanding-small at-loop.loop.invariant at-loop-test.loop-test.true at_wide.wide.ensures at-flight-at.flight-at.ensures at-wide2.wide2.ensures c.hold-cost.ensures)
+    let at_wide2 = c.before in
+    let at_flight_at = at_wide2.before in
+    let at_wide = at_flight_at.before in
+    let at_loop_test = at_wide.before.before.before in
+    let at_loop = at_loop_test.before in
+    omega (arith, expanding_small at_loop.loop.invariant at_loop_test.loop-test.true at_wide.wide.ensures at_flight_at.flight-at.ensures at_wide2.wide2.ensures c.hold-cost.ensures)
 
-offer-requires : tie.Need-offer-requires invariant-loop decreases-loop
+offer-requires : tie.Need-offer-requires invariant_loop decreases_loop
 offer-requires c κs =
-    let at-hold-cost = c.before.before in
-    let at-wide2 = at-hold-cost.before in
-    let at-flight-at = at-wide2.before in
-    let at_wide = at-flight-at.before in
-    let at-loop-test = at_wide.before.before.before in
-    let at-loop = at-loop-test.before in
-    expanding-can at-loop.loop.invariant at-loop-test.loop-test.true at_wide.wide.ensures at-flight-at.flight-at.ensures at-wide2.wide2.ensures at-hold-cost.hold-cost.ensures
+    let at_hold_cost = c.before.before in
+    let at_wide2 = at_hold_cost.before in
+    let at_flight_at = at_wide2.before in
+    let at_wide = at_flight_at.before in
+    let at_loop_test = at_wide.before.before.before in
+    let at_loop = at_loop_test.before in
+    expanding_can at_loop.loop.invariant at_loop_test.loop-test.true at_wide.wide.ensures at_flight_at.flight-at.ensures at_wide2.wide2.ensures at_hold_cost.hold-cost.ensures
 
-loop-less : tie.Need-loop-smaller invariant-loop decreases-loop
+loop-less : tie.Need-loop-smaller invariant_loop decreases_loop
 loop-less c =
-    let at-offer-arg2 = c.before.before.before.before.before in
-    let at_wide = at-offer-arg2.before.before.before.before.before in
-    let at-loop-test = at_wide.before.before.before in
-    let at-loop = at-loop-test.before in
-    expanding-less at-loop.loop.invariant at-loop-test.loop-test.true
+    let at_offer_arg2 = c.before.before.before.before.before in
+    let at_wide = at_offer_arg2.before.before.before.before.before in
+    let at_loop_test = at_wide.before.before.before in
+    let at_loop = at_loop_test.before in
+    expanding_less at_loop.loop.invariant at_loop_test.loop-test.true
 
-loop-again : tie.Need-loop-preserved invariant-loop decreases-loop
+loop-again : tie.Need-loop-preserved invariant_loop decreases_loop
 loop-again c =
-    let at-offer = c.before.before.before.before in
-    let at-hold-cost = at-offer.before.before.before in
-    let at-wide2 = at-hold-cost.before in
-    let at-flight-at = at-wide2.before in
-    let at_wide = at-flight-at.before in
-    let at-loop-test = at_wide.before.before.before in
-    let at-loop = at-loop-test.before in
-    expanding-offered at-loop.loop.invariant at-loop-test.loop-test.true at_wide.wide.ensures at-flight-at.flight-at.ensures at-wide2.wide2.ensures at-hold-cost.hold-cost.ensures at-offer.offer.auto.1.1.1.1.0 at-offer.offer.auto.1.1.1.1.1.0 at-offer.offer.ensures
+    let at_offer = c.before.before.before.before in
+    let at_hold_cost = at_offer.before.before.before in
+    let at_wide2 = at_hold_cost.before in
+    let at_flight_at = at_wide2.before in
+    let at_wide = at_flight_at.before in
+    let at_loop_test = at_wide.before.before.before in
+    let at_loop = at_loop_test.before in
+    expanding_offered at_loop.loop.invariant at_loop_test.loop-test.true at_wide.wide.ensures at_flight_at.flight-at.ensures at_wide2.wide2.ensures at_hold_cost.hold-cost.ensures at_offer.offer.auto.1.1.1.1.0 at_offer.offer.auto.1.1.1.1.1.0 at_offer.offer.ensures
 
-same_length : tie.Need-same-length invariant-loop decreases-loop
-same_length c = (expanding-sizes c.before.loop.invariant).0
+same_length : tie.Need-same-length invariant_loop decreases_loop
+same_length c = (expanding_sizes c.before.loop.invariant).0
 
-same-length-2 : tie.Need-same-length-2 invariant-loop decreases-loop
-same-length-2 c = (expanding-sizes c.before.loop.invariant).1
+same-length-2 : tie.Need-same-length-2 invariant_loop decreases_loop
+same-length-2 c = (expanding_sizes c.before.loop.invariant).1
 
-returns : tie.Need-returns invariant-loop decreases-loop
-returns c = expanding-end c.before.loop.invariant c.loop-test.false
+returns : tie.Need-returns invariant_loop decreases_loop
+returns c = expanding_end c.before.loop.invariant c.loop-test.false
 
 pub expand-spec : {M : Type 1} → statement M
 expand-spec =
     tie.close
     (tie.spec
-    invariant-loop
-    decreases-loop
+    invariant_loop
+    decreases_loop
     mul-from
     slice-read-from
     of-period-requires

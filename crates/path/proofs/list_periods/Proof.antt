@@ -3,64 +3,64 @@ use native.Mathlib.Omega.{arith}
 use Prim.Native.Nat.{◌-◌}
 use mathlib.Core.Path.{◌∙◌}
 use lib.ListN.{length-set}
-use Rattle.path.proofs.Listing.{Filling, filling-start, filling-room, filling-pass, filling-next, filling-end}
+use Rattle.path.proofs.Listing.{Filling, filling_start, filling_room, filling_pass, filling_next, filling_end}
 use Rattle.path.proofs.list_periods.Statement.{statement}
 use Rattle.path.proofs.list_periods.Tie as tie
 
-abbrev invariant-loop : tie.invariant-loop
-invariant-loop capacities list₀ first target left₀ k₀ list left k = Filling capacities list₀ list first target left k
+abbrev invariant_loop : tie.invariant_loop
+invariant_loop capacities list₀ first target left₀ k₀ list left k = Filling capacities list₀ list first target left k
 
-abbrev decreases-loop : tie.decreases-loop
-decreases-loop capacities list₀ first target left₀ k₀ list left k = target - k
+abbrev decreases_loop : tie.decreases_loop
+decreases_loop capacities list₀ first target left₀ k₀ list left k = target - k
 
-loop-holds : tie.Need-loop-init invariant-loop decreases-loop
-loop-holds c = filling-start c.before.before.requires
+loop-holds : tie.Need-loop-init invariant_loop decreases_loop
+loop-holds c = filling_start c.before.before.requires
 
-add-k : tie.Need-overflow-add-k invariant-loop decreases-loop
+add-k : tie.Need-overflow-add-k invariant_loop decreases_loop
 add-k c = omega (arith, c.loop-test.true, c.before.loop.invariant.can.within)
 
-of-period-requires : tie.Need-of-period-requires invariant-loop decreases-loop
+of-period-requires : tie.Need-of-period-requires invariant_loop decreases_loop
 of-period-requires c κs = tt
 
-cast-list : tie.Need-overflow-cast-list invariant-loop decreases-loop
+cast-list : tie.Need-overflow-cast-list invariant_loop decreases_loop
 cast-list c = omega (arith, c.before.before.loop-test.true, c.before.before.before.loop.invariant.can.within)
 
-slice-write-list : tie.Need-slice-write-list invariant-loop decreases-loop
-slice-write-list c = (filling-room c.before.before.before.loop.invariant).0
+slice-write-list : tie.Need-slice-write-list invariant_loop decreases_loop
+slice-write-list c = (filling_room c.before.before.before.loop.invariant).0
 
-add_left : tie.Need-overflow-add-left invariant-loop decreases-loop
-add_left c = omega (arith, filling-room c.before.before.before.loop.invariant)
+add_left : tie.Need-overflow-add-left invariant_loop decreases_loop
+add_left c = omega (arith, filling_room c.before.before.before.loop.invariant)
 
-loop-less : tie.Need-loop-smaller invariant-loop decreases-loop
+loop-less : tie.Need-loop-smaller invariant_loop decreases_loop
 loop-less c = omega (arith, c.before.before.loop-test.true)
 
-loop-again : tie.Need-loop-preserved invariant-loop decreases-loop
-loop-again c = filling-next c.before.before.before.loop.invariant c.before.before.loop-test.true c.before.of-period.ensures.0 c.if1.true
+loop-again : tie.Need-loop-preserved invariant_loop decreases_loop
+loop-again c = filling_next c.before.before.before.loop.invariant c.before.before.loop-test.true c.before.of-period.ensures.0 c.if1.true
 
-loop-less-2 : tie.Need-loop-smaller-2 invariant-loop decreases-loop
+loop-less-2 : tie.Need-loop-smaller-2 invariant_loop decreases_loop
 loop-less-2 c = omega (arith, c.before.before.loop-test.true)
 
-loop-again-2 : tie.Need-loop-preserved-2 invariant-loop decreases-loop
-loop-again-2 c = filling-pass c.before.before.before.loop.invariant c.before.before.loop-test.true c.before.of-period.ensures.0 c.if1.false
+loop-again-2 : tie.Need-loop-preserved-2 invariant_loop decreases_loop
+loop-again-2 c = filling_pass c.before.before.before.loop.invariant c.before.before.loop-test.true c.before.of-period.ensures.0 c.if1.false
 
-cast-list-2 : tie.Need-overflow-cast-list-2 invariant-loop decreases-loop
+cast-list-2 : tie.Need-overflow-cast-list-2 invariant_loop decreases_loop
 cast-list-2 c = omega (arith, c.before.loop.invariant.can.within)
 
-slice-write-list-2 : tie.Need-slice-write-list-2 invariant-loop decreases-loop
-slice-write-list-2 c = (filling-room c.before.loop.invariant).0
+slice-write-list-2 : tie.Need-slice-write-list-2 invariant_loop decreases_loop
+slice-write-list-2 c = (filling_room c.before.loop.invariant).0
 
-same_length : tie.Need-same-length invariant-loop decreases-loop
+same_length : tie.Need-same-length invariant_loop decreases_loop
 same_length c = length-set c.before.loop.list c.before.loop.left c.before.before.before.before.args.target ∙ c.before.loop.invariant.same
 
-returns : tie.Need-returns invariant-loop decreases-loop
-returns c = filling-end c.before.loop.invariant c.loop-test.false
+returns : tie.Need-returns invariant_loop decreases_loop
+returns c = filling_end c.before.loop.invariant c.loop-test.false
 
 pub list-periods-spec : {M : Type 1} → statement M
 list-periods-spec =
     tie.close
     (tie.spec
-    invariant-loop
-    decreases-loop
+    invariant_loop
+    decreases_loop
     loop-holds
     add-k
     of-period-requires

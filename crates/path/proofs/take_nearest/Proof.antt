@@ -2,7 +2,7 @@
 use native.Mathlib.Omega.{arith}
 use mathlib.Core.Path.{refl}
 use borrow.Author.Rules.{rules}
-use Rattle.path.proofs.Listing.{near-room, removed-level, level-none, level-some}
+use Rattle.path.proofs.Listing.{near_room, removed_level, level_none, level_some}
 use Rattle.path.proofs.take_nearest.Statement.{statement}
 use Rattle.path.proofs.take_nearest.Tie as tie
 
@@ -14,9 +14,9 @@ same_length c = search rules
 
 returns : tie.Need-returns
 returns c =
-    let at-nearest = c.before in
-    let at-start = at-nearest.before.before.before.before.before in
-    level-none at-start.requires.0 at-nearest.nearest.ensures c.if1.true
+    let at_nearest = c.before in
+    let at_start = at_nearest.before.before.before.before.before in
+    level_none at_start.requires.0 at_nearest.nearest.ensures c.if1.true
 
 slice-read-k : tie.Need-slice-read-k
 slice-read-k c = search rules
@@ -26,18 +26,18 @@ period-requires c κs = tt
 
 mul-if2 : tie.Need-overflow-mul-if2
 mul-if2 c =
-    let at-if1 = c.before.before in
-    let at-shared-slice-known = at-if1.before.before.before.before.before in
-    let at-start = at-shared-slice-known.before in
-    omega (arith, c.period.ensures, near-room at-start.requires.0 at-if1.if1.false)
+    let at_if1 = c.before.before in
+    let at_shared_slice_known = at_if1.before.before.before.before.before in
+    let at_start = at_shared_slice_known.before in
+    omega (arith, c.period.ensures, near_room at_start.requires.0 at_if1.if1.false)
 
 shared-slice-read-if2 : tie.Need-shared-slice-read-if2
 shared-slice-read-if2 c =
-    let at-period = c.before in
-    let at-if1 = at-period.before.before in
-    let at-shared-slice-known = at-if1.before.before.before.before.before in
-    let at-start = at-shared-slice-known.before in
-    rw at-period.period.ensures (near-room at-start.requires.0 at-if1.if1.false).0
+    let at_period = c.before in
+    let at_if1 = at_period.before.before in
+    let at_shared_slice_known = at_if1.before.before.before.before.before in
+    let at_start = at_shared_slice_known.before in
+    rw at_period.period.ensures (near_room at_start.requires.0 at_if1.if1.false).0
 
 take-level-requires : tie.Need-take-level-requires
 take-level-requires c κs = search rules
@@ -50,12 +50,12 @@ same-length-3 c = search rules
 
 returns-2 : tie.Need-returns-2
 returns-2 c =
-    let at-take-level = c.before.before.before.before in
-    let at-period = at-take-level.before.before.before.before.before in
-    let at-if1 = at-period.before.before in
-    let at-nearest = at-if1.before in
-    let at-start = at-nearest.before.before.before.before.before in
-    level-some at-start.requires.0 at-nearest.nearest.ensures at-if1.if1.false at-take-level.take_level.ensures
+    let at_take_level = c.before.before.before.before in
+    let at_period = at_take_level.before.before.before.before.before in
+    let at_if1 = at_period.before.before in
+    let at_nearest = at_if1.before in
+    let at_start = at_nearest.before.before.before.before.before in
+    level_some at_start.requires.0 at_nearest.nearest.ensures at_if1.if1.false at_take_level.take_level.ensures
 
 slice-write-queue : tie.Need-slice-write-queue
 slice-write-queue c = search rules
@@ -74,12 +74,12 @@ same-length-5 c = search rules
 
 returns-3 : tie.Need-returns-3
 returns-3 c =
-    let at-take-out = c.before.before in
-    let at-slice-known3 = at-take-out.before.before.before.before.before in
-    let at-if1 = at-slice-known3.before in
-    let at-nearest = at-if1.before in
-    let at-start = at-nearest.before.before.before.before.before in
-    level-some at-start.requires.0 at-nearest.nearest.ensures at-if1.if1.false (omega (arith, at-if1.if1.false), removed-level at-start.args.queue.now at-start.requires.0.shape at-if1.if1.false refl (omega (arith, at-start.requires.1)) at-take-out.take_out.ensures at-start.args.dist.now)
+    let at_take_out = c.before.before in
+    let at_slice_known3 = at_take_out.before.before.before.before.before in
+    let at_if1 = at_slice_known3.before in
+    let at_nearest = at_if1.before in
+    let at_start = at_nearest.before.before.before.before.before in
+    level_some at_start.requires.0 at_nearest.nearest.ensures at_if1.if1.false (omega (arith, at_if1.if1.false), removed_level at_start.args.queue.now at_start.requires.0.shape at_if1.if1.false refl (omega (arith, at_start.requires.1)) at_take_out.take_out.ensures at_start.args.dist.now)
 
 pub take-nearest-spec : {M : Type 1} → statement M
 take-nearest-spec =

@@ -1,7 +1,7 @@
 -- Who waits after the periods before j is who is eligible in j, and the ones of both words are as many.
 -- Assumes nothing.
-use Rattle.period_card.proofs.Steps.{part_length, card-is}
-use Rattle.quick_plan.proofs.NextCosts.{rate-fits}
+use Rattle.period_card.proofs.Steps.{part_length, card_is}
+use Rattle.quick_plan.proofs.NextCosts.{rate_fits}
 use lib.Count.{ones-le}
 use mathlib.Core.Path.{◌∙◌}
 use native.Mathlib.Omega.{arith}
@@ -22,7 +22,7 @@ sub-plan-to : tie.Need-overflow-sub-plan-to
 sub-plan-to c = search rules
 
 plan-to-requires : tie.Need-plan-to-requires
-plan-to-requires c κs = (let a = c.before.before.before.before.before in (a.requires.0.0, part_length a.args.row.now a.args.n a.requires.1 ∙ a.requires.0.1), (rate-fits _, omega arith))
+plan-to-requires c κs = (let a = c.before.before.before.before.before in (a.requires.0.0, part_length a.args.row.now a.args.n a.requires.1 ∙ a.requires.0.1), (rate_fits _, omega arith))
 
 marks-of-requires : tie.Need-marks-of-requires
 marks-of-requires c κs = search rules
@@ -35,11 +35,11 @@ same_length c = search rules
 
 returns : tie.Need-returns
 returns c =
-    let at-marks-of = c.before.before.before.before in
-    let at-plan-to = at-marks-of.before.before.before.before in
-    let at-shared-slice-known = at-plan-to.before.before.before.before.before in
-    let at-start = at-shared-slice-known.before in
-    let a = at-start in card-is _ a.requires.0.0 a.requires.0.2 a.requires.0.3 at-plan-to.plan-to.ensures at-marks-of.marks-of.ensures
+    let at_marks_of = c.before.before.before.before in
+    let at_plan_to = at_marks_of.before.before.before.before in
+    let at_shared_slice_known = at_plan_to.before.before.before.before.before in
+    let at_start = at_shared_slice_known.before in
+    let a = at_start in card_is _ a.requires.0.0 a.requires.0.2 a.requires.0.3 at_plan_to.plan-to.ensures at_marks_of.marks-of.ensures
 
 pub card-in-spec : {M : Type 1} → statement M
 card-in-spec =

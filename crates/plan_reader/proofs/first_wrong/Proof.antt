@@ -1,7 +1,7 @@
 -- The lines that can be completed are measured.
 -- Assumes nothing.
 use native.Mathlib.Omega.{arith}
-use Rattle.plan_reader.proofs.Reading.{most-none, most-some, partial-rows}
+use Rattle.plan_reader.proofs.Reading.{most_none, most_some, partial_rows}
 use borrow.Author.Rules.{rules}
 use Rattle.plan_reader.proofs.first_wrong.Statement.{statement}
 use Rattle.plan_reader.proofs.first_wrong.Tie as tie
@@ -17,8 +17,8 @@ enum-known-most c = search rules
 
 place-behind-requires : tie.Need-place-behind-requires
 place-behind-requires c κs =
-    let at-start = c.before.before.before.before.before.before.before.before.before.before.before in
-    let rows = partial-rows at-start.requires in
+    let at_start = c.before.before.before.before.before.before.before.before.before.before.before in
+    let rows = partial_rows at_start.requires in
     let most = rw c.before.most.given.1 at c.before.before.before.before.before.most-completed.ensures in
     (omega (arith, rows.0, most.0), rows.1, rows.2)
 
@@ -27,8 +27,8 @@ same_length c = search rules
 
 returns : tie.Need-returns
 returns c =
-    let at-start = c.before.before.before.before.before.before.before.before.before.before in
-    most-none at-start.requires (rw c.enum_told.given.1 at c.before.before.before.before.most-completed.ensures)
+    let at_start = c.before.before.before.before.before.before.before.before.before.before in
+    most_none at_start.requires (rw c.enum_told.given.1 at c.before.before.before.before.most-completed.ensures)
 
 same-length-2 : tie.Need-same-length-2
 same-length-2 c = search rules
@@ -36,8 +36,8 @@ same-length-2 c = search rules
 returns-2 : tie.Need-returns-2
 returns-2 c =
     let at_most = c.before.before.before.before.before.before in
-    let at-start = c.before.before.before.before.before.before.before.before.before.before.before.before in
-    most-some at-start.requires (rw c.before.before.most.given.1 at at_most.most-completed.ensures) c.place-behind.ensures
+    let at_start = c.before.before.before.before.before.before.before.before.before.before.before.before in
+    most_some at_start.requires (rw c.before.before.most.given.1 at at_most.most-completed.ensures) c.place-behind.ensures
 
 pub first-wrong-spec : {M : Type 1} → statement M
 first-wrong-spec =

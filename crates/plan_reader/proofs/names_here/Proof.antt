@@ -1,6 +1,6 @@
 -- The constant's bytes are the definition's.
 -- Assumes nothing.
-use Rattle.plan_text.specs.PlanText.{planNames}
+use Rattle.plan_text.specs.PlanText.{plan_names}
 use borrow.Author.Rules.{rules}
 use Rattle.plan_reader.proofs.names_here.Statement.{statement}
 use Rattle.plan_reader.proofs.names_here.Tie as tie
@@ -12,7 +12,7 @@ fixed-at-requires : tie.Need-fixed-at-requires
 fixed-at-requires c κs = search rules
 
 returns : tie.Need-returns
-unfolding planNames
+unfolding plan_names
 returns c = c.fixed-at.ensures
 
 pub names-here-spec : {M : Type 1} → statement M

@@ -1,15 +1,15 @@
 -- The parts of the rows that are lent on, and the plan copied where it is whole.
 -- Assumes nothing.
 use native.Mathlib.Omega.{arith}
-use Rattle.plan_reader.proofs.Calls.{row-holds, left-holds, in-starts, call-refused, plan-holds, plan-copied}
+use Rattle.plan_reader.proofs.Calls.{row_holds, left_holds, in_starts, call_refused, plan_holds, plan_copied}
 use borrow.Author.Rules.{rules}
 use Rattle.plan_reader.proofs.read_in.Statement.{statement}
 use Rattle.plan_reader.proofs.read_in.Tie as tie
 
 all-places-requires : tie.Need-all-places-requires
 all-places-requires c κs =
-    let at-start = c.before.before.before.before.before.before.before in
-    left-holds at-start.requires
+    let at_start = c.before.before.before.before.before.before.before in
+    left_holds at_start.requires
 
 sub-read-rows : tie.Need-overflow-sub-read-rows
 sub-read-rows c = search rules
@@ -19,8 +19,8 @@ part-read-rows-start c = search rules
 
 part-read-rows-end : tie.Need-slice-bounds-read-rows-end
 part-read-rows-end c =
-    let at-start = c.before.before.before.before.before.before.before.before.before.before in
-    let p = at-start.requires in row-holds p
+    let at_start = c.before.before.before.before.before.before.before.before.before.before in
+    let p = at_start.requires in row_holds p
 
 sub-read-rows-2 : tie.Need-overflow-sub-read-rows-2
 sub-read-rows-2 c = search rules
@@ -34,8 +34,8 @@ part-read-rows-end-2 c =
 
 read-rows-requires : tie.Need-read-rows-requires
 read-rows-requires c κs =
-    let at-start = c.before.before.before.before.before.before.before.before.before.before.before.before in
-    let p = at-start.requires in in-starts p c.before.before.before.before.all-places.ensures
+    let at_start = c.before.before.before.before.before.before.before.before.before.before.before.before in
+    let p = at_start.requires in in_starts p c.before.before.before.before.all-places.ensures
 
 enum-known-end : tie.Need-enum-known-end
 enum-known-end c = search rules
@@ -46,8 +46,8 @@ enum-known-end-2 c = search rules
 copy-front-requires : tie.Need-copy-front-requires
 copy-front-requires c κs =
     let at_rows = c.before.before.before.before.before.before.before.before.before in
-    let at-start = c.before.before.before.before.before.before.before.before.before.before.before.before.before.before.before.before.before.before.before.before.before.before in
-    (plan-holds at-start.requires _ (rw c.before.before.before.end2.given.1 at at_rows.read-rows.ensures), omega arith)
+    let at_start = c.before.before.before.before.before.before.before.before.before.before.before.before.before.before.before.before.before.before.before.before.before.before in
+    (plan_holds at_start.requires _ (rw c.before.before.before.end2.given.1 at at_rows.read-rows.ensures), omega arith)
 
 same_length : tie.Need-same-length
 same_length c = search rules
@@ -58,7 +58,7 @@ same-length-2 c = search rules
 returns : tie.Need-returns
 returns c =
     let at_rows = c.before.before.before.before.before.before.before in
-    call-refused _ _ _ at_rows.read-rows.new.1.1.1.1.0 (rw c.before.end.given.1 at at_rows.read-rows.ensures)
+    call_refused _ _ _ at_rows.read-rows.new.1.1.1.1.0 (rw c.before.end.given.1 at at_rows.read-rows.ensures)
 
 same-length-3 : tie.Need-same-length-3
 same-length-3 c = search rules
@@ -71,10 +71,10 @@ same-length-5 c = search rules
 
 returns-2 : tie.Need-returns-2
 returns-2 c =
-    let at-end = c.before.before.before.before.before.before in
+    let at_end = c.before.before.before.before.before.before in
     let at_rows = c.before.before.before.before.before.before.before.before.before.before.before.before in
-    let at-start = c.before.before.before.before.before.before.before.before.before.before.before.before.before.before.before.before.before.before.before.before.before.before.before.before.before in
-    plan-copied at-start.requires _ (rw at-end.end2.given.1 at at_rows.read-rows.ensures) c.before.before.copy-front.ensures
+    let at_start = c.before.before.before.before.before.before.before.before.before.before.before.before.before.before.before.before.before.before.before.before.before.before.before.before.before in
+    plan_copied at_start.requires _ (rw at_end.end2.given.1 at at_rows.read-rows.ensures) c.before.before.copy-front.ensures
 
 pub read-in-spec : {M : Type 1} → statement M
 read-in-spec =

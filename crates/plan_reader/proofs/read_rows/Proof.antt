@@ -2,7 +2,7 @@
 -- Assumes nothing.
 use mathlib.Core.Path.{sym, ◌∙◌}
 use borrow.Author.Tests.{not-true, not-false}
-use Rattle.plan_reader.proofs.Reading.{no_names, read-start, lines-stopped, lines-all, can-end, rows-ended}
+use Rattle.plan_reader.proofs.Reading.{no_names, read_start, lines_stopped, lines_all, can_end, rows_ended}
 use borrow.Author.Rules.{rules}
 use Rattle.plan_reader.proofs.read_rows.Statement.{statement}
 use Rattle.plan_reader.proofs.read_rows.Tie as tie
@@ -12,13 +12,13 @@ names-here-requires c κs = search rules
 
 returns : tie.Need-returns
 returns c =
-    let at-start = c.before.before.before.before.before.before.before in
-    no_names _ (sym c.before.names-here.ensures ∙ not-true _ c.if1.true) at-start.args.holds.now
+    let at_start = c.before.before.before.before.before.before.before in
+    no_names _ (sym c.before.names-here.ensures ∙ not-true _ c.if1.true) at_start.args.holds.now
 
 read-lines-requires : tie.Need-read-lines-requires
 read-lines-requires c κs =
-    let at-start = c.before.before.before.before.before.before.before.before.before in
-    read-start (sym c.before.before.before.names-here.ensures ∙ not-false _ c.before.before.if1.false) at-start.requires
+    let at_start = c.before.before.before.before.before.before.before.before.before in
+    read_start (sym c.before.before.before.names-here.ensures ∙ not-false _ c.before.before.if1.false) at_start.requires
 
 flight-count-requires : tie.Need-flight-count-requires
 flight-count-requires c κs = search rules
@@ -35,12 +35,12 @@ same-length-2 c = search rules
 returns-2 : tie.Need-returns-2
 returns-2 c =
     let at_count = c.before.before.before.before.before.before in
-    let at-lines = c.before.before.before.before.before.before.before.before.before.before.before in lines-stopped at-lines.read-lines.ensures at_count.flight-count.ensures c.before.before.before.before.before.if2.true c.before.before.first-wrong.ensures
+    let at_lines = c.before.before.before.before.before.before.before.before.before.before.before in lines_stopped at_lines.read-lines.ensures at_count.flight-count.ensures c.before.before.before.before.before.if2.true c.before.before.first_wrong.ensures
 
 read-end-requires : tie.Need-read-end-requires
 read-end-requires c κs =
-    let at-lines = c.before.before.before.before.before.before.before in
-    can-end (lines-all at-lines.read-lines.ensures c.before.before.flight-count.ensures c.before.if2.false)
+    let at_lines = c.before.before.before.before.before.before.before in
+    can_end (lines_all at_lines.read-lines.ensures c.before.before.flight-count.ensures c.before.if2.false)
 
 same-length-3 : tie.Need-same-length-3
 same-length-3 c = search rules
@@ -50,8 +50,8 @@ same-length-4 c = search rules
 
 returns-3 : tie.Need-returns-3
 returns-3 c =
-    let at-lines = c.before.before.before.before.before.before.before.before in
-    rows-ended (lines-all at-lines.read-lines.ensures c.before.before.before.flight-count.ensures c.before.before.if2.false) c.read-end.result c.read-end.ensures
+    let at_lines = c.before.before.before.before.before.before.before.before in
+    rows_ended (lines_all at_lines.read-lines.ensures c.before.before.before.flight-count.ensures c.before.before.if2.false) c.read-end.result c.read-end.ensures
 
 pub read-rows-spec : {M : Type 1} → statement M
 read-rows-spec =

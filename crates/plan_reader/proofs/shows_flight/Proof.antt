@@ -3,8 +3,8 @@
 use Prim.Native.Nat.{◌+◌}
 use mathlib.Core.Path.{sym, ap, ap₂, ◌∙◌}
 use native.Mathlib.Omega.{arith}
-use Rattle.plan_reader.specs.Loop.{lineCost}
-use Rattle.plan_reader.proofs.Holds.{other-number, cost-decides}
+use Rattle.plan_reader.specs.Loop.{line_cost}
+use Rattle.plan_reader.proofs.Holds.{other_number, cost_decides}
 use borrow.Author.Rules.{rules}
 use Rattle.plan_reader.proofs.shows_flight.Statement.{statement}
 use Rattle.plan_reader.proofs.shows_flight.Tie as tie
@@ -28,7 +28,7 @@ number-of-requires : tie.Need-number-of-requires
 number-of-requires c κs = search rules
 
 returns : tie.Need-returns
-returns c = other-number _ _ _ _ 0 (λ e. c.if1.true (c.before.before.wide2.ensures ∙ (e ∙ sym c.before.number_of.ensures.0)))
+returns c = other_number _ _ _ _ 0 (λ e. c.if1.true (c.before.before.wide2.ensures ∙ (e ∙ sym c.before.number_of.ensures.0)))
 
 shared-slice-read-wide-3 : tie.Need-shared-slice-read-wide-3
 shared-slice-read-wide-3 c = search rules
@@ -38,8 +38,8 @@ wide-requires-3 c κs = search rules
 
 returns-2 : tie.Need-returns-2
 returns-2 c =
-    let at-due = c.before.before.before.before.before.before.before in
-    other-number _ _ _ _ 1 (λ e. c.if2.true (c.before.wide3.ensures ∙ (e ∙ sym at-due.due-of.ensures.0)))
+    let at_due = c.before.before.before.before.before.before.before in
+    other_number _ _ _ _ 1 (λ e. c.if2.true (c.before.wide3.ensures ∙ (e ∙ sym at_due.due-of.ensures.0)))
 
 shared-slice-read-wide-4 : tie.Need-shared-slice-read-wide-4
 shared-slice-read-wide-4 c = search rules
@@ -49,15 +49,15 @@ wide-requires-4 c κs = search rules
 
 add-if3 : tie.Need-overflow-add-if3
 add-if3 c =
-    let at-due = c.before.before.before.before.before.before.before.before.before in
+    let at_due = c.before.before.before.before.before.before.before.before.before in
     let at_wide = c.before.before.before.before.before.before.before.before.before.before in
-    let at-known = c.before.before.before.before.before.before.before.before.before.before.before in
-    omega (arith, at-due.due-of.ensures.1, at_wide.wide.ensures, at-known.shared-slice-known3.given 3)
+    let at_known = c.before.before.before.before.before.before.before.before.before.before.before in
+    omega (arith, at_due.due-of.ensures.1, at_wide.wide.ensures, at_known.shared-slice-known3.given 3)
 
 returns-3 : tie.Need-returns-3
 returns-3 c =
-    let at-due = c.before.before.before.before.before.before.before.before.before.before in
-    other-number _ _ _ _ 2 (λ e. c.if3.true (c.before.wide4.ensures ∙ (e ∙ sym (ap₂ ◌+◌ at-due.due-of.ensures.0 at-due.before.wide.ensures))))
+    let at_due = c.before.before.before.before.before.before.before.before.before.before in
+    other_number _ _ _ _ 2 (λ e. c.if3.true (c.before.wide4.ensures ∙ (e ∙ sym (ap₂ ◌+◌ at_due.due-of.ensures.0 at_due.before.wide.ensures))))
 
 wide-requires-5 : tie.Need-wide-requires-5
 wide-requires-5 c κs = search rules
@@ -68,16 +68,16 @@ cost-of-requires c κs = let at_wide = c.before.before.before.before.before.befo
 returns-4 : tie.Need-returns-4
 returns-4 c =
     let at_second = c.before.before.before.before.before.before in
-    let at-if1 = c.before.before.before.before.before.before.before.before in
-    let at-start = c.before.before.before.before.before.before.before.before.before.before.before.before.before.before.before.before.before in
-    let at-due = c.before.before.before.before.before.before.before.before.before.before.before.before in
-    let hold-is = at-due.before.wide.ensures in
-    let at-number = c.before.before.before.before.before.before.before.before.before in
-    cost-decides _ _ _ _ at-start.requires.1
-    (sym at-number.before.wide2.ensures ∙ (at-if1.if1.false ∙ at-number.number_of.ensures.0))
-    (sym at_second.wide3.ensures ∙ (c.before.before.before.before.before.if2.false ∙ at-due.due-of.ensures.0))
-    (sym c.before.before.before.wide4.ensures ∙ (c.before.before.if3.false ∙ ap₂ ◌+◌ at-due.due-of.ensures.0 hold-is))
-    c.before.wide5.ensures (c.cost-of.ensures ∙ ap (lineCost _ _) hold-is)
+    let at_if1 = c.before.before.before.before.before.before.before.before in
+    let at_start = c.before.before.before.before.before.before.before.before.before.before.before.before.before.before.before.before.before in
+    let at_due = c.before.before.before.before.before.before.before.before.before.before.before.before in
+    let hold_is = at_due.before.wide.ensures in
+    let at_number = c.before.before.before.before.before.before.before.before.before in
+    cost_decides _ _ _ _ at_start.requires.1
+    (sym at_number.before.wide2.ensures ∙ (at_if1.if1.false ∙ at_number.number_of.ensures.0))
+    (sym at_second.wide3.ensures ∙ (c.before.before.before.before.before.if2.false ∙ at_due.due-of.ensures.0))
+    (sym c.before.before.before.wide4.ensures ∙ (c.before.before.if3.false ∙ ap₂ ◌+◌ at_due.due-of.ensures.0 hold_is))
+    c.before.wide5.ensures (c.cost-of.ensures ∙ ap (line_cost _ _) hold_is)
 
 pub shows-flight-spec : {M : Type 1} → statement M
 shows-flight-spec =

@@ -1,6 +1,6 @@
 -- The constant's bytes are the definition's.
 -- Assumes nothing.
-use Rattle.plan_text.specs.PlanText.{totalName}
+use Rattle.plan_text.specs.PlanText.{total_name}
 use borrow.Author.Rules.{rules}
 use Rattle.plan_reader.proofs.total_name_here.Statement.{statement}
 use Rattle.plan_reader.proofs.total_name_here.Tie as tie
@@ -12,7 +12,7 @@ fixed-at-requires : tie.Need-fixed-at-requires
 fixed-at-requires c κs = search rules
 
 returns : tie.Need-returns
-unfolding totalName
+unfolding total_name
 returns c = c.fixed-at.ensures
 
 pub total-name-here-spec : {M : Type 1} → statement M

@@ -1,5 +1,5 @@
 -- Four texts, one behind the other.
-use Rattle.plan_text.proofs.Placing.{length-plan-names, length-total-name, length-plan, plan-put}
+use Rattle.plan_text.proofs.Placing.{length_plan_names, length_total_name, length_plan, plan_put}
 use native.Mathlib.Omega.{arith}
 use borrow.Author.Rules.{rules}
 use Rattle.plan_text.proofs.fill_plan.Statement.{statement}
@@ -10,52 +10,52 @@ put-plan-names-requires c κs =
     let a = c.before.before.before.before.args in
     let f = a.flights.now in
     let h = a.holds.now in
-    omega (arith, length-plan f h c.before.before.before.before.requires.0 c.before.before.before.before.requires.1, length-plan-names, length-total-name, c.before.before.before.before.requires.3)
+    omega (arith, length_plan f h c.before.before.before.before.requires.0 c.before.before.before.before.requires.1, length_plan_names, length_total_name, c.before.before.before.before.requires.3)
 
 put-plan-lines-requires : tie.Need-put-plan-lines-requires
 put-plan-lines-requires c κs =
-    let at-put-plan-names = c.before.before.before in
-    let at-start = at-put-plan-names.before.before.before.before.before in
-    let a = at-start.args in
+    let at_put_plan_names = c.before.before.before in
+    let at_start = at_put_plan_names.before.before.before.before.before in
+    let a = at_start.args in
     let f = a.flights.now in
     let h = a.holds.now in
-    (at-start.requires.2, omega (arith, length-plan f h at-start.requires.0 at-start.requires.1, length-plan-names, length-total-name, at-start.requires.3, at-put-plan-names.put-plan-names.ensures.place, at-put-plan-names.put-plan-names.auto))
+    (at_start.requires.2, omega (arith, length_plan f h at_start.requires.0 at_start.requires.1, length_plan_names, length_total_name, at_start.requires.3, at_put_plan_names.put-plan-names.ensures.place, at_put_plan_names.put-plan-names.auto))
 
 put-total-name-requires : tie.Need-put-total-name-requires
 put-total-name-requires c κs =
-    let at-put-plan-lines = c.before.before.before in
-    let at-put-plan-names = at-put-plan-lines.before.before.before.before in
-    let at-start = at-put-plan-names.before.before.before.before.before in
-    let a = at-start.args in
+    let at_put_plan_lines = c.before.before.before in
+    let at_put_plan_names = at_put_plan_lines.before.before.before.before in
+    let at_start = at_put_plan_names.before.before.before.before.before in
+    let a = at_start.args in
     let f = a.flights.now in
     let h = a.holds.now in
-    omega (arith, length-plan f h at-start.requires.0 at-start.requires.1, length-plan-names, length-total-name, at-start.requires.3, at-put-plan-names.put-plan-names.ensures.place, at-put-plan-names.put-plan-names.auto, at-put-plan-lines.put-plan-lines.ensures.place, at-put-plan-lines.put-plan-lines.auto)
+    omega (arith, length_plan f h at_start.requires.0 at_start.requires.1, length_plan_names, length_total_name, at_start.requires.3, at_put_plan_names.put-plan-names.ensures.place, at_put_plan_names.put-plan-names.auto, at_put_plan_lines.put-plan-lines.ensures.place, at_put_plan_lines.put-plan-lines.auto)
 
 put-number-at-requires : tie.Need-put-number-at-requires
 put-number-at-requires c κs =
-    let at-put-total-name = c.before.before.before in
-    let at-put-plan-lines = at-put-total-name.before.before.before.before in
-    let at-put-plan-names = at-put-plan-lines.before.before.before.before in
-    let at-start = at-put-plan-names.before.before.before.before.before in
-    let a = at-start.args in
+    let at_put_total_name = c.before.before.before in
+    let at_put_plan_lines = at_put_total_name.before.before.before.before in
+    let at_put_plan_names = at_put_plan_lines.before.before.before.before in
+    let at_start = at_put_plan_names.before.before.before.before.before in
+    let a = at_start.args in
     let f = a.flights.now in
     let h = a.holds.now in
-    omega (arith, length-plan f h at-start.requires.0 at-start.requires.1, length-plan-names, length-total-name, at-start.requires.3, at-put-plan-names.put-plan-names.ensures.place, at-put-plan-names.put-plan-names.auto, at-put-plan-lines.put-plan-lines.ensures.place, at-put-plan-lines.put-plan-lines.auto, at-put-total-name.put-total-name.ensures.place, at-put-total-name.put-total-name.auto)
+    omega (arith, length_plan f h at_start.requires.0 at_start.requires.1, length_plan_names, length_total_name, at_start.requires.3, at_put_plan_names.put-plan-names.ensures.place, at_put_plan_names.put-plan-names.auto, at_put_plan_lines.put-plan-lines.ensures.place, at_put_plan_lines.put-plan-lines.auto, at_put_total_name.put-total-name.ensures.place, at_put_total_name.put-total-name.auto)
 
 same_length : tie.Need-same-length
 same_length c = search rules
 
 returns : tie.Need-returns
 returns c =
-    let at-out3 = c.before.before.before.before.before in
-    let at-put-total-name = at-out3.before in
-    let at-put-plan-lines = at-put-total-name.before.before.before.before in
-    let at-put-plan-names = at-put-plan-lines.before.before.before.before in
-    let at-start = at-put-plan-names.before.before.before.before.before in
-    let a = at-start.args in
+    let at_out3 = c.before.before.before.before.before in
+    let at_put_total_name = at_out3.before in
+    let at_put_plan_lines = at_put_total_name.before.before.before.before in
+    let at_put_plan_names = at_put_plan_lines.before.before.before.before in
+    let at_start = at_put_plan_names.before.before.before.before.before in
+    let a = at_start.args in
     let f = a.flights.now in
     let h = a.holds.now in
-    plan-put f h at-start.requires.0 at-start.requires.1 at-start.requires.3 at-put-plan-names.put-plan-names.ensures at-put-plan-lines.put-plan-lines.ensures at-put-total-name.put-total-name.ensures c.before.before.put-number-at.ensures
+    plan_put f h at_start.requires.0 at_start.requires.1 at_start.requires.3 at_put_plan_names.put-plan-names.ensures at_put_plan_lines.put-plan-lines.ensures at_put_total_name.put-total-name.ensures c.before.before.put-number-at.ensures
 
 pub fill-plan-spec : {M : Type 1} → statement M
 fill-plan-spec =

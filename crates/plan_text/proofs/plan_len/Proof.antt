@@ -1,5 +1,5 @@
 -- The text's length is that of its parts.
-use Rattle.plan_text.proofs.Placing.{length-plan}
+use Rattle.plan_text.proofs.Placing.{length_plan}
 use native.Mathlib.Omega.{arith}
 use borrow.Author.Rules.{rules}
 use Rattle.plan_text.proofs.plan_len.Statement.{statement}
@@ -22,7 +22,7 @@ returns c =
     let a = c.before.before.before.before.args in
     let f = a.flights.now in
     let h = a.holds.now in
-    omega (arith, length-plan f h c.before.before.before.before.requires.0 c.before.before.before.before.requires.1, c.before.plan-lines-len.ensures.0, c.number-len.ensures.1)
+    omega (arith, length_plan f h c.before.before.before.before.requires.0 c.before.before.before.before.requires.1, c.before.plan-lines-len.ensures.0, c.number-len.ensures.1)
 
 pub plan-len-spec : {M : Type 1} → statement M
 plan-len-spec =

@@ -1,13 +1,13 @@
 -- The line's length, by its definition.
-use Rattle.plan_text.proofs.Placing.{line-is}
+use Rattle.plan_text.proofs.Placing.{line_is}
 use Rattle.text.specs.Digits.{line}
-use Rattle.plan_text.specs.PlanText.{planLine}
+use Rattle.plan_text.specs.PlanText.{plan_line}
 use native.Mathlib.Omega.{arith}
 use mathlib.Core.Path.{◌≡◌, ap, sym, ◌∙◌}
 use mathlib.Core.List.{[], ◌∷◌}
 use lib.ListN.{length}
 use borrow.Author.Rules.{rules}
-use Rattle.day.specs.Day.{column, flightAt, holdCost, hold, landOf}
+use Rattle.day.specs.Day.{column, flight_at, hold_cost, hold, land_of}
 use Rattle.plan_text.proofs.plan_line_len.Statement.{statement}
 use Rattle.plan_text.proofs.plan_line_len.Tie as tie
 
@@ -25,14 +25,14 @@ line-len-requires c κs = search rules
 
 returns : tie.Need-returns
 returns c =
-    let at-values-of = c.before.before.before in
-    let at-start = at-values-of.before.before.before in
-    let a = at-start.args in
+    let at_values_of = c.before.before.before in
+    let at_start = at_values_of.before.before.before in
+    let a = at_start.args in
     let f = a.flights.now in
     let h = a.holds.now in
-    let v : at-values-of.values_of.result ≡ column 0 f a.i ∷ column 1 f a.i ∷ landOf f h a.i ∷ hold h a.i ∷ [] = at-values-of.values_of.ensures in
-    let q : c.before.cost-at.result ≡ holdCost (flightAt f a.i) (hold h a.i) = c.before.cost-at.ensures in
-    let e : line at-values-of.values_of.result c.before.cost-at.result ≡ planLine f h a.i = rw (v, q) (sym (line-is f h a.i)) in
+    let v : at_values_of.values_of.result ≡ column 0 f a.i ∷ column 1 f a.i ∷ land_of f h a.i ∷ hold h a.i ∷ [] = at_values_of.values_of.ensures in
+    let q : c.before.cost-at.result ≡ hold_cost (flight_at f a.i) (hold h a.i) = c.before.cost-at.ensures in
+    let e : line at_values_of.values_of.result c.before.cost-at.result ≡ plan_line f h a.i = rw (v, q) (sym (line_is f h a.i)) in
     let s = rw (v, q) at c.line-len.ensures in
     (c.line-len.ensures.0 ∙ ap length e, omega (arith, s.1))
 

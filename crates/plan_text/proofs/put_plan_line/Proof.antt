@@ -1,25 +1,25 @@
 -- A line of five numbers. Assumes nothing.
 use native.Mathlib.Omega.{arith}
-use Rattle.day.specs.Day.{column, flightAt, holdCost, hold, landOf}
+use Rattle.day.specs.Day.{column, flight_at, hold_cost, hold, land_of}
 use mathlib.Core.List.{[], ◌∷◌}
 use mathlib.Core.Path.{◌≡◌, sym}
-use Rattle.plan_text.specs.PlanText.{planLine}
+use Rattle.plan_text.specs.PlanText.{plan_line}
 use Rattle.text.specs.Digits.{line}
-use Rattle.plan_text.proofs.Placing.{line-is}
+use Rattle.plan_text.proofs.Placing.{line_is}
 use borrow.Author.Rules.{rules}
 use Rattle.plan_text.proofs.put_plan_line.Statement.{statement}
 use Rattle.plan_text.proofs.put_plan_line.Tie as tie
 
 -- what is written, seen from where its numbers are known
 line_made : (s : tie.After-cost-at) → line s.before.values_of.result s.cost-at.result
-    ≡ planLine s.before.before.before.before.before.args.flights.now s.before.before.before.before.before.args.holds.now s.before.before.before.before.before.args.i
+    ≡ plan_line s.before.before.before.before.before.args.flights.now s.before.before.before.before.before.args.holds.now s.before.before.before.before.before.args.i
 line_made s =
     let a = s.before.before.before.before.before.args in
     let f = a.flights.now in
     let h = a.holds.now in
-    let v : s.before.values_of.result ≡ column 0 f a.i ∷ column 1 f a.i ∷ landOf f h a.i ∷ hold h a.i ∷ [] = s.before.values_of.ensures in
-    let q : s.cost-at.result ≡ holdCost (flightAt f a.i) (hold h a.i) = s.cost-at.ensures in
-    rw (v, q) (sym (line-is f h a.i))
+    let v : s.before.values_of.result ≡ column 0 f a.i ∷ column 1 f a.i ∷ land_of f h a.i ∷ hold h a.i ∷ [] = s.before.values_of.ensures in
+    let q : s.cost-at.result ≡ hold_cost (flight_at f a.i) (hold h a.i) = s.cost-at.ensures in
+    rw (v, q) (sym (line_is f h a.i))
 
 values-of-requires : tie.Need-values-of-requires
 values-of-requires c κs = search rules

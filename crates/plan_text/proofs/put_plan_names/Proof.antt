@@ -1,6 +1,6 @@
 -- The constant's bytes are the definition's.
-use Rattle.plan_text.proofs.Placing.{length-plan-names}
-use Rattle.plan_text.specs.PlanText.{planNames}
+use Rattle.plan_text.proofs.Placing.{length_plan_names}
+use Rattle.plan_text.specs.PlanText.{plan_names}
 use native.Mathlib.Omega.{arith}
 use borrow.Author.Rules.{rules}
 use Rattle.plan_text.proofs.put_plan_names.Statement.{statement}
@@ -10,13 +10,13 @@ slice-aggregate-put-fixed : tie.Need-slice-aggregate-put-fixed
 slice-aggregate-put-fixed c = search rules
 
 put-fixed-requires : tie.Need-put-fixed-requires
-put-fixed-requires c κs = omega (arith, length-plan-names)
+put-fixed-requires c κs = omega (arith, length_plan_names)
 
 same_length : tie.Need-same-length
 same_length c = search rules
 
 returns : tie.Need-returns
-unfolding planNames
+unfolding plan_names
 returns c = c.before.before.put-fixed.ensures
 
 pub put-plan-names-spec : {M : Type 1} → statement M

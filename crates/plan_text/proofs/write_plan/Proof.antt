@@ -1,5 +1,5 @@
 -- A refusal, or the text of a legal plan. Assumes nothing.
-use Rattle.plan_text.proofs.Placing.{on-refused, on-legal, legal-rows}
+use Rattle.plan_text.proofs.Placing.{on_refused, on_legal, legal_rows}
 use mathlib.Core.Path.{sym, ◌∙◌}
 use borrow.Author.Rules.{rules}
 use Rattle.plan_text.proofs.write_plan.Statement.{statement}
@@ -15,18 +15,18 @@ enum-known-found-2 : tie.Need-enum-known-found-2
 enum-known-found-2 c = search rules
 
 write-legal-requires : tie.Need-write-legal-requires
-write-legal-requires c κs = legal-rows _ _ (sym c.before.before.before.before.check-plan.ensures ∙ c.before.before.found2.given.1)
+write-legal-requires c κs = legal_rows _ _ (sym c.before.before.before.before.check-plan.ensures ∙ c.before.before.found2.given.1)
 
 returns : tie.Need-returns
-returns c = on-refused _ _ _ _ (sym c.before.before.before.check-plan.ensures ∙ c.before.found.given.1)
+returns c = on_refused _ _ _ _ (sym c.before.before.before.check-plan.ensures ∙ c.before.found.given.1)
 
 same_length : tie.Need-same-length
 same_length c = search rules
 
 returns-2 : tie.Need-returns-2
 returns-2 c =
-    let at-found = c.before.before.before.before.before in
-    let o = on-legal _ _ _ _ (sym at-found.before.before.check-plan.ensures ∙ at-found.found2.given.1) in
+    let at_found = c.before.before.before.before.before in
+    let o = on_legal _ _ _ _ (sym at_found.before.before.check-plan.ensures ∙ at_found.found2.given.1) in
     (c.before.before.write-legal.ensures.0 ∙ o.0, c.before.before.write-legal.ensures.1 ∙ o.1)
 
 pub write-plan-spec : {M : Type 1} → statement M

@@ -1,5 +1,5 @@
 -- Each arm of the finding. Assumes nothing.
-use Rattle.price_check.proofs.Laws.{found-yes, found-no}
+use Rattle.price_check.proofs.Laws.{found_yes, found_no}
 use mathlib.Core.Path.{sym, ◌∙◌}
 use borrow.Author.Rules.{rules}
 use Rattle.price_check.proofs.is_legal.Statement.{statement}
@@ -15,10 +15,10 @@ enum-known-found-2 : tie.Need-enum-known-found-2
 enum-known-found-2 c = search rules
 
 returns : tie.Need-returns
-returns c = found-yes _ _ (sym c.before.before.before.check-plan.ensures ∙ c.before.found.given.1)
+returns c = found_yes _ _ (sym c.before.before.before.check-plan.ensures ∙ c.before.found.given.1)
 
 returns-2 : tie.Need-returns-2
-returns-2 c = found-no _ _ (sym c.before.before.before.check-plan.ensures ∙ c.before.found2.given.1)
+returns-2 c = found_no _ _ (sym c.before.before.before.check-plan.ensures ∙ c.before.found2.given.1)
 
 pub is-legal-spec : {M : Type 1} → statement M
 is-legal-spec =

@@ -24,10 +24,10 @@ slice-aggregate-result-2 c = sym (length-take-le _ _ c.before.before.before.befo
 
 returns-2 : tie.Need-returns-2
 returns-2 c =
-    let at-answer-sheet = c.before.before.before.before in
-    let at-read-part = at-answer-sheet.before.before in
-    let at-if1 = at-read-part.before in
-    (printed at-if1.if1.false (rw at-read-part.read-part.ensures at at-answer-sheet.answer-sheet.ensures.1), refl)
+    let at_answer_sheet = c.before.before.before.before in
+    let at_read_part = at_answer_sheet.before.before in
+    let at_if1 = at_read_part.before in
+    (printed at_if1.if1.false (rw at_read_part.read-part.ensures at at_answer_sheet.answer-sheet.ensures.1), refl)
 
 pub answer-spec : {M : Type 1} → statement M
 answer-spec =

@@ -1,7 +1,7 @@
 -- The day is valid and the rows have its lengths, so it is solved: the code's number 0 goes with the plan, any other with the stretch.
 -- Assumes nothing.
-use Rattle.full_plan.proofs.Meaning.{accepted-call}
-use Rattle.program.proofs.Planning.{planned, prints-plan, prints-none}
+use Rattle.full_plan.proofs.Meaning.{accepted_call}
+use Rattle.program.proofs.Planning.{planned, prints_plan, prints_none}
 use borrow.Author.Rules.{rules}
 use Rattle.program.proofs.plan_day.Statement.{statement}
 use Rattle.program.proofs.plan_day.Tie as tie
@@ -14,12 +14,12 @@ code-of-requires c κs = search rules
 
 put-plan-requires : tie.Need-put-plan-requires
 put-plan-requires c κs =
-    let at-code-of = c.before.before.before in
-    let at-full-plan = at-code-of.before.before.before.before.before in
-    let at-slice-known = at-full-plan.before.before.before.before.before in
-    let at-start = at-slice-known.before.before.before in
-    let solved = accepted-call at-start.requires.0 at-start.requires.1 at-start.requires.2 at-full-plan.full-plan.ensures in
-    (at-start.requires.0, (planned solved at-code-of.code_of_lem.ensures c.before.before.if1.true).legal, at-start.requires.3)
+    let at_code_of = c.before.before.before in
+    let at_full_plan = at_code_of.before.before.before.before.before in
+    let at_slice_known = at_full_plan.before.before.before.before.before in
+    let at_start = at_slice_known.before.before.before in
+    let solved = accepted_call at_start.requires.0 at_start.requires.1 at_start.requires.2 at_full_plan.full-plan.ensures in
+    (at_start.requires.0, (planned solved at_code_of.code_of_lem.ensures c.before.before.if1.true).legal, at_start.requires.3)
 
 same_length : tie.Need-same-length
 same_length c = search rules
@@ -32,13 +32,13 @@ same-length-3 c = search rules
 
 returns : tie.Need-returns
 returns c =
-    let at-if1 = c.before.before.before.before.before in
-    let at-code-of = at-if1.before in
-    let at-full-plan = at-code-of.before.before.before.before.before in
-    let at-slice-known = at-full-plan.before.before.before.before.before in
-    let at-start = at-slice-known.before.before.before in
-    let solved = accepted-call at-start.requires.0 at-start.requires.1 at-start.requires.2 at-full-plan.full-plan.ensures in
-    prints-plan (planned solved at-code-of.code_of_lem.ensures at-if1.if1.true) c.before.before.put-plan.ensures
+    let at_if1 = c.before.before.before.before.before in
+    let at_code_of = at_if1.before in
+    let at_full_plan = at_code_of.before.before.before.before.before in
+    let at_slice_known = at_full_plan.before.before.before.before.before in
+    let at_start = at_slice_known.before.before.before in
+    let solved = accepted_call at_start.requires.0 at_start.requires.1 at_start.requires.2 at_full_plan.full-plan.ensures in
+    prints_plan (planned solved at_code_of.code_of_lem.ensures at_if1.if1.true) c.before.before.put-plan.ensures
 
 put-refusal-requires : tie.Need-put-refusal-requires
 put-refusal-requires c κs = search rules
@@ -54,13 +54,13 @@ same-length-6 c = search rules
 
 returns-2 : tie.Need-returns-2
 returns-2 c =
-    let at-if1 = c.before.before.before.before in
-    let at-code-of = at-if1.before in
-    let at-full-plan = at-code-of.before.before.before.before.before in
-    let at-slice-known = at-full-plan.before.before.before.before.before in
-    let at-start = at-slice-known.before.before.before in
-    let solved = accepted-call at-start.requires.0 at-start.requires.1 at-start.requires.2 at-full-plan.full-plan.ensures in
-    prints-none solved at-code-of.code_of_lem.ensures at-if1.if1.false c.before.before.put-refusal.ensures
+    let at_if1 = c.before.before.before.before in
+    let at_code_of = at_if1.before in
+    let at_full_plan = at_code_of.before.before.before.before.before in
+    let at_slice_known = at_full_plan.before.before.before.before.before in
+    let at_start = at_slice_known.before.before.before in
+    let solved = accepted_call at_start.requires.0 at_start.requires.1 at_start.requires.2 at_full_plan.full-plan.ensures in
+    prints_none solved at_code_of.code_of_lem.ensures at_if1.if1.false c.before.before.put-refusal.ensures
 
 pub plan-day-spec : {M : Type 1} → statement M
 plan-day-spec =

@@ -1,7 +1,7 @@
 -- The code's three numbers fit 64 bits, so their two lines fit the buffer.
 -- Assumes nothing.
 use native.Mathlib.Omega.{arith}
-use Rattle.program.proofs.Writing.{refusal-front}
+use Rattle.program.proofs.Writing.{refusal_front}
 use borrow.Author.Rules.{rules}
 use Rattle.program.proofs.put_refusal.Statement.{statement}
 use Rattle.program.proofs.put_refusal.Tie as tie
@@ -20,10 +20,10 @@ same_length c = search rules
 
 returns : tie.Need-returns
 returns c =
-    let at-write-refusal = c.before.before.before in
-    let at-code-of = at-write-refusal.before.before in
-    let at-start = at-code-of.before.before in
-    refusal-front at-start.args.text.now at-start.args.answer at-start.requires at-code-of.code_of_lem.ensures (omega arith) (omega arith) (omega arith) at-write-refusal.write-refusal.ensures.0 at-write-refusal.write-refusal.ensures.1 c.code-of2.ensures
+    let at_write_refusal = c.before.before.before in
+    let at_code_of = at_write_refusal.before.before in
+    let at_start = at_code_of.before.before in
+    refusal_front at_start.args.text.now at_start.args.answer at_start.requires at_code_of.code_of_lem.ensures (omega arith) (omega arith) (omega arith) at_write_refusal.write-refusal.ensures.0 at_write_refusal.write-refusal.ensures.1 c.code-of2.ensures
 
 pub put-refusal-spec : {M : Type 1} → statement M
 put-refusal-spec =

@@ -3,10 +3,10 @@
 -- Assumes nothing.
 use mathlib.Core.Path.{sym, ◌∙◌}
 use Rattle.answers.proofs.Outcomes.{says}
-use Rattle.quick_plan.proofs.NextCosts.{rate-fits}
-use Rattle.quick_plan.proofs.Same.{valid-rows}
-use Rattle.quick_plan.proofs.Calls.{can-plan, refused, no-plan, planned}
-use Rattle.legality.proofs.Laws.{can-sum}
+use Rattle.quick_plan.proofs.NextCosts.{rate_fits}
+use Rattle.quick_plan.proofs.Same.{valid_rows}
+use Rattle.quick_plan.proofs.Calls.{can_plan, refused, no_plan_lem, planned}
+use Rattle.legality.proofs.Laws.{can_sum}
 use borrow.Author.Rules.{rules}
 use Rattle.quick_plan.proofs.quick_plan.Statement.{statement}
 use Rattle.quick_plan.proofs.quick_plan.Tie as tie
@@ -22,15 +22,15 @@ same_length c = search rules
 
 returns : tie.Need-returns
 returns c =
-    let at-found = c.before in
-    let at-check = at-found.before.before in
-    says (refused _ _ (sym at-check.check-quick.ensures ∙ at-found.found.given.1))
+    let at_found = c.before in
+    let at_check = at_found.before.before in
+    says (refused _ _ (sym at_check.check-quick.ensures ∙ at_found.found.given.1))
 
 enum_told : tie.Need-enum-told
 enum_told c = search rules
 
 find-short-requires : tie.Need-find-short-requires
-find-short-requires c κs = (can-plan _ _ (sym c.before.before.check-quick.ensures ∙ c.enum_told.given.1)).good
+find-short-requires c κs = (can_plan _ _ (sym c.before.before.check-quick.ensures ∙ c.enum_told.given.1)).good
 
 enum-known-short : tie.Need-enum-known-short
 enum-known-short c = search rules
@@ -41,40 +41,40 @@ enum-told-2 c = search rules
 plan-to-requires : tie.Need-plan-to-requires
 plan-to-requires c κs =
     let at_told = c.before.before.before.before in
-    let at-check = at_told.before.before in
-    let w = can-plan _ _ (sym at-check.check-quick.ensures ∙ at_told.enum_told.given.1) in
-    ((valid-rows _ w.good, w.each), (rate-fits _, search rules))
+    let at_check = at_told.before.before in
+    let w = can_plan _ _ (sym at_check.check-quick.ensures ∙ at_told.enum_told.given.1) in
+    ((valid_rows _ w.good, w.each), (rate_fits _, search rules))
 
 total-of-requires : tie.Need-total-of-requires
 total-of-requires c κs =
-    let at-plan-to = c.before.before.before in
-    let at_told = at-plan-to.before.before.before.before.before in
-    let at-check = at_told.before.before in
-    let w = can-plan _ _ (sym at-check.check-quick.ensures ∙ at_told.enum_told.given.1) in
-    can-sum _ w.good (at-plan-to.plan-to.auto.1.1.1.0 ∙ w.each)
+    let at_plan_to = c.before.before.before in
+    let at_told = at_plan_to.before.before.before.before.before in
+    let at_check = at_told.before.before in
+    let w = can_plan _ _ (sym at_check.check-quick.ensures ∙ at_told.enum_told.given.1) in
+    can_sum _ w.good (at_plan_to.plan-to.auto.1.1.1.0 ∙ w.each)
 
 same-length-2 : tie.Need-same-length-2
 same-length-2 c = search rules
 
 returns-2 : tie.Need-returns-2
 returns-2 c =
-    let at-short = c.before in
-    let at-find-short = at-short.before.before in
-    let at_told = at-find-short.before in
-    let at-check = at_told.before.before in
-    says (no-plan _ _ (sym at-check.check-quick.ensures ∙ at_told.enum_told.given.1) (rw at-short.short.given.1 at at-find-short.find-short.ensures))
+    let at_short = c.before in
+    let at_find_short = at_short.before.before in
+    let at_told = at_find_short.before in
+    let at_check = at_told.before.before in
+    says (no_plan_lem _ _ (sym at_check.check-quick.ensures ∙ at_told.enum_told.given.1) (rw at_short.short.given.1 at at_find_short.find-short.ensures))
 
 same-length-3 : tie.Need-same-length-3
 same-length-3 c = search rules
 
 returns-3 : tie.Need-returns-3
 returns-3 c =
-    let at-plan-to = c.before.before.before.before in
-    let at_clear = at-plan-to.before.before in
-    let at-find-short = at_clear.before.before in
-    let at_told = at-find-short.before in
-    let at-check = at_told.before.before in
-    says (planned _ _ (sym at-check.check-quick.ensures ∙ at_told.enum_told.given.1) (rw at_clear.enum-told2.given.1 at at-find-short.find-short.ensures) at-plan-to.plan-to.ensures c.total_of.ensures)
+    let at_plan_to = c.before.before.before.before in
+    let at_clear = at_plan_to.before.before in
+    let at_find_short = at_clear.before.before in
+    let at_told = at_find_short.before in
+    let at_check = at_told.before.before in
+    says (planned _ _ (sym at_check.check-quick.ensures ∙ at_told.enum_told.given.1) (rw at_clear.enum-told2.given.1 at at_find_short.find-short.ensures) at_plan_to.plan-to.ensures c.total_of.ensures)
 
 pub quick-plan-spec : {M : Type 1} → statement M
 quick-plan-spec =

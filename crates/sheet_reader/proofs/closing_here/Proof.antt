@@ -1,5 +1,5 @@
 -- The constant's bytes are the definition's.
-use Rattle.sheet.specs.Text.{closingName}
+use Rattle.sheet.specs.Text.{closing_name}
 use borrow.Author.Rules.{rules}
 use Rattle.sheet_reader.proofs.closing_here.Statement.{statement}
 use Rattle.sheet_reader.proofs.closing_here.Tie as tie
@@ -11,7 +11,7 @@ fixed-at-requires : tie.Need-fixed-at-requires
 fixed-at-requires c κs = search rules
 
 returns : tie.Need-returns
-unfolding closingName
+unfolding closing_name
 returns c = c.fixed-at.ensures
 
 pub closing-here-spec : {M : Type 1} → statement M

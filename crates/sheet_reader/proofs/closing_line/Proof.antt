@@ -1,5 +1,5 @@
 -- The number behind the name.
-use Rattle.sheet.proofs.Grammar.{length-closing}
+use Rattle.sheet.proofs.Grammar.{length_closing}
 use Rattle.sheet_reader.proofs.Loops.{closing_at}
 use lib.Dec.{lit≤, lit<}
 use native.Mathlib.Omega.{arith}
@@ -12,7 +12,7 @@ add-field-at : tie.Need-overflow-add-field-at
 add-field-at c = search rules
 
 field-at-requires : tie.Need-field-at-requires
-field-at-requires c κs = (omega (arith, length-closing, c.before.requires), lit≤ tt, lit< tt)
+field-at-requires c κs = (omega (arith, length_closing, c.before.requires), lit≤ tt, lit< tt)
 
 returns : tie.Need-returns
 returns c = c.field_at.ensures ∙ closing_at _ _

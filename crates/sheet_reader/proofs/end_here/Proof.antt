@@ -1,5 +1,5 @@
 -- Either of the two lines.
-use Rattle.sheet_reader.proofs.Loops.{names-end, closing_end}
+use Rattle.sheet_reader.proofs.Loops.{names_end, closing_end}
 use mathlib.Core.Path.{sym, ◌∙◌}
 use borrow.Author.Rules.{rules}
 use Rattle.sheet_reader.proofs.end_here.Statement.{statement}
@@ -9,7 +9,7 @@ names-here-requires : tie.Need-names-here-requires
 names-here-requires c κs = search rules
 
 returns : tie.Need-returns
-returns c = names-end _ _ (sym c.before.names-here.ensures ∙ c.if1.true)
+returns c = names_end _ _ (sym c.before.names-here.ensures ∙ c.if1.true)
 
 closing-here-requires : tie.Need-closing-here-requires
 closing-here-requires c κs = search rules

@@ -1,7 +1,7 @@
 -- What is decided by the flights still to compare with decides the whole.
 
-use Rattle.sheet.proofs.Used.{used-here, used-below, used-none}
-use Rattle.day.specs.Flights.{firstFlights}
+use Rattle.sheet.proofs.Used.{used_here, used_below, used_none}
+use Rattle.day.specs.Flights.{first_flights}
 use Rattle.sheet.specs.Lines.{used}
 use borrow.Author.Rules.{rules}
 use Prim.Native.Nat.{◌≤◌}
@@ -10,58 +10,58 @@ use mathlib.Core.Path.{◌≡◌, sym, ◌∙◌}
 use Rattle.sheet_reader.proofs.number_used.Statement.{statement}
 use Rattle.sheet_reader.proofs.number_used.Tie as tie
 
-abbrev invariant-loop : tie.invariant-loop
-invariant-loop row n number j₀ j = (j ≤ n) × (used number (firstFlights n row) ≡ used number (firstFlights j row))
+abbrev invariant_loop : tie.invariant_loop
+invariant_loop row n number j₀ j = (j ≤ n) × (used number (first_flights n row) ≡ used number (first_flights j row))
 
-abbrev decreases-loop : tie.decreases-loop
-decreases-loop row n number j₀ j = j
+abbrev decreases_loop : tie.decreases_loop
+decreases_loop row n number j₀ j = j
 
 -- a turn, seen from behind its calls
-abbrev turn : tie.After-wide invariant-loop decreases-loop → tie.In-loop invariant-loop decreases-loop
+abbrev turn : tie.After-wide invariant_loop decreases_loop → tie.In-loop invariant_loop decreases_loop
 turn c = c.before.before.before
 
-loop-holds : tie.Need-loop-init invariant-loop decreases-loop
+loop-holds : tie.Need-loop-init invariant_loop decreases_loop
 loop-holds c = search rules
 
-sub-j : tie.Need-overflow-sub-j invariant-loop decreases-loop
+sub-j : tie.Need-overflow-sub-j invariant_loop decreases_loop
 sub-j c = search rules
 
-number-of-requires : tie.Need-number-of-requires invariant-loop decreases-loop
+number-of-requires : tie.Need-number-of-requires invariant_loop decreases_loop
 number-of-requires c κs = search rules
 
-wide-requires : tie.Need-wide-requires invariant-loop decreases-loop
+wide-requires : tie.Need-wide-requires invariant_loop decreases_loop
 wide-requires c κs = search rules
 
-returns : tie.Need-returns invariant-loop decreases-loop
+returns : tie.Need-returns invariant_loop decreases_loop
 returns c =
     let t = turn c.before in
     let a = t.before.before.args in
     let l = t.before.loop in
     let e = sym c.before.before.number_of.ensures.0 ∙ (c.if1.true ∙ c.before.wide.ensures) in
-    sym (l.inv.1 ∙ used-here a.number a.row.now l.j t.loop-test.taken e)
+    sym (l.inv.1 ∙ used_here a.number a.row.now l.j t.loop-test.taken e)
 
-loop-less : tie.Need-loop-smaller invariant-loop decreases-loop
+loop-less : tie.Need-loop-smaller invariant_loop decreases_loop
 loop-less c = search rules
 
-loop-again : tie.Need-loop-preserved invariant-loop decreases-loop
+loop-again : tie.Need-loop-preserved invariant_loop decreases_loop
 loop-again c =
     let t = turn c.before in
     let a = t.before.before.args in
     let l = t.before.loop in
-    (omega arith, l.inv.1 ∙ used-below a.number a.row.now l.j t.loop-test.taken (λ e. c.if1.false (c.before.before.number_of.ensures.0 ∙ (e ∙ sym c.before.wide.ensures))))
+    (omega arith, l.inv.1 ∙ used_below a.number a.row.now l.j t.loop-test.taken (λ e. c.if1.false (c.before.before.number_of.ensures.0 ∙ (e ∙ sym c.before.wide.ensures))))
 
-returns-2 : tie.Need-returns-2 invariant-loop decreases-loop
+returns-2 : tie.Need-returns-2 invariant_loop decreases_loop
 returns-2 c =
     let a = c.before.before.args in
     let l = c.before.loop in
-    sym (l.invariant.1 ∙ used-none a.number a.row.now l.j (omega arith))
+    sym (l.invariant.1 ∙ used_none a.number a.row.now l.j (omega arith))
 
 pub number-used-spec : {M : Type 1} → statement M
 number-used-spec =
     tie.close
     (tie.spec
-    invariant-loop
-    decreases-loop
+    invariant_loop
+    decreases_loop
     loop-holds
     sub-j
     number-of-requires

@@ -1,5 +1,5 @@
 -- The line that `line_at` reads.
-use Rattle.sheet.proofs.Lines.{period-no, period-yes}
+use Rattle.sheet.proofs.Lines.{period_no, period_yes}
 use mathlib.Core.Path.{refl, sym, ◌∙◌}
 use borrow.Author.Rules.{rules}
 use Rattle.sheet_reader.proofs.period_line.Statement.{statement}
@@ -20,7 +20,7 @@ enum_told c = search rules
 returns : tie.Need-returns
 returns c =
     let n = c.before.before.before in
-    period-no _ _ (sym n.line_at_lem.ensures.0 ∙ c.enum_told.given.1)
+    period_no _ _ (sym n.line_at_lem.ensures.0 ∙ c.enum_told.given.1)
 
 array-read-t11 : tie.Need-array-read-t11
 array-read-t11 c = search rules
@@ -28,7 +28,7 @@ array-read-t11 c = search rules
 returns-2 : tie.Need-returns-2
 returns-2 c =
     let n = c.before.before.before.before in
-    period-yes _ _ _ _ _ _ refl n.line_at_lem.ensures.1 (sym n.line_at_lem.ensures.0 ∙ c.before.p.given.1)
+    period_yes _ _ _ _ _ _ refl n.line_at_lem.ensures.1 (sym n.line_at_lem.ensures.0 ∙ c.before.p.given.1)
 
 pub period-line-spec : {M : Type 1} → statement M
 period-line-spec =

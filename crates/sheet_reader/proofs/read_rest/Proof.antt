@@ -1,9 +1,9 @@
 -- A refusal leaves the rows; a day is copied to their fronts.
-use Rattle.sheet_reader.proofs.Loops.{few-listed, refused-so, read-so}
+use Rattle.sheet_reader.proofs.Loops.{few_listed, refused_so, read_so}
 use Rattle.sheet_reader.specs.Loop.{filled}
 use Rattle.sheet_reader.specs.declared.Listing.{Listing}
-use Rattle.day.specs.Day.{mostFlights}
-use Rattle.sheet.specs.Sheet.{readFlights}
+use Rattle.day.specs.Day.{most_flights}
+use Rattle.sheet.specs.Sheet.{read_flights}
 use lib.Seq.{length-take-le}
 use lib.ListN.{length, take}
 use mathlib.Core.List.{List, []}
@@ -25,7 +25,7 @@ count : (c : tie.After-read-flights) → length (caps c) ≡ (start c).args.coun
 count c = let s = start c in length-take-le s.args.count s.args.caps.now (omega (arith, s.pre))
 
 result : (c : tie.After-read-flights) (x : Listing) → c.read-flights.result ≡ x
-    → readFlights mostFlights (start c).args.sheet.now (start c).args.at (caps c) (start c).args.closing [] ≡ filled x (caps c) (start c).args.closing c.read-flights.new.1.1.1.0
+    → read_flights most_flights (start c).args.sheet.now (start c).args.at (caps c) (start c).args.closing [] ≡ filled x (caps c) (start c).args.closing c.read-flights.new.1.1.1.0
 result c x e =
     c.read-flights.ensures.1.1 (caps c) (start c).args.closing (count c)
     ∙ ap (λ (y : Listing). filled y (caps c) (start c).args.closing c.read-flights.new.1.1.1.0) e
@@ -37,8 +37,8 @@ listed c = c.before.before.before.before
 abbrev first : tie.After-copy-front-arg3 → tie.After-copy-front
 first c = c.before.before.before.before
 
-few : (c : tie.After-r2) → c.r2.given.0.0 ≤ mostFlights
-few c = few-listed _ _ c.r2.given.1 c.before.before.read-flights.ensures.1.0
+few : (c : tie.After-r2) → c.r2.given.0.0 ≤ most_flights
+few c = few_listed _ _ c.r2.given.1 c.before.before.read-flights.ensures.1.0
 
 read-flights-requires : tie.Need-read-flights-requires
 read-flights-requires c κs = search rules
@@ -68,7 +68,7 @@ copy-front-requires-2 c κs =
     omega (arith, few v, r.read-flights.ensures.0, (start r).pre)
 
 returns : tie.Need-returns
-returns c = let v = c.before.before in refused-so (result v.before.before _ v.r.given.1) c.refusal.ensures
+returns c = let v = c.before.before in refused_so (result v.before.before _ v.r.given.1) c.refusal.ensures
 
 same_length : tie.Need-same-length
 same_length c = search rules
@@ -83,7 +83,7 @@ returns-2 c =
     let v = listed f in
     let r = v.before.before in
     let w = few v in
-    read-so _ _ _ _ _ _ _ _ (result r _ v.r2.given.1) (count r) (omega (arith, r.read-flights.ensures.0)) _ _ f.copy-front.ensures e.copy-front2.ensures
+    read_so _ _ _ _ _ _ _ _ (result r _ v.r2.given.1) (count r) (omega (arith, r.read-flights.ensures.0)) _ _ f.copy-front.ensures e.copy-front2.ensures
 
 pub read-rest-spec : {M : Type 1} → statement M
 read-rest-spec =

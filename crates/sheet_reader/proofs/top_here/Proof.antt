@@ -1,5 +1,5 @@
 -- The constant's bytes are the definition's.
-use Rattle.sheet.specs.Text.{periodNames}
+use Rattle.sheet.specs.Text.{period_names}
 use borrow.Author.Rules.{rules}
 use Rattle.sheet_reader.proofs.top_here.Statement.{statement}
 use Rattle.sheet_reader.proofs.top_here.Tie as tie
@@ -11,7 +11,7 @@ fixed-at-requires : tie.Need-fixed-at-requires
 fixed-at-requires c κs = search rules
 
 returns : tie.Need-returns
-unfolding periodNames
+unfolding period_names
 returns c = c.fixed-at.ensures
 
 pub top-here-spec : {M : Type 1} → statement M

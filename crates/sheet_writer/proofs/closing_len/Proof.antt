@@ -1,5 +1,5 @@
 -- The name and a number; or nothing.
-use Rattle.sheet_writer.proofs.Placing.{closing-length, no-closing}
+use Rattle.sheet_writer.proofs.Placing.{closing_length, no_closing}
 use lib.Dec.{lit≤}
 use lib.ListN.{length}
 use mathlib.Core.Path.{ap, sym, ◌∙◌}
@@ -24,13 +24,13 @@ returns : tie.Need-returns
 returns c =
     let t = c.before.before in
     let e = rw c.before.wide.ensures at c.number-len.ensures in
-    let l = closing-length t.before.before.args.closing (sym t.before.has-line.ensures ∙ t.if1.true) in
+    let l = closing_length t.before.before.args.closing (sym t.before.has_line_lem.ensures ∙ t.if1.true) in
     (omega (arith, e.1, l), omega (arith, e.2))
 
 returns-2 : tie.Need-returns-2
 returns-2 c =
-    let e = sym c.before.has-line.ensures ∙ c.if1.false in
-    (sym (ap length (no-closing c.before.before.args.closing e)), lit≤ tt)
+    let e = sym c.before.has_line_lem.ensures ∙ c.if1.false in
+    (sym (ap length (no_closing c.before.before.args.closing e)), lit≤ tt)
 
 pub closing-len-spec : {M : Type 1} → statement M
 closing-len-spec = tie.close (tie.spec has-line-requires wide-requires number-len-requires add-result returns returns-2)

@@ -1,7 +1,7 @@
 -- The five parts, one behind the other.
-use Rattle.day.specs.Flights.{firstFlights}
-use Rattle.sheet.specs.Text.{periodNames, flightNames, closingText, periodsText, flightsText}
-use Rattle.sheet_writer.proofs.Placing.{sheet-room, sheet-put}
+use Rattle.day.specs.Flights.{first_flights}
+use Rattle.sheet.specs.Text.{period_names, flight_names, closing_text, periods_text, flights_text}
+use Rattle.sheet_writer.proofs.Placing.{sheet_room, sheet_put}
 use Prim.Native.Nat.{◌≤◌, ◌+◌}
 use native.Mathlib.Omega.{arith}
 use lib.ListN.{length}
@@ -26,9 +26,9 @@ abbrev start : tie.After-put-period-names-arg → tie.Start
 start c = c.before.before.before.before
 
 room : (c : tie.Start)
-    → length periodNames + length (periodsText 1 c.args.capacities.now) + length (closingText c.args.closing) + length flightNames + length (flightsText (firstFlights c.args.n c.args.flights.now))
+    → length period_names + length (periods_text 1 c.args.capacities.now) + length (closing_text c.args.closing) + length flight_names + length (flights_text (first_flights c.args.n c.args.flights.now))
     ≤ length c.args.out.now
-room c = sheet-room c.args.capacities.now (firstFlights c.args.n c.args.flights.now) c.args.closing c.requires.0
+room c = sheet_room c.args.capacities.now (first_flights c.args.n c.args.flights.now) c.args.closing c.requires.0
 
 put-period-names-requires : tie.Need-put-period-names-requires
 put-period-names-requires c κs = omega (arith, room (start c))
@@ -97,7 +97,7 @@ returns c =
     let p = periods k.before in
     let n = names p.before in
     let s = start n.before in
-    sheet-put _ _ _ s.pre.0 n.put-period-names.ensures p.put-periods.ensures k.put-closing.ensures f.put-flight-names.ensures l.put-flights.ensures
+    sheet_put _ _ _ s.pre.0 n.put-period-names.ensures p.put-periods.ensures k.put-closing.ensures f.put-flight-names.ensures l.put-flights.ensures
 
 pub fill-sheet-spec : {M : Type 1} → statement M
 fill-sheet-spec =

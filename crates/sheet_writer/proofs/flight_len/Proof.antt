@@ -1,5 +1,5 @@
 -- The line's length is that of its three parts.
-use Rattle.sheet.proofs.Grammar.{flight-length}
+use Rattle.sheet.proofs.Grammar.{flight_length}
 use native.Mathlib.Omega.{arith}
 use borrow.Author.Rules.{rules}
 use Rattle.sheet_writer.proofs.flight_len.Statement.{statement}
@@ -36,7 +36,7 @@ returns c =
     let v = summed.before.before in
     let n = rw v.values_of.ensures at summed.separated-len.ensures in
     let t = rw c.before.wide.ensures at c.number-len.ensures in (
-      omega (arith, flight-length v.before.args.f, n.0, limited.limit-len.ensures.0, t.1),
+      omega (arith, flight_length v.before.args.f, n.0, limited.limit-len.ensures.0, t.1),
       omega (arith, n.1, limited.limit-len.ensures.1, t.2),
     )
 

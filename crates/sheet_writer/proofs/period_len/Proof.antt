@@ -1,5 +1,5 @@
 -- The line's length, by its definition.
-use Rattle.sheet.specs.Text.{periodText}
+use Rattle.sheet.specs.Text.{period_text}
 use borrow.Author.Rules.{rules}
 use Rattle.sheet_writer.proofs.period_len.Statement.{statement}
 use Rattle.sheet_writer.proofs.period_len.Tie as tie
@@ -11,7 +11,7 @@ line-len-requires : tie.Need-line-len-requires
 line-len-requires c κs = search rules
 
 returns : tie.Need-returns
-unfolding periodText
+unfolding period_text
 returns c = c.line-len.ensures
 
 pub period-len-spec : {M : Type 1} → statement M

@@ -1,7 +1,7 @@
 -- The name and the number behind it; or nothing.
-use Rattle.sheet.proofs.Grammar.{length-closing}
-use Rattle.sheet_writer.proofs.Placing.{closing-length, closing-put, closing-none}
-use Rattle.day.specs.Day.{hasLine}
+use Rattle.sheet.proofs.Grammar.{length_closing}
+use Rattle.sheet_writer.proofs.Placing.{closing_length, closing_put, closing_none}
+use Rattle.day.specs.Day.{has_line}
 use mathlib.Core.Bool.{true}
 use mathlib.Core.Path.{◌≡◌, sym, ◌∙◌}
 use native.Mathlib.Omega.{arith}
@@ -13,8 +13,8 @@ use Rattle.sheet_writer.proofs.put_closing.Tie as tie
 abbrev start : tie.Then1 → tie.Start
 start c = c.before.before.before
 
-there : (c : tie.Then1) → hasLine (start c).args.closing ≡ true
-there c = sym c.before.has-line.ensures ∙ c.if1.true
+there : (c : tie.Then1) → has_line (start c).args.closing ≡ true
+there c = sym c.before.has_line_lem.ensures ∙ c.if1.true
 
 -- the name written, seen from behind the number's value, and the test before it
 abbrev name : tie.After-wide → tie.After-put-closing-name
@@ -29,7 +29,7 @@ has-line-requires c κs = search rules
 put-closing-name-requires : tie.Need-put-closing-name-requires
 put-closing-name-requires c κs =
     let t = c.before in
-    omega (arith, closing-length (start t).args.closing (there t), length-closing, (start t).requires)
+    omega (arith, closing_length (start t).args.closing (there t), length_closing, (start t).requires)
 
 wide-requires : tie.Need-wide-requires
 wide-requires c κs = search rules
@@ -38,7 +38,7 @@ put-number-at-requires : tie.Need-put-number-at-requires
 put-number-at-requires c κs =
     let n = name c in
     let t = passed n in
-    rw c.wide.ensures (omega (arith, closing-length (start t).args.closing (there t), length-closing, (start t).pre, n.put-closing-name.ensures.place, n.put-closing-name.kept))
+    rw c.wide.ensures (omega (arith, closing_length (start t).args.closing (there t), length_closing, (start t).pre, n.put-closing-name.ensures.place, n.put-closing-name.kept))
 
 same_length : tie.Need-same-length
 same_length c = search rules
@@ -48,10 +48,10 @@ returns c =
     let w = c.before.before.before in
     let n = name w in
     let t = passed n in
-    closing-put _ (there t) (start t).pre n.put-closing-name.ensures (rw w.wide.ensures at c.before.before.put-number-at.ensures)
+    closing_put _ (there t) (start t).pre n.put-closing-name.ensures (rw w.wide.ensures at c.before.before.put-number-at.ensures)
 
 returns-2 : tie.Need-returns-2
-returns-2 c = closing-none _ _ _ (sym c.before.has-line.ensures ∙ c.if1.false) c.before.before.before.requires
+returns-2 c = closing_none _ _ _ (sym c.before.has_line_lem.ensures ∙ c.if1.false) c.before.before.before.requires
 
 pub put-closing-spec : {M : Type 1} → statement M
 put-closing-spec =

@@ -1,7 +1,7 @@
 -- The limit stands behind the other numbers, and the late behind it.
-use Rattle.sheet_writer.proofs.Placing.{flight-put}
-use Rattle.sheet.proofs.Grammar.{flight-length}
-use Rattle.sheet.specs.Text.{beforeLimit}
+use Rattle.sheet_writer.proofs.Placing.{flight_put}
+use Rattle.sheet.proofs.Grammar.{flight_length}
+use Rattle.sheet.specs.Text.{before_limit}
 use Rattle.text.specs.Digits.{separated}
 use Rattle.text.specs.Writing.{Put}
 use native.Mathlib.Omega.{arith}
@@ -17,7 +17,7 @@ abbrev start : tie.After-put-separated → tie.Start
 start c = (values c).before.before
 
 -- the numbers put
-numbered : (n : tie.After-put-separated) → Put (start n).args.out.now 0 (separated (beforeLimit (start n).args.f)) n.put-separated.result n.put-separated.new.0
+numbered : (n : tie.After-put-separated) → Put (start n).args.out.now 0 (separated (before_limit (start n).args.f)) n.put-separated.result n.put-separated.new.0
 numbered n = rw (values n).values_of.ensures at n.put-separated.ensures
 
 -- the numbers and the limit, seen from behind the late's value
@@ -36,12 +36,12 @@ slice-aggregate-put-separated c = search rules
 put-separated-requires : tie.Need-put-separated-requires
 put-separated-requires c κs =
     let v = c.before.before in
-    rw v.values_of.ensures (omega (arith, flight-length v.before.before.args.f, v.before.before.requires))
+    rw v.values_of.ensures (omega (arith, flight_length v.before.before.args.f, v.before.before.requires))
 
 put-limit-at-requires : tie.Need-put-limit-at-requires
 put-limit-at-requires c κs =
     let n = c.before.before.before in
-    omega (arith, flight-length (start n).args.f, (numbered n).place, n.put-separated.auto, (start n).requires)
+    omega (arith, flight_length (start n).args.f, (numbered n).place, n.put-separated.auto, (start n).requires)
 
 wide-requires : tie.Need-wide-requires
 wide-requires c κs = search rules
@@ -51,7 +51,7 @@ put-number-at-requires c κs =
     let n = numbers c in
     let l = (limit c).put-limit-at in
     rw c.wide.ensures
-    (omega (arith, flight-length (start n).args.f, (numbered n).place, n.put-separated.kept, l.ensures.place, l.kept, (start n).pre))
+    (omega (arith, flight_length (start n).args.f, (numbered n).place, n.put-separated.kept, l.ensures.place, l.kept, (start n).pre))
 
 same_length : tie.Need-same-length
 same_length c = search rules
@@ -61,7 +61,7 @@ returns c =
     let t = c.before.before in
     let w = t.before in
     let n = numbers w in
-    flight-put (start n).args.f (start n).pre (numbered n)
+    flight_put (start n).args.f (start n).pre (numbered n)
     (limit w).put-limit-at.ensures (rw w.wide.ensures at t.put-number-at.ensures)
 
 pub put-flight-spec : {M : Type 1} → statement M

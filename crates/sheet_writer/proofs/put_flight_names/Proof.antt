@@ -1,7 +1,7 @@
 -- The constant's bytes are the definition's. Assumes nothing.
 use native.Mathlib.Omega.{arith}
-use Rattle.sheet.specs.Text.{flightNames}
-use Rattle.sheet.proofs.Grammar.{length-names}
+use Rattle.sheet.specs.Text.{flight_names}
+use Rattle.sheet.proofs.Grammar.{length_names}
 use borrow.Author.Rules.{rules}
 use Rattle.sheet_writer.proofs.put_flight_names.Statement.{statement}
 use Rattle.sheet_writer.proofs.put_flight_names.Tie as tie
@@ -10,13 +10,13 @@ slice-aggregate-put-fixed-at : tie.Need-slice-aggregate-put-fixed-at
 slice-aggregate-put-fixed-at c = search rules
 
 put-fixed-at-requires : tie.Need-put-fixed-at-requires
-put-fixed-at-requires c κs = omega (arith, length-names, c.before.before.before.requires)
+put-fixed-at-requires c κs = omega (arith, length_names, c.before.before.before.requires)
 
 same_length : tie.Need-same-length
 same_length c = search rules
 
 returns : tie.Need-returns
-unfolding flightNames
+unfolding flight_names
 returns c = c.before.before.put-fixed-at.ensures
 
 pub put-flight-names-spec : {M : Type 1} → statement M

@@ -1,6 +1,6 @@
 -- A missing limit is two bytes, another is a number.
-use Rattle.sheet_writer.proofs.Placing.{put-dash}
-use Rattle.sheet.proofs.Lines.{text-missing, text-number}
+use Rattle.sheet_writer.proofs.Placing.{put_dash}
+use Rattle.sheet.proofs.Lines.{text_missing, text_number}
 use native.Mathlib.Omega.{arith}
 use lib.ListN.{length, length-set}
 use mathlib.Core.Path.{ap}
@@ -16,22 +16,22 @@ abbrev start : tie.After-wide → tie.Start
 start c = (other c).before.before
 
 slice-write-out : tie.Need-slice-write-out
-slice-write-out c = omega (arith, ap length (text-missing c.before.before.args.limit c.if1.true), c.before.before.requires)
+slice-write-out c = omega (arith, ap length (text_missing c.before.before.args.limit c.if1.true), c.before.before.requires)
 
 slice-write-out-2 : tie.Need-slice-write-out-2
-slice-write-out-2 c = simp length-set (omega (arith, ap length (text-missing c.before.before.args.limit c.if1.true), c.before.before.requires))
+slice-write-out-2 c = simp length-set (omega (arith, ap length (text_missing c.before.before.args.limit c.if1.true), c.before.before.requires))
 
 same_length : tie.Need-same-length
 same_length c = search rules
 
 returns : tie.Need-returns
-returns c = put-dash c.before.before.args.out.now c.before.before.args.limit c.if1.true c.before.before.requires
+returns c = put_dash c.before.before.args.out.now c.before.before.args.limit c.if1.true c.before.before.requires
 
 wide-requires : tie.Need-wide-requires
 wide-requires c κs = search rules
 
 put-number-requires : tie.Need-put-number-requires
-put-number-requires c κs = rw c.wide.ensures (omega (arith, ap length (text-number (start c).args.limit (other c).if1.false), (start c).requires))
+put-number-requires c κs = rw c.wide.ensures (omega (arith, ap length (text_number (start c).args.limit (other c).if1.false), (start c).requires))
 
 same-length-2 : tie.Need-same-length-2
 same-length-2 c = search rules
@@ -39,7 +39,7 @@ same-length-2 c = search rules
 returns-2 : tie.Need-returns-2
 returns-2 c =
     let w = c.before.before.before in
-    rw (text-number (start w).args.limit (other w).if1.false) (rw w.wide.ensures at c.before.before.put-number.ensures)
+    rw (text_number (start w).args.limit (other w).if1.false) (rw w.wide.ensures at c.before.before.put-number.ensures)
 
 pub put-limit-spec : {M : Type 1} → statement M
 put-limit-spec =

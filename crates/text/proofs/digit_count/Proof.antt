@@ -1,5 +1,5 @@
 -- The digits counted so far and those of what is left are one more than the digits of n.
-use Rattle.text.proofs.Digits.{count-short, count_long}
+use Rattle.text.proofs.Digits.{count_short, count_long}
 use Rattle.text.specs.Digits.{digits}
 use borrow.Author.Rules.{rules}
 use Prim.Native.Nat.{◌≤◌, ◌+◌}
@@ -9,27 +9,27 @@ use lib.ListN.{length}
 use Rattle.text.proofs.digit_count.Statement.{statement}
 use Rattle.text.proofs.digit_count.Tie as tie
 
-abbrev invariant-loop : tie.invariant-loop
-invariant-loop n m₀ count₀ m count = (length (digits n) + 1 ≡ count + length (digits m)) × (count + m ≤ n + 1)
+abbrev invariant_loop : tie.invariant_loop
+invariant_loop n m₀ count₀ m count = (length (digits n) + 1 ≡ count + length (digits m)) × (count + m ≤ n + 1)
 
-abbrev decreases-loop : tie.decreases-loop
-decreases-loop n m₀ count₀ m count = m
+abbrev decreases_loop : tie.decreases_loop
+decreases_loop n m₀ count₀ m count = m
 
-loop-holds : tie.Need-loop-init invariant-loop decreases-loop
+loop-holds : tie.Need-loop-init invariant_loop decreases_loop
 loop-holds c = (omega arith, omega arith)
 
-add-count : tie.Need-overflow-add-count invariant-loop decreases-loop
+add-count : tie.Need-overflow-add-count invariant_loop decreases_loop
 add-count c = omega arith
 
-loop-less : tie.Need-loop-smaller invariant-loop decreases-loop
+loop-less : tie.Need-loop-smaller invariant_loop decreases_loop
 loop-less c = search rules
 
-loop-again : tie.Need-loop-preserved invariant-loop decreases-loop
+loop-again : tie.Need-loop-preserved invariant_loop decreases_loop
 loop-again c = (omega (arith, count_long c.before.loop.m c.loop-test.true), omega arith)
 
-returns : tie.Need-returns invariant-loop decreases-loop
-returns c = omega (arith, count-short c.before.loop.m (omega arith))
+returns : tie.Need-returns invariant_loop decreases_loop
+returns c = omega (arith, count_short c.before.loop.m (omega arith))
 
 pub digit-count-spec : {M : Type 1} → statement M
 digit-count-spec =
-    tie.close (tie.spec invariant-loop decreases-loop loop-holds add-count loop-less loop-again returns)
+    tie.close (tie.spec invariant_loop decreases_loop loop-holds add-count loop-less loop-again returns)

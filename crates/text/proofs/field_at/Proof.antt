@@ -1,5 +1,5 @@
 -- One law for each way through the function.
-use Rattle.text.proofs.Reading.{field-bad, field_end, field-miss, field-hit}
+use Rattle.text.proofs.Reading.{field_bad, field_end, field_miss, field_hit}
 use mathlib.Core.Path.{sym, ◌∙◌}
 use borrow.Author.Rules.{rules}
 use Rattle.text.proofs.field_at.Statement.{statement}
@@ -15,7 +15,7 @@ enum_told : tie.Need-enum-told
 enum_told c = search rules
 
 returns : tie.Need-returns
-returns c = field-bad _ _ _ _ (cc)
+returns c = field_bad _ _ _ _ (cc)
 
 returns-2 : tie.Need-returns-2
 returns-2 c =
@@ -30,10 +30,10 @@ add-t12 : tie.Need-overflow-add-t12
 add-t12 c = search rules
 
 returns-3 : tie.Need-returns-3
-returns-3 c = field-hit _ _ _ _ _ _ (cc) c.if2.true
+returns-3 c = field_hit _ _ _ _ _ _ (cc) c.if2.true
 
 returns-4 : tie.Need-returns-4
-returns-4 c = let v = c.before.before.before.before.p.given in field-miss _ _ _ _ v.0.0 v.0.1.0 (cc) c.if2.false
+returns-4 c = let v = c.before.before.before.before.p.given in field_miss _ _ _ _ v.0.0 v.0.1.0 (cc) c.if2.false
 
 pub field-at-spec : {M : Type 1} → statement M
 field-at-spec =

@@ -1,15 +1,15 @@
 -- Both comparisons, as the definition has them.
 use borrow.Author.Tests.{le-leb, lt-leb}
-use Rattle.text.specs.Reading.{isDigit}
+use Rattle.text.specs.Reading.{is_digit}
 use Rattle.text.proofs.is_digit.Statement.{statement}
 use Rattle.text.proofs.is_digit.Tie as tie
 
 returns : tie.Need-returns
-unfolding isDigit
+unfolding is_digit
 returns c = simp (le-leb 48 c.before.args.d c.if1.true)
 
 returns-2 : tie.Need-returns-2
-unfolding isDigit
+unfolding is_digit
 returns-2 c = simp (lt-leb 48 c.before.args.d c.if1.false)
 
 pub is-digit-spec : {M : Type 1} → statement M

@@ -1,5 +1,5 @@
 -- The numbers, and behind them the last one.
-use Rattle.text.proofs.Lines.{line-bad, line-last, place-within}
+use Rattle.text.proofs.Lines.{line_bad, line_last, place_within}
 use mathlib.Core.Path.{sym, ◌∙◌}
 use lib.Dec.{lit<}
 use borrow.Author.Rules.{rules}
@@ -28,12 +28,12 @@ same_length c = search rules
 returns : tie.Need-returns
 returns c =
     let n = c.before.before.before.before in
-    (line-bad _ _ _ _ (sym n.separated-at.ensures.0 ∙ c.enum_told.given.1), n.separated-at.ensures.1)
+    (line_bad _ _ _ _ (sym n.separated-at.ensures.0 ∙ c.enum_told.given.1), n.separated-at.ensures.1)
 
 field-at-requires : tie.Need-field-at-requires
 field-at-requires c κs =
     let n = numbers c in
-    (place-within _ _ _ _ _ (start n).pre.0 (sym n.separated-at.ensures.0 ∙ c.before.p.given.1), (start n).pre.1, lit< tt)
+    (place_within _ _ _ _ _ (start n).pre.0 (sym n.separated-at.ensures.0 ∙ c.before.p.given.1), (start n).pre.1, lit< tt)
 
 same-length-2 : tie.Need-same-length-2
 same-length-2 c = search rules
@@ -41,7 +41,7 @@ same-length-2 c = search rules
 returns-2 : tie.Need-returns-2
 returns-2 c =
     let n = numbers c.before in
-    (c.field_at.ensures ∙ line-last _ _ _ _ _ (sym n.separated-at.ensures.0 ∙ c.before.before.p.given.1), n.separated-at.ensures.1)
+    (c.field_at.ensures ∙ line_last _ _ _ _ _ (sym n.separated-at.ensures.0 ∙ c.before.before.p.given.1), n.separated-at.ensures.1)
 
 pub line-at-spec : {M : Type 1} → statement M
 line-at-spec =

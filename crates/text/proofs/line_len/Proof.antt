@@ -1,5 +1,5 @@
 -- The line's length is that of its two parts.
-use Rattle.text.proofs.Writing.{length-line}
+use Rattle.text.proofs.Writing.{length_line}
 use native.Mathlib.Omega.{arith}
 use borrow.Author.Rules.{rules}
 use Rattle.text.proofs.line_len.Statement.{statement}
@@ -17,7 +17,7 @@ add-result c = search rules
 returns : tie.Need-returns
 returns c =
     let a = c.before.before.before.args in
-    (omega (arith, length-line a.numbers.now a.last, c.before.separated-len.ensures.0, c.number-len.ensures), omega (arith, c.before.separated-len.ensures.1, c.number-len.ensures))
+    (omega (arith, length_line a.numbers.now a.last, c.before.separated-len.ensures.0, c.number-len.ensures), omega (arith, c.before.separated-len.ensures.1, c.number-len.ensures))
 
 pub line-len-spec : {M : Type 1} → statement M
 line-len-spec = tie.close (tie.spec separated-len-requires number-len-requires add-result returns)

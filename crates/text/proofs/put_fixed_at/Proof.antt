@@ -24,8 +24,8 @@ same_length c = search rules
 
 returns : tie.Need-returns
 returns c =
-    let at-slice-known = c.before.before.before.before.before in
-    lent _ _ _ _ _ at-slice-known.before.requires c.before.before.put-fixed.ensures
+    let at_slice_known = c.before.before.before.before.before in
+    lent _ _ _ _ _ at_slice_known.before.requires c.before.before.put-fixed.ensures
 
 pub put-fixed-at-spec : {M : Type 1} → statement M
 put-fixed-at-spec =

@@ -1,8 +1,8 @@
 -- The names line and the numbers line, one behind the other.
 
-use Rattle.text.proofs.Writing.{lent, length-refusal, length-refusal-names, refusal-put, not-fits, it-fits}
+use Rattle.text.proofs.Writing.{lent, length_refusal, length_refusal_names, refusal_put, not_fits, it_fits}
 use Rattle.text.specs.Digits.{line}
-use Rattle.text.specs.Fixed.{refusalText}
+use Rattle.text.specs.Fixed.{refusal_text}
 use Prim.Native.Nat.{◌≤◌, ◌+◌}
 use native.Mathlib.Omega.{arith}
 use mathlib.Core.Path.{◌≡◌}
@@ -24,12 +24,12 @@ add-needed c = search rules
 returns : tie.Need-returns
 returns c =
     let a = c.before.before.before.before.args in
-    let t = refusalText a.number a.first a.second in
-    let k : c.before.line-len.result + 21 ≡ length t = omega (arith, length-refusal a.number a.first a.second, c.before.line-len.ensures.0) in
-    rw k (not-fits a.text.now t 0 (omega (arith, c.if1.true)))
+    let t = refusal_text a.number a.first a.second in
+    let k : c.before.line-len.result + 21 ≡ length t = omega (arith, length_refusal a.number a.first a.second, c.before.line-len.ensures.0) in
+    rw k (not_fits a.text.now t 0 (omega (arith, c.if1.true)))
 
 put-refusal-names-requires : tie.Need-put-refusal-names-requires
-put-refusal-names-requires c κs = omega (arith, length-refusal-names, c.before.if1.false)
+put-refusal-names-requires c κs = omega (arith, length_refusal_names, c.before.if1.false)
 
 sub-put-line : tie.Need-overflow-sub-put-line
 sub-put-line c = search rules
@@ -66,12 +66,12 @@ returns-2 c =
     let n = names w in
     let m = (tested n).before in
     let a = (start m).args in
-    let t = refusalText a.number a.first a.second in
-    let l = length-refusal a.number a.first a.second in
+    let t = refusal_text a.number a.first a.second in
+    let l = length_refusal a.number a.first a.second in
     let k : m.line-len.result + 21 ≡ length t = omega (arith, l, m.line-len.ensures.0) in
     let h : length t ≤ length a.text.now = omega (arith, (tested n).if1.left) in
     let g = lent n.put-refusal-names.last.0 (line (a.number ∷ a.first ∷ []) a.second) 21 _ _ (omega (arith, l, n.put-refusal-names.kept)) w.put-line.ensures in
-    rw k (it-fits a.text.now t 0 (omega arith) (refusal-put a.number a.first a.second h n.put-refusal-names.ensures g))
+    rw k (it_fits a.text.now t 0 (omega arith) (refusal_put a.number a.first a.second h n.put-refusal-names.ensures g))
 
 pub write-refusal-spec : {M : Type 1} → statement M
 write-refusal-spec =

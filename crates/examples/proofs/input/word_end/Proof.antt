@@ -6,39 +6,39 @@ use lib.ListN.{length}
 use Rattle.examples.proofs.input.word_end.Statement.{statement}
 use Rattle.examples.proofs.input.word_end.Tie as tie
 
-abbrev invariant-loop : tie.invariant-loop
-invariant-loop input at end₀ end = at ≤ end
+abbrev invariant_loop : tie.invariant_loop
+invariant_loop input at end₀ end = at ≤ end
 
-abbrev decreases-loop : tie.decreases-loop
-decreases-loop input at end₀ end = length input - end
+abbrev decreases_loop : tie.decreases_loop
+decreases_loop input at end₀ end = length input - end
 
-loop-holds : tie.Need-loop-init invariant-loop decreases-loop
+loop-holds : tie.Need-loop-init invariant_loop decreases_loop
 loop-holds c = search rules
 
-shared-slice-read-if1 : tie.Need-shared-slice-read-if1 invariant-loop decreases-loop
+shared-slice-read-if1 : tie.Need-shared-slice-read-if1 invariant_loop decreases_loop
 shared-slice-read-if1 c = search rules
 
-returns : tie.Need-returns invariant-loop decreases-loop
+returns : tie.Need-returns invariant_loop decreases_loop
 returns c = search rules
 
-add-end : tie.Need-overflow-add-end invariant-loop decreases-loop
+add-end : tie.Need-overflow-add-end invariant_loop decreases_loop
 add-end c = search rules
 
-loop-less : tie.Need-loop-smaller invariant-loop decreases-loop
+loop-less : tie.Need-loop-smaller invariant_loop decreases_loop
 loop-less c = search rules
 
-loop-again : tie.Need-loop-preserved invariant-loop decreases-loop
+loop-again : tie.Need-loop-preserved invariant_loop decreases_loop
 loop-again c = search rules
 
-returns-2 : tie.Need-returns-2 invariant-loop decreases-loop
+returns-2 : tie.Need-returns-2 invariant_loop decreases_loop
 returns-2 c = search rules
 
 pub word-end-spec : {M : Type 1} → statement M
 word-end-spec =
     tie.close
     (tie.spec
-    invariant-loop
-    decreases-loop
+    invariant_loop
+    decreases_loop
     loop-holds
     shared-slice-read-if1
     returns

@@ -6,42 +6,42 @@ use lib.ListN.{length}
 use Rattle.examples.proofs.rows.row_kept.Statement.{statement}
 use Rattle.examples.proofs.rows.row_kept.Tie as tie
 
-abbrev invariant-loop : tie.invariant-loop
-invariant-loop row i₀ i = Unit {0}
+abbrev invariant_loop : tie.invariant_loop
+invariant_loop row i₀ i = Unit {0}
 
-abbrev decreases-loop : tie.decreases-loop
-decreases-loop row i₀ i = length row - i
+abbrev decreases_loop : tie.decreases_loop
+decreases_loop row i₀ i = length row - i
 
-loop-holds : tie.Need-loop-init invariant-loop decreases-loop
+loop-holds : tie.Need-loop-init invariant_loop decreases_loop
 loop-holds c = search rules
 
-mul-if1 : tie.Need-overflow-mul-if1 invariant-loop decreases-loop
+mul-if1 : tie.Need-overflow-mul-if1 invariant_loop decreases_loop
 mul-if1 c = search rules
 
-shared-slice-read-if1 : tie.Need-shared-slice-read-if1 invariant-loop decreases-loop
+shared-slice-read-if1 : tie.Need-shared-slice-read-if1 invariant_loop decreases_loop
 shared-slice-read-if1 c = search rules
 
-returns : tie.Need-returns invariant-loop decreases-loop
+returns : tie.Need-returns invariant_loop decreases_loop
 returns c = search rules
 
-add-i : tie.Need-overflow-add-i invariant-loop decreases-loop
+add-i : tie.Need-overflow-add-i invariant_loop decreases_loop
 add-i c = search rules
 
-loop-less : tie.Need-loop-smaller invariant-loop decreases-loop
+loop-less : tie.Need-loop-smaller invariant_loop decreases_loop
 loop-less c = search rules
 
-loop-again : tie.Need-loop-preserved invariant-loop decreases-loop
+loop-again : tie.Need-loop-preserved invariant_loop decreases_loop
 loop-again c = search rules
 
-returns-2 : tie.Need-returns-2 invariant-loop decreases-loop
+returns-2 : tie.Need-returns-2 invariant_loop decreases_loop
 returns-2 c = search rules
 
 pub row-kept-spec : {M : Type 1} → statement M
 row-kept-spec =
     tie.close
     (tie.spec
-    invariant-loop
-    decreases-loop
+    invariant_loop
+    decreases_loop
     loop-holds
     mul-if1
     shared-slice-read-if1

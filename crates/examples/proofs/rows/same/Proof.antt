@@ -6,45 +6,45 @@ use lib.ListN.{length}
 use Rattle.examples.proofs.rows.same.Statement.{statement}
 use Rattle.examples.proofs.rows.same.Tie as tie
 
-abbrev invariant-loop : tie.invariant-loop
-invariant-loop text other i₀ i = Unit {0}
+abbrev invariant_loop : tie.invariant_loop
+invariant_loop text other i₀ i = Unit {0}
 
-abbrev decreases-loop : tie.decreases-loop
-decreases-loop text other i₀ i = length text - i
+abbrev decreases_loop : tie.decreases_loop
+decreases_loop text other i₀ i = length text - i
 
-returns : tie.Need-returns invariant-loop decreases-loop
+returns : tie.Need-returns invariant_loop decreases_loop
 returns c = search rules
 
-loop-holds : tie.Need-loop-init invariant-loop decreases-loop
+loop-holds : tie.Need-loop-init invariant_loop decreases_loop
 loop-holds c = search rules
 
-shared-slice-read-if3 : tie.Need-shared-slice-read-if3 invariant-loop decreases-loop
+shared-slice-read-if3 : tie.Need-shared-slice-read-if3 invariant_loop decreases_loop
 shared-slice-read-if3 c = search rules
 
-shared-slice-read-if3-2 : tie.Need-shared-slice-read-if3-2 invariant-loop decreases-loop
+shared-slice-read-if3-2 : tie.Need-shared-slice-read-if3-2 invariant_loop decreases_loop
 shared-slice-read-if3-2 c = search rules
 
-returns-2 : tie.Need-returns-2 invariant-loop decreases-loop
+returns-2 : tie.Need-returns-2 invariant_loop decreases_loop
 returns-2 c = search rules
 
-add-i : tie.Need-overflow-add-i invariant-loop decreases-loop
+add-i : tie.Need-overflow-add-i invariant_loop decreases_loop
 add-i c = search rules
 
-loop-less : tie.Need-loop-smaller invariant-loop decreases-loop
+loop-less : tie.Need-loop-smaller invariant_loop decreases_loop
 loop-less c = search rules
 
-loop-again : tie.Need-loop-preserved invariant-loop decreases-loop
+loop-again : tie.Need-loop-preserved invariant_loop decreases_loop
 loop-again c = search rules
 
-returns-3 : tie.Need-returns-3 invariant-loop decreases-loop
+returns-3 : tie.Need-returns-3 invariant_loop decreases_loop
 returns-3 c = search rules
 
 pub same_spec : {M : Type 1} → statement M
 same_spec =
     tie.close
     (tie.spec
-    invariant-loop
-    decreases-loop
+    invariant_loop
+    decreases_loop
     returns
     loop-holds
     shared-slice-read-if3
