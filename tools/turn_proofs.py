@@ -22,7 +22,9 @@ BLOCK = re.compile(r"^(?:abbrev )?(?:pub )?(?:abbrev )?(" + NAME + r") : ", re.M
 
 
 def same(a):
-    return re.sub(r"^(overflow|offset_bounds)[-_]", "", a).replace("-", "_")
+    """A name as the older and the newer spelling have it alike; tools/snake_names.py turned some names of steps with those of lemmas."""
+    a = re.sub(r"^(overflow|offset_bounds)[-_]", "", a).replace("-", "_")
+    return re.sub(r"_fit_in$", "_fit", re.sub(r"_lem$", "", a))
 
 
 def clauses():
@@ -63,6 +65,10 @@ def blocks(text):
     return lines[:cut[0]], out
 
 
+# Words of fields that port.py left behind a helper of the file.
+OLD = {"inv": "invariant", "taken": "true", "left": "false", "last": "new", "kept": "auto"}
+
+
 class Walk:
     """The places of a function's walk, and how a path from one reads today."""
 
@@ -83,8 +89,10 @@ class Walk:
             return rest
         if rest and rest[0] in named:
             return rest
-        if rest and rest[0].isdigit() and int(rest[0]) < len(named):
-            return [named[int(rest[0])]] + rest[1:]
+        for i, name in enumerate(named):
+            path = ["1"] * i + (["0"] if i + 1 < len(named) else [])
+            if rest[: len(path)] == path:
+                return [name] + rest[len(path):]
         self.left.append(f"{kind} of {function}: {'.'.join(rest)}")
         return rest
 
@@ -98,13 +106,14 @@ class Walk:
         return rest
 
     def holder(self, place, first):
-        """The place that has the step: this one, or the nearest above it, since a walk of today may have more places."""
-        up = place
-        while up is not None:
-            step = self.place[up][1]
-            if step and same(step[0]) == same(first):
-                return up
-            up = self.place[up][0]
+        """The place that has the step: this one, or the nearest above it or above the goal's own, since a walk of today has other places."""
+        for start in (place, self.start):
+            up = start
+            while up is not None:
+                step = self.place[up][1]
+                if step and same(step[0]) == same(first):
+                    return up
+                up = self.place[up][0]
         return place
 
     def turn(self, place, fields):
@@ -127,9 +136,12 @@ class Walk:
                     return None, ".".join(["c", arm[0], new] + rest[len(path):])
         if first in ("args", "ranges"):
             return None, ".".join(["c", first] + rest)
+        if first == "pre":
+            first = "requires"
         if first == "requires":
             return None, ".".join(["c", "requires"] + self.clause(self.function, "requires", rest))
         if step and same(step[0]) == same(first):
+            rest = [OLD.get(rest[0], rest[0])] + rest[1:] if rest else rest
             if rest and rest[0] == "ensures":
                 rest = ["ensures"] + self.clause(callee, "ensures", rest[1:])
             elif rest and rest[0] in ("new", "auto") and callee:
@@ -139,12 +151,75 @@ class Walk:
         return None, ".".join(["c"] + fields)
 
 
+def parts(text):
+    """The parts of a tuple, (a, b), or None."""
+    text = text.strip()
+    if not (text.startswith("(") and text.endswith(")")):
+        return None
+    out, depth, at = [], 0, 1
+    for i, ch in enumerate(text):
+        if ch in "([{":
+            depth += 1
+        elif ch in ")]}":
+            depth -= 1
+            if depth == 0 and i + 1 < len(text):
+                return None
+        elif ch == "," and depth == 1:
+            out.append(text[at:i].strip())
+            at = i + 1
+    last = text[at:-1].strip()
+    return out + ([last] if last else [])
+
+
+def in_clauses(walk, goal, right, said):
+    """An answer to several clauses, which were a tuple, as a record with their names."""
+    if goal.startswith("returns"):
+        named = walk.contracts.get(walk.function, ([], [], []))[1]
+    else:
+        m = re.match(r"(.*?)-requires", goal)
+        step = m and m.group(1)
+        callee = next((p[2] for p in walk.place.values() if p[1] and p[1][1] == step and p[2]), None)
+        named = walk.contracts.get(callee, ([], [], []))[0]
+    if len(named) < 2:
+        return right
+    lead, _, end = right.rpartition(" in\n") if " in\n" in right else ("", "", right)
+    found = parts(end)
+    flat = found
+    while flat and len(flat) < len(named) and len(flat) == 2 and parts(flat[-1]) and found is flat:
+        flat = flat[:-1] + parts(flat[-1])
+    if flat and len(flat) == len(named):
+        record = "record { " + "; ".join(f"{n} = {x}" for n, x in zip(named, flat)) + " }"
+        return (lead + " in\n    " if lead else " ") + record
+    if found is None and not re.match(r"\s*(rw|omega|search|simp|elim|let|⊎_elim|λ)\b", end):
+        paths = [".1" * i + (".0" if i + 1 < len(named) else "") for i in range(len(named))]
+        record = "let all = " + end.strip() + " in record { " + "; ".join(f"{n} = all{x}" for n, x in zip(named, paths)) + " }"
+        return (lead + " in\n    " if lead else " ") + record
+    turned = re.match(r"\s*rw (\S+|\(.*?\)) (\(.*\))\s*$", end, re.S)
+    if turned and parts(turned.group(2)) and len(parts(turned.group(2))) == 1:
+        paths = [".1" * i + (".0" if i + 1 < len(named) else "") for i in range(len(named))]
+        record = "record { " + "; ".join(f"{n} = rw {turned.group(1)} ({turned.group(2)}{x})" for n, x in zip(named, paths)) + " }"
+        record = record if len(record) < 200 else f"let all = {turned.group(2)} in record {{ " + "; ".join(f"{n} = rw {turned.group(1)} all{x}" for n, x in zip(named, paths)) + " }"
+        return (lead + " in\n    " if lead else " ") + record
+    said.append(f"{goal}: clauses {named}")
+    return right
+
+
 PATH = re.compile(r"(?<![\w'.₀₁₂-])([A-Za-z_][\w'₀₁₂-]*)((?:\.[\w'₀₁₂-]+)*)")
+
+
+def helped(walk, body, helpers):
+    """The body with each helper that goes from place to place written out, as (turn c.before) for c.before.before.before."""
+    for name, steps in helpers.items():
+        for _ in range(6):
+            body = re.sub(r"\(" + re.escape(name) + r" ([\w'₀₁₂-]+(?:\.[\w'₀₁₂-]+)*)\)", r"\1" + steps, body)
+        body = re.sub(r"(let [\w'₀₁₂-]+ = )" + re.escape(name) + r" ([\w'₀₁₂-]+(?:\.[\w'₀₁₂-]+)*) in", r"\1\2" + steps + " in", body)
+    return body
 
 
 def turn_body(walk, place, body, first="c"):
     """The body of an answer: places that a let names go, and each path is spelled from c."""
     places = {first: place}
+    walk.start = place
     out, at = [], 0
     let = re.compile(r"let ([\w'₀₁₂-]+) = ([\w'₀₁₂-]+)((?:\.[\w'₀₁₂-]+)*) in[ \n]\s*")
     while True:
@@ -179,7 +254,11 @@ def turn_body(walk, place, body, first="c"):
             return m.group(0) if name != first or fields else "c"
         return text
 
-    return "".join(PATH.sub(lambda m, k=known: path(m, k), piece) for piece, known in out)
+    text = "".join(PATH.sub(lambda m, k=known: path(m, k), piece) for piece, known in out)
+    text = re.sub(r"(?<=[\w.])\.inv(?![\w'-])", ".invariant", text)
+    # A test of `!b` says `b ≡ false` now, so the lemma that turned it goes.
+    text = re.sub(r"\(not-(true|false) _ (c\.[\w.-]+\.(?:true|false))\)", r"\2", text)
+    return re.sub(r"\bnot-(true|false) _ (c\.[\w.-]+\.(?:true|false))", r"\2", text)
 
 
 def turn_file(path, names, contracts, crate):
@@ -202,9 +281,14 @@ def turn_file(path, names, contracts, crate):
     needs = {same(old): (new, table["asked_at"][i]) for i, (old, new) in enumerate(table["needs"])}
     loops = {same(l[0][0]): (l[0][1], l[1], table["changed"][i]) for i, l in enumerate(table["loops"])}
     invariants, answers, helpers, said = [], [], [], []
+    moves = {}
+    for name, kind, body in found:
+        m = re.search(r"^" + re.escape(name) + r" c = c((?:\.before)+)$", body, re.M)
+        if m and re.match(r"tie\.[A-Z]\S*( [^→]*)? → tie\.[A-Z]", kind.strip()) and "Need" not in kind:
+            moves[name] = m.group(1)
     for name, kind, body in found:
         kind = kind.strip()
-        if name.endswith("-spec") or "statement M" in kind:
+        if name.endswith("-spec") or "statement M" in kind or name in moves:
             continue
         m = re.match(r"tie\.(invariant|decreases)_([\w-]+)", kind)
         if m:
@@ -246,7 +330,8 @@ def turn_file(path, names, contracts, crate):
             continue
         if any(not re.fullmatch(r"c|κs|_", w) for w in words):
             said.append(f"{name}: arguments {words}")
-        right = turn_body(walk, place, right, words[0] if words else "c")
+        right = turn_body(walk, place, helped(walk, right, moves), words[0] if words else "c")
+        right = in_clauses(walk, goal, right, said)
         note = lines[:at]
         answers.append("\n".join(note + [f"pub {goal} : goal.{goal}"] + between + [f"{goal} c ={right}"]))
     said += walk.left

@@ -131,7 +131,7 @@ fn insert(
     requires kept { Kept (lent capacities flights unlimited) places.old holds.old loads.old links.old dist.old via.old n }
     requires n_bound { n < N (lent capacities flights unlimited) }
     ensures inserted { Inserted (lent capacities.entry flights.entry unlimited) places.old places.new holds.old holds.new prices.new n result }
-    ensures kept_2 { Kept (lent capacities.entry flights.entry unlimited) places.new holds.new loads.new links.new dist.new via.new (n + 1) }
+    ensures kept { Kept (lent capacities.entry flights.entry unlimited) places.new holds.new loads.new links.new dist.new via.new (n + 1) }
 {
     let first = due_of(flights, wide(places[n]));
     let target = first_with_room(capacities, loads, first);

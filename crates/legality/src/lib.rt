@@ -66,7 +66,7 @@ fn walk(
 
 // The first flight that breaks a row of N holds, or N.
 fn first_break(capacities: &[u32], flights: &[u32], closing: u32, holds: &[u32]) -> usize
-    requires closing_value { valid (lent capacities flights closing) ≡ true }
+    requires valid_day { valid (lent capacities flights closing) ≡ true }
     requires holds_len { length holds.now ≡ N (lent capacities flights closing) }
     ensures { result ≡ first_break (lent capacities.entry flights.entry closing) holds.now }
 {

@@ -56,8 +56,8 @@ fn marks_of(capacities: &[u32], flights: &[u32], holds: &[u32], j: usize) -> Mar
 
 // The card of period j, with a row to plan the periods before it in.
 fn card_in(capacities: &[u32], flights: &[u32], row: &mut [u32], n: usize, j: usize) -> Card
-    requires flights_value { (valid (lent_rows capacities flights) ≡ true) × (n ≡ N (lent_rows capacities flights)) × (1 ≤ j) × (j ≤ length capacities.now) }
-    requires n_in_bounds { n ≤ length row.old }
+    requires valid_day { (valid (lent_rows capacities flights) ≡ true) × (n ≡ N (lent_rows capacities flights)) × (1 ≤ j) × (j ≤ length capacities.now) }
+    requires row_long { n ≤ length row.old }
     ensures { result ≡ card (lent_rows capacities.entry flights.entry) j }
 {
     let part = &mut row[0..n];

@@ -34,7 +34,7 @@ fn are_unsold(
     holds: &[u32],
     prices: &[u32],
 ) -> bool
-    requires closing_value { valid (lent capacities flights closing) ≡ true }
+    requires valid_day { valid (lent capacities flights closing) ≡ true }
     requires holds_len { length holds.now ≡ N (lent capacities flights closing) }
     ensures { Decides result ((k : ℕ) → 1 ≤ k → k ≤ counted (lent capacities.entry flights.entry closing) → Unsold (lent capacities.entry flights.entry closing) holds.now prices.now k) }
 {
@@ -55,8 +55,8 @@ fn are_unsold(
 // The flight at table place i lands where its cost and the price together are least. How many may land in the closing period does not
 // matter here: its window, its cost and the prices are the same on the day without a closing line.
 fn is_best(capacities: &[u32], flights: &[u32], holds: &[u32], prices: &[u32], i: usize) -> bool
-    requires unlimited_value { (valid (lent capacities flights unlimited) ≡ true) × Legal (lent capacities flights unlimited) holds.now }
-    requires i_in_bounds { i < length holds.now }
+    requires legal_plan { (valid (lent capacities flights unlimited) ≡ true) × Legal (lent capacities flights unlimited) holds.now }
+    requires i_bound { i < length holds.now }
     ensures { Decides result (Best (lent capacities.entry flights.entry unlimited) holds.now prices.now i) }
 {
     let flight = flight_at(flights, i);

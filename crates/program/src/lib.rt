@@ -133,7 +133,7 @@ fn read_part(input: &[u8], read: usize) -> &[u8]
 // the buffer. A text without room for every answer gives its empty front part.
 pub fn answer<'a>(input: &[u8], read: usize, text: &'a mut [u8]) -> &'a [u8]
     ensures answered { Answered input.now read (length text.old) result.now }
-    ensures ref_ptr_value { result.ref_ptr ≡ text.entry.ref_ptr }
+    ensures same_text { result.ref_ptr ≡ text.entry.ref_ptr }
 {
     if text.len() < ROOM {
         let unused = &text[..];

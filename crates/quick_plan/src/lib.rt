@@ -143,8 +143,8 @@ fn start_row(capacities: &[u32], flights: &[u32], holds: &mut [u32])
 
 // The row after the periods 1 to stop.
 pub fn plan_to(next: NextCost, capacities: &[u32], flights: &[u32], holds: &mut [u32], stop: usize)
-    requires flights_value { (valid (lent_rows capacities flights) ≡ true) × (length holds.old ≡ N (lent_rows capacities flights)) }
-    requires capacities_value { (fits next (length capacities.now) ≡ true) × (stop ≤ length capacities.now) }
+    requires valid_day { (valid (lent_rows capacities flights) ≡ true) × (length holds.old ≡ N (lent_rows capacities flights)) }
+    requires within { (fits next (length capacities.now) ≡ true) × (stop ≤ length capacities.now) }
     ensures { holds.new ≡ row_to (lent_rows capacities.entry flights.entry) (next_cost next flights.now) stop }
 {
     let factors = factor_table();

@@ -224,7 +224,7 @@ fn read_end(s: &[u8], at: usize, n: usize) -> Periods
 fn read_periods(s: &[u8], caps: &mut [u32; PERIODS]) -> Periods
     requires { (length period_names ≤ length s.now) × (length caps.old ≡ most_periods) }
     ensures caps_len { length caps.new ≡ most_periods }
-    ensures period_names_value { read_periods most_periods s.now (length period_names) [] ≡ go_on result s.now caps.new }
+    ensures rest_read { read_periods most_periods s.now (length period_names) [] ≡ go_on result s.now caps.new }
     ensures ready { Ready result s.now }
 {
     let mut n: usize = 0;

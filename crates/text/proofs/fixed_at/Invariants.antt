@@ -1,0 +1,17 @@
+-- What is left to compare decides: byte by byte until one differs or one of the two ends.
+use borrow.Author.Rules.{rules}
+use Prim.Native.Nat.{◌≤◌, ◌+◌, ◌-◌}
+use native.Mathlib.Omega.{arith}
+use native.Mathlib.Nat.{add-zero}
+use mathlib.Core.Path.{◌≡◌, sym, ◌∙◌}
+use lib.ListN.{length, drop}
+use Rattle.text.specs.Fixed.{starts_with}
+use Rattle.text.proofs.Fixed.{starts_end, starts_short, starts_same, starts_other}
+
+use Rattle.text.proofs.fixed_at.Given as goal
+
+abbrev pub invariant-loop-k : goal.invariant-loop-k
+invariant-loop-k l = (l.k ≤ length l.w) × (starts_with (drop l.at l.s) l.w ≡ starts_with (drop (l.at + l.k) l.s) (drop l.k l.w))
+
+abbrev pub decreases-loop-k : goal.decreases-loop-k
+decreases-loop-k l = length l.w - l.k

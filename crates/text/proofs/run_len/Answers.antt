@@ -1,0 +1,26 @@
+use borrow.Author.Tests.{not-false, not-true}
+use mathlib.Core.Logic.{⊎_elim}
+use borrow.Author.Rules.{rules}
+use Prim.Native.Nat.{◌≤◌, ◌+◌, ◌-◌}
+use native.Mathlib.Omega.{arith}
+use mathlib.Core.Path.{◌≡◌, ap, sym, ◌∙◌}
+use lib.ListN.{length, drop}
+use Rattle.text.specs.Reading.{run}
+use Rattle.text.proofs.Reading.{run_on, run_off, run_end}
+
+use Rattle.text.proofs.run_len.Goals as goal
+
+pub loop-i-preserved : goal.loop-i-preserved
+loop-i-preserved c =
+    let l = c.loop-i in
+    let s = c.args.s.now in
+    let d = sym c.is_digit.ensures ∙ c.if-not-is_digit.false in
+    omega (arith, ap length (run_on s l.i (omega arith) d))
+
+pub returns : goal.returns
+returns c =
+    let s = c.args.s.now in
+    let i = c.loop-i.i in
+    ⊎_elim (λ w. omega (arith, ap length (run_end s i w.left)))
+    (λ w. omega (arith, ap length (run_off s i w.0.taken (sym w.2.ensures ∙ not-true _ w.3.taken))))
+    c.loop-i-test.branch

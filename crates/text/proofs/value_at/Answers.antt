@@ -1,0 +1,52 @@
+use lib.Dec.{lit<}
+use borrow.Author.Rules.{rules}
+use Prim.Native.Nat.{◌≤◌, ◌<◌, ◌+◌, ◌-◌, ◌^◌}
+use native.Mathlib.Omega.{arith}
+use mathlib.Core.Path.{◌≡◌, refl}
+use lib.ListN.{length, get_or, drop}
+use Rattle.text.specs.Reading.{run, value}
+use Rattle.text.proofs.Reading.{here, here_digit, below, turn, done}
+
+use Rattle.text.proofs.value_at.Goals as goal
+
+-- what a turn knows: the byte is there, it is a digit, and the number so far is small
+known : (c : tie.In-loop invariant_loop decreases_loop)
+    → (c.before.before.before.args.at + c.before.loop.i < length c.before.before.before.args.s.now)
+    × (48 ≤ get_or c.before.before.before.args.s.now (c.before.before.before.args.at + c.before.loop.i) 0)
+    × (get_or c.before.before.before.args.s.now (c.before.before.before.args.at + c.before.loop.i) 0 ≤ 57)
+    × (c.before.loop.n < 100000000)
+known c =
+    let a = c.before.before.before.args in
+    let l = c.before.loop in
+    let h = here a.s.now a.at l.i l.n a.k c.loop-test.true (omega arith) l.invariant.0 l.invariant.1 in
+    let d = here_digit a.s.now a.at l.i l.n a.k c.loop-test.true (omega arith) l.invariant.0 l.invariant.1 in
+    (h.0, d.0, d.1, below a.s.now a.at l.i l.n a.k c.loop-test.true (omega arith) l.invariant.0 l.invariant.1)
+
+pub loop-i-init : goal.loop-i-init
+loop-i-init c =
+    let z : c.args.at + 0 ≡ c.args.at = omega arith in
+    (lit< tt, rw z (omega arith), rw z refl)
+
+pub overflow_mul-n : goal.overflow_mul-n
+overflow_mul-n c = omega (arith, known c)
+
+pub bounds-s-at : goal.bounds-s-at
+bounds-s-at c = (known c.before).0
+
+pub digit_value-requires : goal.digit_value-requires
+digit_value-requires c = (known c.before).1
+
+pub overflow_add-n : goal.overflow_add-n
+overflow_add-n c = omega (arith, known c.before.before)
+
+pub loop-i-preserved : goal.loop-i-preserved
+loop-i-preserved c =
+    let l = c.loop-i in
+    let a = c.args in
+    turn a.s.now a.at l.i l.n a.k c.loop-i-test.true (omega arith) l.invariant.0 l.invariant.1 _ _ c.digit_value.ensures l.invariant.2
+
+pub returns : goal.returns
+returns c =
+    let a = c.args in
+    let l = c.loop-i in
+    done a.s.now (a.at + l.i) l.n _ (omega arith) l.invariant.2
