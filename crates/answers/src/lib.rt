@@ -3,7 +3,7 @@ ghost use Rattle.std.specs.Prelude.{◌≡◌};
 ghost use Rattle.answers.specs.Answers.{code, code_of};
 
 // What a call answers. Lines are named by the offset of their first byte, flights by their table place.
-#[derive(Drop)]
+#[derive(Clone, Copy)]
 pub enum Answer {
     Read { periods: usize, flights: usize },
     Planned { total: usize },
@@ -28,7 +28,7 @@ pub enum Answer {
 
 // The answer as documents 01 and 02 number it.
 #[repr(C)]
-#[derive(Drop)]
+#[derive(Clone, Copy)]
 pub struct Code {
     pub number: u64,
     pub first: u64,

@@ -6,7 +6,7 @@ ghost use Rattle.choice.specs.Choice.{choice, Chosen};
 
 use legality::{PlanCheck, check_plan};
 
-#[derive(Drop)]
+#[derive(Clone, Copy)]
 pub enum Which {
     First,
     Second,

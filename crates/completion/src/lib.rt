@@ -12,7 +12,7 @@ use legality::is_too_long;
 use stretch::{ShortStretch, find_short};
 
 // How many of the first flights keep their holds in some legal plan.
-#[derive(Drop)]
+#[derive(Clone, Copy)]
 pub enum Most {
     Flights(usize),
     NoPlan,

@@ -24,7 +24,7 @@ pub const MISSING: u32 = 255;
 pub const UNLIMITED: u32 = 256;
 
 // A flight's numbers, in sheet order.
-#[derive(Drop)]
+#[derive(Clone, Copy)]
 pub struct Flight {
     pub number: u32,
     pub due: u32,

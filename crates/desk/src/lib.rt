@@ -21,7 +21,7 @@ use answers::{Code, code_of};
 use choice::Which;
 
 #[repr(C)]
-#[derive(Drop)]
+#[derive(Clone, Copy)]
 pub struct CardCode {
     pub number: u64,
     pub first: u64,
@@ -32,7 +32,7 @@ pub struct CardCode {
 }
 
 #[repr(C)]
-#[derive(Drop)]
+#[derive(Clone, Copy)]
 pub struct ReadingCode {
     pub number: u64,
     pub first: u64,

@@ -5,7 +5,7 @@ use crate::show::{put, put_code, put_number};
 use answers::Code;
 
 // The capacities of the two forecasts, their weights, how many forecasts there are said to be, and the air factor.
-#[derive(Drop)]
+#[derive(Clone, Copy)]
 struct Odds {
     first: u32,
     second: u32,
@@ -16,7 +16,7 @@ struct Odds {
 }
 
 // How many entries the rows have that the call is lent.
-#[derive(Drop)]
+#[derive(Clone, Copy)]
 struct Lengths {
     holds: usize,
     weights: usize,

@@ -31,7 +31,7 @@ pub fn word_end(input: &[u8], at: usize) -> usize
 }
 
 // The number whose digits stand from `at` on, and the place behind them. No more than five digits are read.
-#[derive(Drop)]
+#[derive(Clone, Copy)]
 pub struct Size {
     pub value: usize,
     pub end: usize,

@@ -17,7 +17,7 @@ use day::WIDTH;
 const NO_ROOM: usize = 4097;
 
 // What a call is lent beside the day and a hold row: the lengths of a price and a board row, and the place in a text's buffer.
-#[derive(Drop)]
+#[derive(Clone, Copy)]
 struct Lent {
     prices: usize,
     board: usize,

@@ -22,7 +22,7 @@ const WAITS: usize = FORECASTS * PERIOD_ROW;
 const ALL_WEIGHTS: usize = 1000;
 
 // A hold, and what it is expected to cost in thousandths.
-#[derive(Drop)]
+#[derive(Clone, Copy)]
 struct Chosen {
     hold: usize,
     cost: usize,

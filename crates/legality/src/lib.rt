@@ -12,7 +12,7 @@ use day::{
 };
 
 // What is found of a day and a hold row: the total of a legal plan, or the refusal.
-#[derive(Drop)]
+#[derive(Clone, Copy)]
 pub enum PlanCheck {
     Legal { total: usize },
     Refused(Answer),

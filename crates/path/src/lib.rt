@@ -13,7 +13,7 @@ pub const FAR: usize = 4611686018427387904;
 pub const CHAIN_ROW: usize = PERIOD_ROW + FLIGHTS;
 
 // Where an offer starts: the place of the flight that makes it, how far the period is in which it lands, and what it pays there.
-#[derive(Drop)]
+#[derive(Clone, Copy)]
 struct Origin {
     who: usize,
     from: usize,

@@ -10,13 +10,13 @@ use day::{FLIGHTS, flight_count, is_valid, wide};
 use quick_plan::{NextCost, first_jump_or_limit, is_waiting, plan_to};
 
 // A set of table places: the flight at place i is bit i mod 64 of word i/64.
-#[derive(Drop)]
+#[derive(Clone, Copy)]
 pub struct Marks {
     pub low: u64,
     pub high: u64,
 }
 
-#[derive(Drop)]
+#[derive(Clone, Copy)]
 pub struct Card {
     pub answer: Answer,
     pub low: u64,

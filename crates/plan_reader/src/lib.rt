@@ -21,14 +21,14 @@ const LINE_DIGITS: usize = 7;
 const TOTAL_DIGITS: usize = 9;
 
 // How many flights' lines are read, and the place behind them.
-#[derive(Drop)]
+#[derive(Clone, Copy)]
 pub struct Front {
     pub flights: usize,
     pub at: usize,
 }
 
 // What stands behind the flights' lines: the rest of the plan's text, with its total, or the first line that is not.
-#[derive(Drop)]
+#[derive(Clone, Copy)]
 pub enum End {
     Whole { total: usize },
     Wrong { line: usize },

@@ -17,14 +17,14 @@ use legality::total_of;
 use stretch::{ShortStretch, find_short};
 
 // What one more period of hold costs: the rate, or in millionths what grows with the hold.
-#[derive(Drop)]
+#[derive(Clone, Copy)]
 pub enum NextCost {
     Rate,
     Growing { growth: usize },
 }
 
 // What is found of a day and a hold row: a quick plan can be made, or the refusal.
-#[derive(Drop)]
+#[derive(Clone, Copy)]
 pub enum QuickCheck {
     Applies,
     Refused(Answer),

@@ -1,7 +1,7 @@
 // Day sheets: the values of a flight line and of a period line. The grammar, the text of a day and the round trips stand in specs/ and proofs/.
 use day::Flight;
 
-#[derive(Drop)]
+#[derive(Clone, Copy)]
 pub enum PeriodLine {
     Period {
         number: u32,
@@ -11,7 +11,7 @@ pub enum PeriodLine {
     NoPeriod,
 }
 
-#[derive(Drop)]
+#[derive(Clone, Copy)]
 pub enum FlightLine {
     Row { flight: Flight, next: usize },
     NoRow,

@@ -100,14 +100,14 @@ fn flight_line(s: &[u8], at: usize) -> FlightLine
 }
 
 // What the reader answers: P and N, and the closing number beside them; or a refusal, and 0.
-#[derive(Drop)]
+#[derive(Clone, Copy)]
 pub struct SheetRead {
     pub answer: Answer,
     pub closing: u32,
 }
 
 // The lines up to the second names line read: how many periods, where the flight lines begin, and the closing number; or why not.
-#[derive(Drop)]
+#[derive(Clone, Copy)]
 pub enum Periods {
     Upto {
         count: usize,
@@ -118,7 +118,7 @@ pub enum Periods {
 }
 
 // The flight lines read: how many; or why not.
-#[derive(Drop)]
+#[derive(Clone, Copy)]
 pub enum Listing {
     Listed(usize),
     Halted(Answer),

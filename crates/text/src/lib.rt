@@ -12,14 +12,14 @@ pub const COMMA: u8 = b',';
 pub const LINE_END: u8 = 10;
 
 // A number read: its value and the place behind it.
-#[derive(Drop)]
+#[derive(Clone, Copy)]
 pub enum Number {
     Value { n: u32, next: usize },
     Bad,
 }
 
 // The place behind numbers read.
-#[derive(Drop)]
+#[derive(Clone, Copy)]
 pub enum Place {
     Behind { next: usize },
     NoPlace,

@@ -16,4 +16,4 @@ pub returns-then-s-next-2 : goal.returns-then-s-next-2
 returns-then-s-next-2 c = field_hit _ _ _ _ _ _ (cc) c.if-s-next-2.true
 
 pub returns : goal.returns
-returns c = let v = c.p-1.given in field_miss _ _ _ _ v.0.0 v.0.1.0 (cc) c.if-s-next-2.false
+returns c = field_miss _ _ _ _ c.in-Value.n c.in-Value.next (cc) c.if-s-next-2.false

@@ -5,6 +5,7 @@ use Rattle.text.proofs.Reading.{run_pos, number_none, number_long, number_zero, 
 use borrow.Author.Rules.{rules}
 
 use Rattle.text.proofs.number_at.Goals as goal
+use Rattle.text.proofs.number_at.Goals.{then-k-gt1+else-s-at-eq48, else-k-gt1}
 
 pub returns-then-k-eq0 : goal.returns-then-k-eq0
 returns-then-k-eq0 c = number_none _ _ _ _ c.run_len-k.ensures c.if-k-eq0.true
@@ -24,4 +25,7 @@ pub returns : goal.returns
 returns c =
     let e = c.run_len-k.ensures in
     rw c.value_at.ensures
-    (⊎_elim (λ w. number_more _ _ _ _ e w.0.taken (omega arith) w.2.left) (λ w. number_one _ _ _ _ e w.left (omega arith) (omega arith)) c.if-k-gt1.branch)
+    (elim c.if-k-gt1.branch [
+      | then-k-gt1+else-s-at-eq48 w ↦ number_more _ _ _ _ e w.if-k-gt1.true (omega arith) w.if-s-at-eq48.false
+      | else-k-gt1 w ↦ number_one _ _ _ _ e w.if-k-gt1.false (omega arith) (omega arith)
+    ])

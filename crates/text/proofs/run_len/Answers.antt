@@ -9,6 +9,7 @@ use Rattle.text.specs.Reading.{run}
 use Rattle.text.proofs.Reading.{run_on, run_off, run_end}
 
 use Rattle.text.proofs.run_len.Goals as goal
+use Rattle.text.proofs.run_len.Goals.{else-loop-i-test, then-loop-i-test+then-not-is_digit}
 
 pub loop-i-preserved : goal.loop-i-preserved
 loop-i-preserved c =
@@ -21,6 +22,7 @@ pub returns : goal.returns
 returns c =
     let s = c.args.s.now in
     let i = c.loop-i.i in
-    ⊎_elim (λ w. omega (arith, ap length (run_end s i w.left)))
-    (λ w. omega (arith, ap length (run_off s i w.0.taken (sym w.2.ensures ∙ not-true _ w.3.taken))))
-    c.loop-i-test.branch
+    elim c.loop-i-test.branch [
+      | else-loop-i-test w ↦ omega (arith, ap length (run_end s i w.loop-i-test.false))
+      | then-loop-i-test+then-not-is_digit w ↦ omega (arith, ap length (run_off s i w.loop-i-test.true (sym w.is_digit.ensures ∙ w.if-not-is_digit.true)))
+    ]

@@ -16,7 +16,7 @@ returns-then-text-needed c =
     let a = c.args in
     let t = refusal_text a.number a.first a.second in
     let k : c.line_len-needed.result + 21 ≡ length t = omega (arith, length_refusal a.number a.first a.second, c.line_len-needed.ensures.0) in
-    record { value = rw k ((not_fits a.text.now t 0 (omega (arith, c.if-text-needed.true))).0); text_after = rw k ((not_fits a.text.now t 0 (omega (arith, c.if-text-needed.true))).1) }
+    record { value = rw k ((not_fits a.text.now t 0 (omega (arith, c.if-text-needed.true))).0); text_after = (not_fits a.text.now t 0 (omega (arith, c.if-text-needed.true))).1 }
 
 pub put_refusal_names-requires : goal.put_refusal_names-requires
 put_refusal_names-requires c = omega (arith, length_refusal_names, c.if-text-needed.false)
@@ -29,4 +29,4 @@ returns c =
     let k : c.line_len-needed.result + 21 ≡ length t = omega (arith, l, c.line_len-needed.ensures.0) in
     let h : length t ≤ length a.text.now = omega (arith, c.if-text-needed.false) in
     let g = lent c.put_refusal_names.new.out (line (a.number ∷ a.first ∷ []) a.second) 21 _ _ (omega (arith, l, c.put_refusal_names.auto)) c.put_line.ensures in
-    let all = (it_fits a.text.now t 0 (omega arith) (refusal_put a.number a.first a.second h c.put_refusal_names.ensures g)) in record { value = rw k all.0; text_after = rw k all.1 }
+    let all = (it_fits a.text.now t 0 (omega arith) (refusal_put a.number a.first a.second h c.put_refusal_names.ensures g)) in record { value = rw k all.0; text_after = all.1 }

@@ -1,0 +1,10 @@
+-- The table's rule at the entry that is read. Assumes nothing.
+use borrow.Author.Rules.{rules}
+use mathlib.Core.Path.{◌∙◌}
+use Rattle.growth.specs.Growth.{HoldsFactors}
+
+use Rattle.growth.proofs.factor.Goals as goal
+
+pub returns : goal.returns
+unfolding HoldsFactors
+returns c = let p = c.requires in c.wide.ensures ∙ p.0 _ _ p.1 p.2

@@ -1,0 +1,19 @@
+-- The flights passed break nothing, and their landings are counted by period.
+-- Assumes nothing.
+use native.Mathlib.Omega.{arith}
+use mathlib.Core.Path.{sym, ◌∙◌}
+use Rattle.day.proofs.Valid.{valid_means}
+use borrow.Author.Rules.{rules}
+use Prim.Native.Nat.{◌-◌}
+use lib.ListN.{length}
+use Rattle.day.specs.Day.{day}
+use Rattle.legality.specs.Loop.{Walked}
+use Rattle.legality.proofs.Laws.{long_of, walk_place, walk_long, walk_by, walk_in, walk_fits, walk_over, walk_next, walk_end}
+
+use Rattle.legality.proofs.walk.Given as goal
+
+abbrev pub invariant-loop-place : goal.invariant-loop-place
+invariant-loop-place l = Walked (day l.capacities l.flights l.closing) l.holds l.loads l.place
+
+abbrev pub decreases-loop-place : goal.decreases-loop-place
+decreases-loop-place l = length l.holds - l.place
