@@ -1,0 +1,13 @@
+-- The closed periods looked at so far have their prices. Assumes nothing.
+use native.Mathlib.Omega.{arith}
+use Prim.Native.Nat.{◌-◌}
+use Rattle.day.specs.Day.{day, unlimited}
+use Rattle.closed_prices.proofs.Pricing.{Closing, closing_start, closing_room, closing_pass, closing_pay, closing_small, closing_next, closing_end}
+
+use Rattle.closed_prices.proofs.price_closed.Given as goal
+
+abbrev pub invariant-loop-at : goal.invariant-loop-at
+invariant-loop-at l = Closing (day l.capacities l.flights unlimited) l.holds l.initial.prices l.prices l.at
+
+abbrev pub decreases-loop-at : goal.decreases-loop-at
+decreases-loop-at l = l.periods - l.at

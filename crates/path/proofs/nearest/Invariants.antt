@@ -1,0 +1,12 @@
+-- Of the places looked at so far, none has a nearer period than the best; the target is the first best. Assumes nothing.
+use native.Mathlib.Omega.{arith}
+use Prim.Native.Nat.{◌-◌}
+use Rattle.path.proofs.Scan.{Scan, scan_room, scan_start, scan_in, scan_farther, scan_nearer, scan_level, scan_end}
+
+use Rattle.path.proofs.nearest.Given as goal
+
+abbrev pub invariant-loop-z : goal.invariant-loop-z
+invariant-loop-z l = Scan l.dist l.list l.left l.target l.level l.best l.at l.z
+
+abbrev pub decreases-loop-z : goal.decreases-loop-z
+decreases-loop-z l = l.left - l.z
