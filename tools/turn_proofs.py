@@ -66,7 +66,7 @@ def blocks(text):
 
 
 # Words of fields that port.py left behind a helper of the file.
-OLD = {"inv": "invariant", "taken": "true", "left": "false", "last": "new", "kept": "auto"}
+OLD = {"test": {"taken": "true", "left": "false"}, "call": {"last": "new", "kept": "auto"}, "loop": {"inv": "invariant"}}
 
 
 class Walk:
@@ -141,7 +141,8 @@ class Walk:
         if first == "requires":
             return None, ".".join(["c", "requires"] + self.clause(self.function, "requires", rest))
         if step and same(step[0]) == same(first):
-            rest = [OLD.get(rest[0], rest[0])] + rest[1:] if rest else rest
+            kind = "call" if callee else "test" if re.match(r"if|.*-test$", step[0]) else "loop"
+            rest = [OLD[kind].get(rest[0], rest[0])] + rest[1:] if rest else rest
             if rest and rest[0] == "ensures":
                 rest = ["ensures"] + self.clause(callee, "ensures", rest[1:])
             elif rest and rest[0] in ("new", "auto") and callee:
@@ -233,7 +234,7 @@ def turn_body(walk, place, body, first="c"):
             if all(f == "before" for f in fields):
                 here = base
                 for _ in fields:
-                    here = walk.place[here][0] if here else None
+                    here = walk.place[here][0] or here
         if here:
             out.append((body[at:m.start()], dict(places)))
             places[m.group(1)] = here
@@ -315,7 +316,7 @@ def turn_file(path, names, contracts, crate):
             if "tie." in body:
                 said.append(f"a helper over a place: {name}")
             continue
-        need = needs.get(same(m.group(1)))
+        need = needs.get(same(m.group(1))) or needs.get(same(name))
         if not need:
             said.append(f"no goal for {m.group(1)}" + ("" if "= search rules" in body else " (WITH AN ANSWER)"))
             continue

@@ -35,14 +35,11 @@ offer-requires c =
     find_offer c.requires c.wide.ensures c.flight_at-f.ensures c.wide-2.ensures (replicate period_row 0) (c.list_periods-all.auto.list ∙ length-replicate {A = ℕ} period_row 0) (length-replicate {A = ℕ} period_row 0) c.list_periods-all.ensures
 
 pub take_nearest-left-requires : goal.take_nearest-left-requires
-take_nearest-left-requires c =
-    let at_start = c.before in
-    let all = find_near at_start.requires c.wide.ensures c.flight_at-f.ensures c.wide-2.ensures (replicate period_row 0) (c.list_periods-all.auto.list ∙ length-replicate {A = ℕ} period_row 0) (length-replicate {A = ℕ} period_row 0) c.list_periods-all.ensures c.offer.auto.dist c.offer.auto.via c.offer.ensures in record { can_near = all.0; queue_len = all.1 }
+take_nearest-left-requires c = let all = find_near c.requires c.wide.ensures c.flight_at-f.ensures c.wide-2.ensures (replicate period_row 0) (c.list_periods-all.auto.list ∙ length-replicate {A = ℕ} period_row 0) (length-replicate {A = ℕ} period_row 0) c.list_periods-all.ensures c.offer.auto.dist c.offer.auto.via c.offer.ensures in record { can_near = all.0; queue_len = all.1 }
 
 pub loop-t-init : goal.loop-t-init
 loop-t-init c =
-    let at_start = c.before in
-    finding_start at_start.requires c.wide.ensures c.flight_at-f.ensures c.wide-2.ensures (replicate period_row 0) (c.list_periods-all.auto.list ∙ length-replicate {A = ℕ} period_row 0) (length-replicate {A = ℕ} period_row 0) c.list_periods-all.ensures c.offer.auto.dist c.offer.auto.via c.offer.ensures c.take_nearest-left.auto.list c.take_nearest-left.auto.queue c.take_nearest-left.ensures
+    finding_start c.requires c.wide.ensures c.flight_at-f.ensures c.wide-2.ensures (replicate period_row 0) (c.list_periods-all.auto.list ∙ length-replicate {A = ℕ} period_row 0) (length-replicate {A = ℕ} period_row 0) c.list_periods-all.ensures c.offer.auto.dist c.offer.auto.via c.offer.ensures c.take_nearest-left.auto.list c.take_nearest-left.auto.queue c.take_nearest-left.ensures
 
 pub overflow_sub-all : goal.overflow_sub-all
 overflow_sub-all c = finding_whole c.loop-t.invariant
@@ -80,13 +77,11 @@ bounds-dist-target c =
 
 pub shape_of-dist-then-dist-target : goal.shape_of-dist-then-dist-target
 shape_of-dist-then-dist-target c =
-    let at_start = c.before in
-    c.expand.auto.dist ∙ (finding_sizes c.loop-t.invariant).2 ∙ sym at_start.requires.can.dists
+    c.expand.auto.dist ∙ (finding_sizes c.loop-t.invariant).2 ∙ sym c.requires.can.dists
 
 pub shape_of-via-then-dist-target : goal.shape_of-via-then-dist-target
 shape_of-via-then-dist-target c =
-    let at_start = c.before in
-    c.expand.auto.via ∙ (finding_sizes c.loop-t.invariant).3 ∙ sym at_start.requires.can.vias
+    c.expand.auto.via ∙ (finding_sizes c.loop-t.invariant).3 ∙ sym c.requires.can.vias
 
 pub returns-then-dist-target : goal.returns-then-dist-target
 returns-then-dist-target c =
@@ -125,13 +120,11 @@ loop-t-preserved c =
 
 pub shape_of-dist : goal.shape_of-dist
 shape_of-dist c =
-    let at_start = c.before in
-    (finding_sizes c.loop-t.invariant).2 ∙ sym at_start.requires.can.dists
+    (finding_sizes c.loop-t.invariant).2 ∙ sym c.requires.can.dists
 
 pub shape_of-via : goal.shape_of-via
 shape_of-via c =
-    let at_start = c.before in
-    (finding_sizes c.loop-t.invariant).3 ∙ sym at_start.requires.can.vias
+    (finding_sizes c.loop-t.invariant).3 ∙ sym c.requires.can.vias
 
 pub returns : goal.returns
 returns c = finding_end c.loop-t.invariant c.loop-t-test.false

@@ -43,7 +43,7 @@ pub bounds-list-left-2 : goal.bounds-list-left-2
 bounds-list-left-2 c = (filling_room c.loop-k.invariant).0
 
 pub shape_of-list : goal.shape_of-list
-shape_of-list c = length-set c.loop-k.list c.loop-k.false c.args.target ∙ c.loop-k.invariant.same
+shape_of-list c = length-set c.loop-k.list c.loop-k.left c.args.target ∙ c.loop-k.invariant.same
 
 pub returns : goal.returns
 returns c = filling_end c.loop-k.invariant c.loop-k-test.false

@@ -70,7 +70,7 @@ bounds-list-kept-2 c = (last_room c.loop-z.invariant).0
 
 pub shape_of-list : goal.shape_of-list
 shape_of-list c =
-    length-set c.loop-z.list c.loop-z.auto c.args.target ∙ c.loop-z.invariant.same_l
+    length-set c.loop-z.list c.loop-z.kept c.args.target ∙ c.loop-z.invariant.same_l
 
 pub shape_of-queue : goal.shape_of-queue
 shape_of-queue c = c.loop-z.invariant.same_q

@@ -6,6 +6,7 @@ use Rattle.quick_plan.specs.NextCost.{next_cost}
 use Rattle.quick_plan.proofs.Steps.{Scan, scan_start, scan_there, scan_periods, scan_due, best_there, scan_skip, scan_fresh, scan_better, scan_worse, scan_end}
 
 use Rattle.quick_plan.proofs.first_waiting.Goals as goal
+use Rattle.quick_plan.proofs.first_waiting.Goals.{then-best-n-via-then-best-n, then-best-n-via-else-best-n+then-goes_before}
 
 pub loop-i-init : goal.loop-i-init
 loop-i-init c = scan_start _ c.requires.0 c.requires.1
@@ -24,8 +25,8 @@ goes_before-requires c =
 pub loop-i-preserved-then-is_waiting : goal.loop-i-preserved-then-is_waiting
 loop-i-preserved-then-is_waiting c =
     elim c.then-best-n.branch [
-      | inl none ↦ scan_fresh c.loop-i.invariant c.loop-i-test.true c.is_waiting.ensures c.next_cost-cost.ensures c.if-is_waiting.true none.taken
-      | inr goes ↦ scan_better c.loop-i.invariant c.loop-i-test.true c.is_waiting.ensures c.next_cost-cost.ensures c.if-is_waiting.true goes.0.left goes.1.ensures goes.2.taken
+      | then-best-n-via-then-best-n none ↦ scan_fresh c.loop-i.invariant c.loop-i-test.true c.is_waiting.ensures c.next_cost-cost.ensures c.if-is_waiting.true none.if-best-n.true
+      | then-best-n-via-else-best-n+then-goes_before goes ↦ scan_better c.loop-i.invariant c.loop-i-test.true c.is_waiting.ensures c.next_cost-cost.ensures c.if-is_waiting.true goes.if-best-n.false goes.goes_before.ensures goes.if-goes_before.true
     ]
 
 pub loop-i-preserved-then-is_waiting-2 : goal.loop-i-preserved-then-is_waiting-2

@@ -12,8 +12,7 @@ loop-left-init c =
 
 pub first_waiting-i-requires : goal.first_waiting-i-requires
 first_waiting-i-requires c =
-    let at_start = c.before in
-    (at_start.requires.0, search rules, at_start.requires.2, at_start.requires.3)
+    (c.requires.0, search rules, c.requires.2, c.requires.3)
 
 pub returns-then-i-n : goal.returns-then-i-n
 returns-then-i-n c = landing_stop c.loop-left.invariant c.first_waiting-i.ensures c.if-i-n.true
@@ -29,6 +28,9 @@ overflow_cast-holds c = omega (arith, landing_early c.loop-left.invariant)
 
 pub offset_bounds-holds-i : goal.offset_bounds-holds-i
 offset_bounds-holds-i c = omega (arith, (landing_flight c.loop-left.invariant c.first_waiting-i.ensures c.if-i-n.false).0)
+
+pub bounds-holds-i : goal.bounds-holds-i
+bounds-holds-i c = (landing_flight c.loop-left.invariant c.first_waiting-i.ensures c.if-i-n.false).0
 
 pub loop-left-preserved : goal.loop-left-preserved
 loop-left-preserved c = landing_more c.loop-left.invariant c.first_waiting-i.ensures c.loop-left-test.true c.if-i-n.false c.due_of.ensures.0
