@@ -24,6 +24,7 @@ BLOCK = re.compile(r"^(?:abbrev )?(?:pub )?(?:abbrev )?(" + NAME + r") : ", re.M
 def same(a):
     """A name as the older and the newer spelling have it alike; tools/snake_names.py turned some names of steps with those of lemmas."""
     a = re.sub(r"^(overflow|offset_bounds)[-_]", "", a).replace("-", "_")
+    a = a[:1].lower() + a[1:]
     return re.sub(r"_fit_in$", "_fit", re.sub(r"_lem$", "", a))
 
 
@@ -184,6 +185,9 @@ def in_clauses(walk, goal, right, said):
     if len(named) < 2:
         return right
     lead, _, end = right.rpartition(" in\n") if " in\n" in right else ("", "", right)
+    one = re.match(r"(.* in) (\(.*\))\s*$", end, re.S)
+    if one and parts(one.group(2)):
+        lead, end = (lead + " in\n" if lead else "") + one.group(1)[:-3], one.group(2)
     found = parts(end)
     flat = found
     while flat and len(flat) < len(named) and len(flat) == 2 and parts(flat[-1]) and found is flat:
@@ -210,14 +214,40 @@ PATH = re.compile(r"(?<![\w'.₀₁₂-])([A-Za-z_][\w'₀₁₂-]*)((?:\.[\w'�
 
 def helped(walk, body, helpers):
     """The body with each helper that goes from place to place written out, as (turn c.before) for c.before.before.before."""
-    for name, steps in helpers.items():
-        for _ in range(6):
+    old = None
+    while old != body:
+        old = body
+        for name, steps in helpers.items():
             body = re.sub(r"\(" + re.escape(name) + r" ([\w'₀₁₂-]+(?:\.[\w'₀₁₂-]+)*)\)", r"\1" + steps, body)
-        body = re.sub(r"(let [\w'₀₁₂-]+ = )" + re.escape(name) + r" ([\w'₀₁₂-]+(?:\.[\w'₀₁₂-]+)*) in", r"\1\2" + steps + " in", body)
+            body = re.sub(r"(let [\w'₀₁₂-]+ = )" + re.escape(name) + r" ([\w'₀₁₂-]+(?:\.[\w'₀₁₂-]+)*) in", r"\1\2" + steps + " in", body)
     return body
 
 
-def turn_body(walk, place, body, first="c"):
+def with_facts(walk, place, body, first, moves, facts):
+    """An answer in which each helper that states a fact at a place, as `due_is c.before`, is a let before it."""
+    used = []
+
+    def fact(name, at):
+        for i, (n, p, _) in enumerate(used):
+            if (n, p) == (name, at):
+                return used[i][2]
+        label = name if not any(n == name for n, _, _ in used) else f"{name}_{sum(n == name for n, _, _ in used) + 1}"
+        used.append((name, at, label))
+        return label
+
+    text = turn_body(walk, place, helped(walk, body, moves), first, facts, fact)
+    lets, done = [], 0
+    while done < len(used):
+        name, at, label = used[done]
+        variable, kind, value = facts[name]
+        kind = turn_body(walk, at, helped(walk, kind, moves), variable, facts, fact)
+        value = turn_body(walk, at, helped(walk, value, moves), variable, facts, fact)
+        lets.insert(0, f"    let {label} : {kind.strip()} = {value.strip()} in\n")
+        done += 1
+    return text if not lets else "\n" + "".join(lets) + ("    " + text.strip() if "\n" not in text.strip() or not text.startswith("\n") else text.lstrip("\n"))
+
+
+def turn_body(walk, place, body, first="c", facts=None, fact=None):
     """The body of an answer: places that a let names go, and each path is spelled from c."""
     places = {first: place}
     walk.start = place
@@ -243,6 +273,18 @@ def turn_body(walk, place, body, first="c"):
             out.append((body[at:m.end()], dict(places)))
             at = m.end()
     out.append((body[at:], dict(places)))
+
+    def stated(m, known):
+        at = known.get(m.group(2))
+        if at is None:
+            return m.group(0)
+        for _ in range(m.group(3).count(".before")):
+            at = walk.place[at][0] or at
+        return fact(m.group(1), at)
+
+    if facts:
+        uses = re.compile(r"(?<![\w'.-])(" + "|".join(map(re.escape, facts)) + r") ([\w'₀₁₂-]+)((?:\.before)*)(?![\w'.-])")
+        out = [(uses.sub(lambda m, k=known: stated(m, k), piece), known) for piece, known in out]
 
     def path(m, known):
         name, fields = m.group(1), [f for f in m.group(2).split(".") if f]
@@ -282,14 +324,29 @@ def turn_file(path, names, contracts, crate):
     needs = {same(old): (new, table["asked_at"][i]) for i, (old, new) in enumerate(table["needs"])}
     loops = {same(l[0][0]): (l[0][1], l[1], table["changed"][i]) for i, l in enumerate(table["loops"])}
     invariants, answers, helpers, said = [], [], [], []
-    moves = {}
+    moves, facts, types = {}, {}, set()
     for name, kind, body in found:
-        m = re.search(r"^" + re.escape(name) + r" c = c((?:\.before)+)$", body, re.M)
-        if m and re.match(r"tie\.[A-Z]\S*( [^→]*)? → tie\.[A-Z]", kind.strip()) and "Need" not in kind:
-            moves[name] = m.group(1)
+        if kind.strip() == "Type 0" and "tie." in body:
+            types.add(name)
+            continue
+        if kind.strip().startswith("tie.Need-") or name.endswith("-spec"):
+            continue
+        signature = body[body.index(" : ") + 3:]
+        where = re.match(r"\(?(?:(\S+) : )?(tie\.[A-Z]\S*|" + "|".join(map(re.escape, sorted(types) or ["none"])) + r")", signature)
+        m = re.search(r"^" + re.escape(name) + r" (\S+) =(.*)", body, re.M | re.S)
+        if not where or not m:
+            continue
+        value = helped(walk, " (" + m.group(2).strip() + ")" if re.match(r"\S+ \S+$", m.group(2).strip()) else m.group(2), moves).strip()
+        steps = re.fullmatch(r"\(?" + re.escape(m.group(1)) + r"((?:\.before)*)\)?", value)
+        if steps:
+            moves[name] = steps.group(1)
+            continue
+        kind = re.match(r"\(\S+ : .*?\)\s*→\s*(.*)", signature[: signature.index("\n" + name + " ")], re.S)
+        if kind:
+            facts[name] = (m.group(1), kind.group(1), m.group(2))
     for name, kind, body in found:
         kind = kind.strip()
-        if name.endswith("-spec") or "statement M" in kind or name in moves:
+        if name.endswith("-spec") or "statement M" in kind or name in moves or name in types or name in facts:
             continue
         m = re.match(r"tie\.(invariant|decreases)_([\w-]+)", kind)
         if m:
@@ -331,7 +388,7 @@ def turn_file(path, names, contracts, crate):
             continue
         if any(not re.fullmatch(r"c|κs|_", w) for w in words):
             said.append(f"{name}: arguments {words}")
-        right = turn_body(walk, place, helped(walk, right, moves), words[0] if words else "c")
+        right = with_facts(walk, place, right, words[0] if words else "c", moves, facts)
         right = in_clauses(walk, goal, right, said)
         note = lines[:at]
         answers.append("\n".join(note + [f"pub {goal} : goal.{goal}"] + between + [f"{goal} c ={right}"]))

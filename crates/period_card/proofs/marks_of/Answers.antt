@@ -1,0 +1,29 @@
+use borrow.Author.Rules.{rules}
+use native.Mathlib.Omega.{arith}
+use lib.ListN.{length}
+use Prim.Native.Nat.{◌-◌}
+use Rattle.day.specs.Day.{day, unlimited}
+use Rattle.period_card.proofs.Steps.{Marked, marked_start, marked_there, marked_small, marked_low, marked_high, marked_skip, marked_end}
+
+use Rattle.period_card.proofs.marks_of.Goals as goal
+
+pub loop-i-init : goal.loop-i-init
+loop-i-init c = marked_start c.requires.0 c.requires.1
+
+pub is_waiting-requires : goal.is_waiting-requires
+is_waiting-requires c = (marked_there c.loop-i.invariant c.loop-i-test.true, search rules, (marked_small c.loop-i.invariant).1)
+
+pub loop-i-preserved-then-k-lt64 : goal.loop-i-preserved-then-k-lt64
+loop-i-preserved-then-k-lt64 c = marked_low c.loop-i.invariant c.loop-i-test.true c.is_waiting.ensures c.if-is_waiting.true c.if-k-lt64.true c.mark-low.ensures
+
+pub mark-high-requires : goal.mark-high-requires
+mark-high-requires c = omega (arith, (marked_small c.loop-i.invariant).0)
+
+pub loop-i-preserved-else-k-lt64 : goal.loop-i-preserved-else-k-lt64
+loop-i-preserved-else-k-lt64 c = marked_high c.loop-i.invariant c.loop-i-test.true c.is_waiting.ensures c.if-is_waiting.true c.if-k-lt64.false c.mark-high.ensures
+
+pub loop-i-preserved : goal.loop-i-preserved
+loop-i-preserved c = marked_skip c.loop-i.invariant c.loop-i-test.true c.is_waiting.ensures c.if-is_waiting.false
+
+pub returns : goal.returns
+returns c = marked_end c.loop-i.invariant c.loop-i-test.false

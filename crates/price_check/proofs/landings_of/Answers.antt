@@ -1,0 +1,25 @@
+use borrow.Author.Rules.{rules}
+use Prim.Native.Nat.{◌-◌}
+use native.Mathlib.Omega.{arith}
+use lib.ListN.{length}
+use Rattle.price_check.proofs.Laws.{Counted, counted_start, counted_place, counted_on, counted_off, counted_end}
+
+use Rattle.price_check.proofs.landings_of.Goals as goal
+
+pub loop-i-init : goal.loop-i-init
+loop-i-init c = counted_start c.requires
+
+pub land_of-requires : goal.land_of-requires
+land_of-requires c = (c.loop-i-test.true, counted_place c.loop-i.invariant c.loop-i-test.true)
+
+pub overflow_add-count : goal.overflow_add-count
+overflow_add-count c = omega (arith, c.loop-i.invariant.few)
+
+pub loop-i-preserved-then-land_of-k : goal.loop-i-preserved-then-land_of-k
+loop-i-preserved-then-land_of-k c = counted_on c.loop-i.invariant c.loop-i-test.true c.land_of.ensures.0 c.if-land_of-k.true
+
+pub loop-i-preserved : goal.loop-i-preserved
+loop-i-preserved c = counted_off c.loop-i.invariant c.loop-i-test.true c.land_of.ensures.0 c.if-land_of-k.false
+
+pub returns : goal.returns
+returns c = counted_end c.loop-i.invariant c.loop-i-test.false
