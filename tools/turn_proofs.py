@@ -79,6 +79,8 @@ class Walk:
         self.contracts = contracts
         self.function = function
         self.left = []
+        self.start = None
+        self.moves = {}
 
     def clause(self, function, kind, rest):
         """.ensures.1 of a call with clauses of several names, and .ensures.1.0 where older kits nested them."""
@@ -250,7 +252,7 @@ def with_facts(walk, place, body, first, moves, facts):
 def turn_body(walk, place, body, first="c", facts=None, fact=None):
     """The body of an answer: places that a let names go, and each path is spelled from c."""
     places = {first: place}
-    walk.start = place
+    outer, walk.start = walk.start, place
     out, at = [], 0
     let = re.compile(r"let ([\w'₀₁₂-]+) = ([\w'₀₁₂-]+)((?:\.[\w'₀₁₂-]+)*) in[ \n]\s*")
     while True:
@@ -280,6 +282,9 @@ def turn_body(walk, place, body, first="c", facts=None, fact=None):
             return m.group(0)
         for _ in range(m.group(3).count(".before")):
             at = walk.place[at][0] or at
+        variable, kind, value = facts[m.group(1)]
+        if kind is None:
+            return "(" + turn_body(walk, at, helped(walk, value, walk.moves), variable, facts, fact).strip() + ")"
         return fact(m.group(1), at)
 
     if facts:
@@ -299,6 +304,7 @@ def turn_body(walk, place, body, first="c", facts=None, fact=None):
 
     text = "".join(PATH.sub(lambda m, k=known: path(m, k), piece) for piece, known in out)
     text = re.sub(r"(?<=[\w.])\.inv(?![\w'-])", ".invariant", text)
+    walk.start = outer
     # A test of `!b` says `b ≡ false` now, so the lemma that turned it goes.
     text = re.sub(r"\(not-(true|false) _ (c\.[\w.-]+\.(?:true|false))\)", r"\2", text)
     return re.sub(r"\bnot-(true|false) _ (c\.[\w.-]+\.(?:true|false))", r"\2", text)
@@ -325,6 +331,13 @@ def turn_file(path, names, contracts, crate):
     loops = {same(l[0][0]): (l[0][1], l[1], table["changed"][i]) for i, l in enumerate(table["loops"])}
     invariants, answers, helpers, said = [], [], [], []
     moves, facts, types = {}, {}, set()
+    walk.moves = moves
+    goals = {}
+    for name, kind, _ in found:
+        m = re.match(r"tie\.Need-([^\s]+)", kind.strip())
+        need = m and (needs.get(same(m.group(1))) or needs.get(same(name)))
+        if need:
+            goals[name] = need[0]
     for name, kind, body in found:
         if kind.strip() == "Type 0" and "tie." in body:
             types.add(name)
@@ -333,17 +346,21 @@ def turn_file(path, names, contracts, crate):
             continue
         signature = body[body.index(" : ") + 3:]
         where = re.match(r"\(?(?:(\S+) : )?(tie\.[A-Z]\S*|" + "|".join(map(re.escape, sorted(types) or ["none"])) + r")", signature)
-        m = re.search(r"^" + re.escape(name) + r" (\S+) =(.*)", body, re.M | re.S)
+        m = re.search(r"^" + re.escape(name) + r" (\S+)((?: \S+)*?) =(.*)", body, re.M | re.S)
         if not where or not m:
             continue
-        value = helped(walk, " (" + m.group(2).strip() + ")" if re.match(r"\S+ \S+$", m.group(2).strip()) else m.group(2), moves).strip()
-        steps = re.fullmatch(r"\(?" + re.escape(m.group(1)) + r"((?:\.before)*)\)?", value)
+        more, m = m.group(2), [None, m.group(1), m.group(3)]
+        value = helped(walk, " (" + m[2].strip() + ")" if re.match(r"\S+ \S+$", m[2].strip()) else m[2], moves).strip()
+        steps = re.fullmatch(r"\(?" + re.escape(m[1]) + r"((?:\.before)*)\)?", value)
         if steps:
             moves[name] = steps.group(1)
             continue
-        kind = re.match(r"\(\S+ : .*?\)\s*→\s*(.*)", signature[: signature.index("\n" + name + " ")], re.S)
+        signature = signature[: signature.index("\n" + name + " ")]
+        kind = re.match(r"\(\S+ : [^()]*\)\s*(?:→\s*)?(.*)", signature, re.S)
         if kind:
-            facts[name] = (m.group(1), kind.group(1), m.group(2))
+            facts[name] = (m[1], kind.group(1), m[2] if not more else f"λ{more}.{m[2]}")
+        elif not more:
+            facts[name] = (m[1], None, m[2])
     for name, kind, body in found:
         kind = kind.strip()
         if name.endswith("-spec") or "statement M" in kind or name in moves or name in types or name in facts:
@@ -389,6 +406,7 @@ def turn_file(path, names, contracts, crate):
         if any(not re.fullmatch(r"c|κs|_", w) for w in words):
             said.append(f"{name}: arguments {words}")
         right = with_facts(walk, place, right, words[0] if words else "c", moves, facts)
+        right = re.sub(r"(?<![\w'.-])([\w'-]+) c(?![\w'.-])", lambda m: goals.get(m.group(1), m.group(1)) + " c", right)
         right = in_clauses(walk, goal, right, said)
         note = lines[:at]
         answers.append("\n".join(note + [f"pub {goal} : goal.{goal}"] + between + [f"{goal} c ={right}"]))

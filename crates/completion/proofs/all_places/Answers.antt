@@ -1,0 +1,10 @@
+-- The capacities copied, and the closing number behind them.
+-- Assumes nothing.
+use borrow.Author.Rules.{rules}
+use Rattle.completion.proofs.Steps.{places_made}
+
+use Rattle.completion.proofs.all_places.Goals as goal
+
+pub returns : goal.returns
+returns c =
+    places_made c.args.left.now c.args.closing c.copy_front.ensures c.requires.1 c.counted_of.ensures

@@ -1,0 +1,42 @@
+-- The landing was taken last: in a period that is not counted nothing was taken, else one place of what is left.
+-- Assumes nothing.
+use native.Mathlib.Omega.{arith}
+use borrow.Author.Rules.{rules}
+use Rattle.day.proofs.Valid.{valid_means}
+use Rattle.completion.proofs.Steps.{place_in, last_in, lands_from, lands_in, left_fits, back_closing, back_in}
+
+use Rattle.completion.proofs.give_back.Goals as goal
+
+pub land_of-k-requires : goal.land_of-k-requires
+land_of-k-requires c = let s = c.requires in place_in s (last_in s)
+
+pub counted_of-requires : goal.counted_of-requires
+counted_of-requires c = (valid_means c.requires.good).periods_to
+
+pub overflow_sub-at : goal.overflow_sub-at
+overflow_sub-at c =
+    let s = c.requires in lands_from s (last_in s) c.land_of-k.ensures.0
+
+pub bounds-left-at : goal.bounds-left-at
+bounds-left-at c =
+    let s = c.requires in
+    lands_in s (last_in s) c.land_of-k.ensures.0 (rw c.counted_of.ensures at c.if-k-counted_of.true)
+
+pub overflow_add-left : goal.overflow_add-left
+overflow_add-left c =
+    let s = c.requires in
+    omega (arith, left_fits s (last_in s) c.land_of-k.ensures.0 (rw c.counted_of.ensures at c.if-k-counted_of.true))
+
+pub bounds-left-at-then-k-counted_of : goal.bounds-left-at-then-k-counted_of
+bounds-left-at-then-k-counted_of c =
+    let s = c.requires in
+    lands_in s (last_in s) c.land_of-k.ensures.0 (rw c.counted_of.ensures at c.if-k-counted_of.true)
+
+pub returns-then-k-counted_of : goal.returns-then-k-counted_of
+returns-then-k-counted_of c =
+    let s = c.requires in
+    back_in s c.land_of-k.ensures.0 (last_in s) (rw c.counted_of.ensures at c.if-k-counted_of.true)
+
+pub returns-else-k-counted_of : goal.returns-else-k-counted_of
+returns-else-k-counted_of c =
+    back_closing c.requires c.land_of-k.ensures.0 (rw c.counted_of.ensures at c.if-k-counted_of.false)

@@ -1,0 +1,18 @@
+-- After i turns the first i lines are written.
+use Rattle.text.proofs.Writing.{then, put_none, put_length}
+use Rattle.plan_text.proofs.Placing.{lines_part, lines_room, no_lines}
+use Rattle.text.specs.Writing.{Put}
+use Rattle.plan_text.specs.PlanText.{plan_lines}
+use borrow.Author.Rules.{rules}
+use Prim.Native.Nat.{◌≤◌, ◌<◌, ◌-◌}
+use native.Mathlib.Omega.{arith}
+use mathlib.Core.Path.{◌≡◌, refl}
+use lib.ListN.{length, length-append}
+
+use Rattle.plan_text.proofs.put_plan_lines.Given as goal
+
+abbrev pub invariant-loop-i : goal.invariant-loop-i
+invariant-loop-i l = (l.i ≤ length l.holds) × (length l.out ≡ length l.initial.out) × Put l.initial.out l.start (plan_lines l.flights l.holds l.i 0) l.at l.out
+
+abbrev pub decreases-loop-i : goal.decreases-loop-i
+decreases-loop-i l = length l.holds - l.i

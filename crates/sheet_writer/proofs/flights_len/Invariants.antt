@@ -1,0 +1,17 @@
+-- After i turns the lengths of the first i lines are summed.
+use borrow.Author.Rules.{rules}
+use Rattle.sheet_writer.proofs.Placing.{flight_part, no_flights}
+use Rattle.day.specs.Flights.{first_flights}
+use Rattle.sheet.specs.Text.{flights_text}
+use Prim.Native.Nat.{◌≤◌, ◌-◌, ◌*◌}
+use native.Mathlib.Omega.{arith}
+use mathlib.Core.Path.{◌≡◌, refl}
+use lib.ListN.{length, length-append}
+
+use Rattle.sheet_writer.proofs.flights_len.Given as goal
+
+abbrev pub invariant-loop-i : goal.invariant-loop-i
+invariant-loop-i l = (l.i ≤ l.n) × (l.sum ≡ length (flights_text (first_flights l.i l.flights))) × (l.sum ≤ 147 * l.i)
+
+abbrev pub decreases-loop-i : goal.decreases-loop-i
+decreases-loop-i l = l.n - l.i

@@ -1,0 +1,17 @@
+-- After i turns the lengths of the first i lines are summed.
+use Rattle.sheet_writer.proofs.Placing.{period_part, no_periods}
+use lib.Seq.{take_all}
+use Rattle.sheet.specs.Text.{periods_text}
+use borrow.Author.Rules.{rules}
+use Prim.Native.Nat.{◌≤◌, ◌-◌, ◌*◌}
+use native.Mathlib.Omega.{arith}
+use mathlib.Core.Path.{◌≡◌, refl}
+use lib.ListN.{length, take, length-append}
+
+use Rattle.sheet_writer.proofs.periods_len.Given as goal
+
+abbrev pub invariant-loop-i : goal.invariant-loop-i
+invariant-loop-i l = (l.i ≤ length l.capacities) × (l.sum ≡ length (periods_text 1 (take l.i l.capacities))) × (l.sum ≤ 42 * l.i)
+
+abbrev pub decreases-loop-i : goal.decreases-loop-i
+decreases-loop-i l = length l.capacities - l.i

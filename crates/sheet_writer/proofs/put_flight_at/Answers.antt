@@ -1,0 +1,8 @@
+-- The part lent on is the rest of the buffer.
+use Rattle.text.proofs.Writing.{lent}
+use borrow.Author.Rules.{rules}
+
+use Rattle.sheet_writer.proofs.put_flight_at.Goals as goal
+
+pub returns : goal.returns
+returns c = lent _ _ _ _ _ c.requires c.put_flight-k.ensures
