@@ -5,7 +5,7 @@ use mathlib.Core.List.{List}
 use Prim.Native.Nat.{ℕ, zero, suc, ◌+◌, ◌-◌, ◌*◌, ◌≤◌, ◌<◌}
 use native.Mathlib.Nat.{mul-le-mul_left}
 use native.Mathlib.Omega.{arith}
-use Rattle.assignment.specs.Sum.{sum, count}
+use Rattle.assignment.specs.Sum.{sum}
 use Rattle.assignment.proofs.Sums.{sum_ext, count_ext}
 use Rattle.day.specs.Day.{Day, due, rate, hold, land}
 use Rattle.forecast_plan.specs.Forecast.{Forecasts, weight, forecast, held, lands, cost_if, expected}

@@ -3,7 +3,7 @@
 use mathlib.Core.Path.{◌≡◌, refl, ap, sym, ◌∙◌}
 use mathlib.Core.Logic.{inl, inr}
 use mathlib.Core.List.{List}
-use Prim.Native.Nat.{ℕ, ◌+◌, ◌-◌, ◌*◌, ◌≤◌, ◌<◌, min}
+use Prim.Native.Nat.{ℕ, ◌+◌, ◌-◌, ◌*◌, ◌≤◌, ◌<◌}
 use native.Mathlib.Numerals.{add-one}
 use native.Mathlib.Omega.{arith}
 use lib.ListN.{length, set, replicate, length-set, length-replicate, get_or-eq_default}
@@ -14,7 +14,7 @@ use Rattle.assignment.specs.Moves.{Moved}
 use Rattle.assignment.proofs.Rows.{set_moved, blank_at}
 use Rattle.assignment.proofs.Sums.{sum_ext, sum_most, sum_member, count_suc, count_zero, count_le}
 use Rattle.assignment.proofs.Tests.{eq?, lt?, gate_eq, gate_ne}
-use Rattle.day.specs.Day.{Day, P, N, width, most_flights, period_row, due, rate, flight_at, latest_of, last_of, last, hold, land}
+use Rattle.day.specs.Day.{Day, P, N, width, most_flights, period_row, due, rate, flight_at, last_of, hold, land}
 use Rattle.day.specs.declared.Flight.{Flight}
 use Rattle.day.proofs.Costs.{due_latest}
 use Rattle.day.proofs.Flights.{there, due_read}

@@ -7,7 +7,7 @@ use Prim.Native.Nat.{ℕ}
 use Rattle.assignment.specs.Sum.{sum, count}
 use Rattle.answers.specs.Answers.{outcome}
 use Rattle.answers.specs.declared.Answer.TheVariants.{Planned}
-use Rattle.day.specs.Day.{Day, day, unlimited, flight_at, flight_count, latest_of, last_of, last, all, flight_fits, is_new, valid}
+use Rattle.day.specs.Day.{Day, day, unlimited, flight_at, flight_count, latest_of, last_of, all, flight_fits, is_new, valid}
 use Rattle.forecast_plan.specs.Forecast.{Forecasts, waiting, first_room, expected, least_hold, holds_to, expected_total}
 use Rattle.forecast_plan.specs.Calls.{terms_fit, forecasts_fit, rows_plan, forecast_plan}
 

@@ -1,5 +1,7 @@
 // The forecast plan: flights get their holds one after another, each the hold of least expected cost given those before it, where the
 // capacities of the day are known by forecasts with odds only.
+#![tactic(auto)]
+
 ghost use Rattle.std.specs.Prelude.{◌≡◌, true, cond, ◌+◌, ◌-◌, ◌*◌, ◌≤◌, ◌<◌, min, length, set, ltb};
 ghost use Rattle.assignment.specs.Rows.{el};
 ghost use Rattle.day.specs.Day.{lent, unlimited, N, valid, most_periods, most_flights, period_row, of_period, last_of};

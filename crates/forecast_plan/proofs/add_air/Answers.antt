@@ -1,12 +1,7 @@
-use mathlib.Core.Path.{◌≡◌, sym}
+use mathlib.Core.Path.{sym}
 use native.Mathlib.Omega.{arith}
-use borrow.Author.Rules.{rules}
-use Rattle.assignment.specs.Rows.{el}
-use Rattle.forecast_plan.specs.Forecast.{first_room}
-use Rattle.forecast_plan.specs.Loop.{Adding}
 use Rattle.forecast_plan.proofs.Landing.{room_closing}
 use Rattle.forecast_plan.proofs.Air.{adding_there, adding_lands, adding_fits, adding_low, adding_next, adding_end}
-
 use Rattle.forecast_plan.proofs.add_air.Goals as goal
 
 pub loop-j-init : goal.loop-j-init

@@ -1,14 +1,9 @@
 -- The landing from period j is known, and every period from j on has its part.
 -- Assumes nothing.
-use mathlib.Core.Path.{◌≡◌, sym}
-use native.Mathlib.Omega.{arith}
-use borrow.Author.Rules.{rules}
+use mathlib.Core.Path.{◌≡◌}
 use Rattle.assignment.specs.Rows.{el}
 use Rattle.forecast_plan.specs.Forecast.{first_room}
 use Rattle.forecast_plan.specs.Loop.{Adding}
-use Rattle.forecast_plan.proofs.Landing.{room_closing}
-use Rattle.forecast_plan.proofs.Air.{adding_there, adding_lands, adding_fits, adding_low, adding_next, adding_end}
-
 use Rattle.forecast_plan.proofs.add_air.Given as goal
 
 abbrev pub invariant-loop-j : goal.invariant-loop-j

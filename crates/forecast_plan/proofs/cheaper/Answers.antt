@@ -1,7 +1,6 @@
 -- The test decides which of the two is returned.
 -- Assumes nothing.
 use borrow.Author.Tests.{lt-ltb, le-ltb}
-
 use Rattle.forecast_plan.proofs.cheaper.Goals as goal
 
 pub returns-then-next-best : goal.returns-then-next-best

@@ -5,8 +5,6 @@ use Prim.Native.Nat.{◌≤◌}
 use native.Mathlib.Omega.{arith}
 use Rattle.forecast_plan.specs.Loop.{weighed}
 use Rattle.forecast_plan.proofs.Choosing.{ground_fits, rates_fit, air_fits}
-use borrow.Author.Rules.{rules}
-
 use Rattle.forecast_plan.proofs.cost_in.Goals as goal
 
 pub overflow_mul-result-2 : goal.overflow_mul-result-2

@@ -1,12 +1,6 @@
-use mathlib.Core.Path.{◌≡◌, refl, sym, ◌∙◌}
-use Prim.Native.Nat.{◌+◌, ◌-◌, ◌≤◌}
+use mathlib.Core.Path.{refl, sym, ◌∙◌}
 use native.Mathlib.Omega.{arith}
-use lib.ListN.{length}
-use Rattle.assignment.specs.Rows.{el}
-use Rattle.forecast_plan.specs.Forecast.{first_room}
 use Rattle.forecast_plan.proofs.Landing.{room_here, room_further, room_closing}
-use borrow.Author.Rules.{rules}
-
 use Rattle.forecast_plan.proofs.first_room.Goals as goal
 
 pub loop-k-init : goal.loop-k-init

@@ -1,14 +1,10 @@
 -- A flight held to q lands where one does that is held to k: the periods between are full.
 -- Assumes nothing.
-use mathlib.Core.Path.{◌≡◌, refl, sym, ◌∙◌}
+use mathlib.Core.Path.{◌≡◌}
 use Prim.Native.Nat.{◌+◌, ◌-◌, ◌≤◌}
-use native.Mathlib.Omega.{arith}
 use lib.ListN.{length}
 use Rattle.assignment.specs.Rows.{el}
 use Rattle.forecast_plan.specs.Forecast.{first_room}
-use Rattle.forecast_plan.proofs.Landing.{room_here, room_further, room_closing}
-use borrow.Author.Rules.{rules}
-
 use Rattle.forecast_plan.proofs.first_room.Given as goal
 
 abbrev pub invariant-loop-k : goal.invariant-loop-k

@@ -3,8 +3,6 @@
 use mathlib.Core.Path.{◌≡◌}
 use Prim.Native.Nat.{◌+◌, ◌-◌, ◌*◌}
 use native.Mathlib.Omega.{arith}
-use borrow.Author.Rules.{rules}
-
 use Rattle.forecast_plan.proofs.forecast_at.Goals as goal
 
 pub returns : goal.returns

@@ -1,11 +1,8 @@
 -- The refusals in the order of the definition, then the plan by its rows.
 -- Assumes nothing.
-use borrow.Author.Tests.{not-true, not-false}
 use mathlib.Core.Path.{sym, ◌∙◌}
 use Rattle.answers.proofs.Outcomes.{says, says_as}
 use Rattle.forecast_plan.proofs.Calls.{bad_day, has_line_lem, bad_terms, by_rows}
-use borrow.Author.Rules.{rules}
-
 use Rattle.forecast_plan.proofs.forecast_plan.Goals as goal
 
 pub returns-then-not-is_valid : goal.returns-then-not-is_valid
@@ -27,4 +24,4 @@ plan_rows-requires c =
 pub returns : goal.returns
 returns c =
     let v = sym c.is_valid.ensures ∙ c.if-not-is_valid.false in
-    let all = says_as (by_rows _ _ _ _ v c.if-closing-ne-UNLIMITED.false c.wide-forecast_count.ensures c.wide-air_factor.ensures (sym c.terms_fit.ensures ∙ c.if-not-terms_fit.false)) c.plan_rows.ensures in record { value = all.0; holds_after = all.1 }
+    let all = says_as (by_rows _ _ _ _ v c.if-closing-ne-UNLIMITED.false c.wide-forecast_count.ensures c.wide-air_factor.ensures (sym c.terms_fit.ensures ∙ c.if-not-terms_fit.false)) (c.plan_rows.ensures.value, c.plan_rows.ensures.holds_after) in record { value = all.0; holds_after = all.1 }

@@ -2,8 +2,6 @@
 -- Assumes nothing.
 use mathlib.Core.Path.{sym, ◌∙◌}
 use Rattle.forecast_plan.proofs.Calls.{bad_sum, sum_fits}
-use borrow.Author.Rules.{rules}
-
 use Rattle.forecast_plan.proofs.forecasts_fit.Goals as goal
 
 pub returns-then-weight_sum-ne-ALL_WEIGHTS : goal.returns-then-weight_sum-ne-ALL_WEIGHTS

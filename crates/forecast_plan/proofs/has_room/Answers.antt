@@ -4,8 +4,6 @@ use mathlib.Core.Path.{ap}
 use lib.Dec.{ltb}
 use Rattle.assignment.specs.Rows.{el}
 use Rattle.forecast_plan.proofs.Landing.{capacity_here}
-use borrow.Author.Rules.{rules}
-
 use Rattle.forecast_plan.proofs.has_room.Goals as goal
 
 pub returns : goal.returns

@@ -1,11 +1,6 @@
-use Prim.Native.Nat.{◌-◌}
 use native.Mathlib.Omega.{arith}
-use lib.ListN.{length, length-set}
-use borrow.Author.Rules.{rules}
-use Rattle.day.specs.Day.{day, unlimited}
-use Rattle.forecast_plan.specs.Loop.{Placed}
+use lib.ListN.{length-set}
 use Rattle.forecast_plan.proofs.Placing.{placed_flight, placed_ready, placed_lands, placed_due, placed_total, placed_cost_most, placed_turns, placed_next, placed_all}
-
 use Rattle.forecast_plan.proofs.hold_all.Goals as goal
 
 pub flight_at-f-requires : goal.flight_at-f-requires

@@ -1,8 +1,6 @@
 -- Nobody is held yet, and nobody waits.
 -- Assumes nothing.
 use Rattle.forecast_plan.proofs.Placing.{placed_none}
-use borrow.Author.Rules.{rules}
-
 use Rattle.forecast_plan.proofs.hold_flights.Goals as goal
 
 pub hold_all-requires : goal.hold_all-requires

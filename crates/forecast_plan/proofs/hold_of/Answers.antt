@@ -1,8 +1,6 @@
 -- The least hold by the row of weighed periods in the air.
 -- Assumes nothing.
 use Rattle.forecast_plan.proofs.Holding.{ready_none, ready_low, ready_chooses}
-use borrow.Author.Rules.{rules}
-
 use Rattle.forecast_plan.proofs.hold_of.Goals as goal
 
 pub weigh_air-requires : goal.weigh_air-requires

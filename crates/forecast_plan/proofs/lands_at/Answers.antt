@@ -2,8 +2,6 @@
 -- Assumes nothing.
 use mathlib.Core.Path.{◌∙◌}
 use Rattle.forecast_plan.proofs.Landing.{room_here, room_further}
-use borrow.Author.Rules.{rules}
-
 use Rattle.forecast_plan.proofs.lands_at.Goals as goal
 
 pub returns-then-has_room : goal.returns-then-has_room

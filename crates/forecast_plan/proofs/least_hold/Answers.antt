@@ -1,11 +1,7 @@
 use mathlib.Core.Path.{◌≡◌, ap}
-use Prim.Native.Nat.{◌-◌, ◌≤◌}
+use Prim.Native.Nat.{◌-◌}
 use native.Mathlib.Omega.{arith}
-use borrow.Author.Rules.{rules}
-use Rattle.assignment.specs.Rows.{el}
-use Rattle.forecast_plan.specs.Loop.{weighed, Chooses}
 use Rattle.forecast_plan.proofs.Choosing.{chooses_none, chooses_next, low_cost}
-
 use Rattle.forecast_plan.proofs.least_hold.Goals as goal
 
 pub cost_in-requires : goal.cost_in-requires

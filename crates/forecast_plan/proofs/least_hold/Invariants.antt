@@ -1,13 +1,9 @@
 -- The best is the least of the holds looked at.
 -- Assumes nothing.
-use mathlib.Core.Path.{◌≡◌, ap}
+use mathlib.Core.Path.{◌≡◌}
 use Prim.Native.Nat.{◌-◌, ◌≤◌}
-use native.Mathlib.Omega.{arith}
-use borrow.Author.Rules.{rules}
 use Rattle.assignment.specs.Rows.{el}
 use Rattle.forecast_plan.specs.Loop.{weighed, Chooses}
-use Rattle.forecast_plan.proofs.Choosing.{chooses_none, chooses_next, low_cost}
-
 use Rattle.forecast_plan.proofs.least_hold.Given as goal
 
 abbrev pub invariant-loop-hold : goal.invariant-loop-hold

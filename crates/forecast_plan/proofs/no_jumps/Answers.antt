@@ -1,7 +1,4 @@
-use Prim.Native.Nat.{◌-◌}
-use borrow.Author.Rules.{rules}
-use Rattle.forecast_plan.proofs.Tests.{Plain, plain_none, plain_there, plain_jump, plain_next, plain_all}
-
+use Rattle.forecast_plan.proofs.Tests.{plain_none, plain_there, plain_jump, plain_next, plain_all}
 use Rattle.forecast_plan.proofs.no_jumps.Goals as goal
 
 pub loop-i-init : goal.loop-i-init

@@ -1,9 +1,7 @@
 -- No flight above table place i has a jump.
 -- Assumes nothing.
 use Prim.Native.Nat.{◌-◌}
-use borrow.Author.Rules.{rules}
-use Rattle.forecast_plan.proofs.Tests.{Plain, plain_none, plain_there, plain_jump, plain_next, plain_all}
-
+use Rattle.forecast_plan.proofs.Tests.{Plain}
 use Rattle.forecast_plan.proofs.no_jumps.Given as goal
 
 abbrev pub invariant-loop-i : goal.invariant-loop-i

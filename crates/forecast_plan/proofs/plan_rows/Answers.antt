@@ -1,13 +1,10 @@
 -- The refusals in the order of the definition, then the plan.
 -- Assumes nothing.
-use borrow.Author.Tests.{not-true, not-false}
 use mathlib.Core.Path.{sym, ◌∙◌}
 use native.Mathlib.Omega.{arith}
 use Rattle.answers.proofs.Outcomes.{says}
 use Rattle.day.specs.Day.{lent, unlimited}
 use Rattle.forecast_plan.proofs.Calls.{terms_to, bad_holds, bad_weights, bad_rows, bad_forecasts, planned, entries_fit, all_fits}
-use borrow.Author.Rules.{rules}
-
 use Rattle.forecast_plan.proofs.plan_rows.Goals as goal
 
 pub returns-then-holds-n : goal.returns-then-holds-n

@@ -1,10 +1,7 @@
 use mathlib.Core.Path.{sym, ◌∙◌}
-use Prim.Native.Nat.{◌-◌}
 use native.Mathlib.Omega.{arith}
-use borrow.Author.Rules.{rules}
-use Rattle.forecast_plan.proofs.Parts.{parted_rows, parted_waits}
-use Rattle.forecast_plan.proofs.Refreshing.{Refreshed, refreshed_none, refreshed_one, refreshed_next, refreshed_all}
-
+use Rattle.forecast_plan.proofs.Parts.{parted_rows}
+use Rattle.forecast_plan.proofs.Refreshing.{refreshed_none, refreshed_one, refreshed_next, refreshed_all}
 use Rattle.forecast_plan.proofs.refresh.Goals as goal
 
 pub loop-s-init : goal.loop-s-init

@@ -1,8 +1,6 @@
 -- The row is known up to the period in which the flight that is new lands, and stays as it was behind it.
 -- Assumes nothing.
 use Rattle.forecast_plan.proofs.Turns.{turn_last, turn_all}
-use borrow.Author.Rules.{rules}
-
 use Rattle.forecast_plan.proofs.refresh_one.Goals as goal
 
 pub waiting-requires : goal.waiting-requires

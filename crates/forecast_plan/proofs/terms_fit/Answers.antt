@@ -1,10 +1,7 @@
 -- The tests in the order of the definition.
 -- Assumes nothing.
-use borrow.Author.Tests.{not-true, not-false}
 use mathlib.Core.Path.{sym, ◌∙◌}
 use Rattle.forecast_plan.proofs.Calls.{has_jump, bad_factor, terms_count}
-use borrow.Author.Rules.{rules}
-
 use Rattle.forecast_plan.proofs.terms_fit.Goals as goal
 
 pub returns-then-not-no_jumps : goal.returns-then-not-no_jumps

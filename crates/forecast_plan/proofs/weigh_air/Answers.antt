@@ -1,12 +1,7 @@
 use mathlib.Core.Path.{sym, ◌∙◌}
-use Prim.Native.Nat.{◌-◌}
 use native.Mathlib.Omega.{arith}
-use lib.ListN.{length}
-use borrow.Author.Rules.{rules}
-use Rattle.forecast_plan.specs.Loop.{Weighed}
-use Rattle.forecast_plan.proofs.Parts.{parted_rows, parted_waits}
+use Rattle.forecast_plan.proofs.Parts.{parted_rows}
 use Rattle.forecast_plan.proofs.Air.{weighed_adding, weighed_next, weighed_all}
-
 use Rattle.forecast_plan.proofs.weigh_air.Goals as goal
 
 pub loop-s-init : goal.loop-s-init

@@ -1,9 +1,5 @@
-use Prim.Native.Nat.{◌-◌}
 use native.Mathlib.Omega.{arith}
-use lib.ListN.{length}
-use borrow.Author.Rules.{rules}
-use Rattle.forecast_plan.proofs.Tests.{Summed, summed_none, summed_next, summed_all}
-
+use Rattle.forecast_plan.proofs.Tests.{summed_none, summed_next, summed_all}
 use Rattle.forecast_plan.proofs.weight_sum.Goals as goal
 
 pub loop-s-init : goal.loop-s-init
@@ -11,11 +7,11 @@ loop-s-init c = summed_none c.requires
 
 pub overflow_add-sum : goal.overflow_add-sum
 overflow_add-sum c =
-    omega (arith, c.loop-s.invariant.most, c.loop-s.invariant.few, c.loop-s.invariant.upto, c.wide-sum.ensures, c.shared_slice_known-in-loop-s-1.given c.loop-s.s)
+    omega (arith, c.loop-s.invariant.most, c.loop-s.invariant.few, c.loop-s.invariant.upto, c.wide-sum.ensures, c.type_inv.weights c.loop-s.s)
 
 pub loop-s-preserved : goal.loop-s-preserved
 loop-s-preserved c =
-    summed_next c.loop-s.invariant c.loop-s-test.true c.wide-sum.ensures (omega (arith, c.wide-sum.ensures, c.shared_slice_known-in-loop-s-1.given c.loop-s.s))
+    summed_next c.loop-s.invariant c.loop-s-test.true c.wide-sum.ensures (omega (arith, c.wide-sum.ensures, c.type_inv.weights c.loop-s.s))
 
 pub returns : goal.returns
 returns c = summed_all c.loop-s.invariant c.loop-s-test.false

@@ -1,11 +1,8 @@
 -- The first s weights are summed.
 -- Assumes nothing.
 use Prim.Native.Nat.{◌-◌}
-use native.Mathlib.Omega.{arith}
 use lib.ListN.{length}
-use borrow.Author.Rules.{rules}
-use Rattle.forecast_plan.proofs.Tests.{Summed, summed_none, summed_next, summed_all}
-
+use Rattle.forecast_plan.proofs.Tests.{Summed}
 use Rattle.forecast_plan.proofs.weight_sum.Given as goal
 
 abbrev pub invariant-loop-s : goal.invariant-loop-s
