@@ -1,0 +1,10 @@
+-- The call's answer in numbers, and its row.
+-- Assumes nothing.
+use mathlib.Core.Path.{ap, ◌∙◌}
+use Rattle.answers.specs.Answers.{code_of}
+use borrow.Author.Rules.{rules}
+
+use Rattle.desk.proofs.hold_desk_growth_plan.Goals as goal
+
+pub returns : goal.returns
+returns c = record { value = c.code_of.ensures ∙ ap code_of c.growth_plan.ensures.value; holds_after = c.growth_plan.ensures.holds_after }

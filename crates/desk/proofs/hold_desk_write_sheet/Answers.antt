@@ -1,0 +1,10 @@
+-- The call's answer in numbers, and its buffer.
+-- Assumes nothing.
+use mathlib.Core.Path.{ap, ◌∙◌}
+use Rattle.answers.specs.Answers.{code_of}
+use borrow.Author.Rules.{rules}
+
+use Rattle.desk.proofs.hold_desk_write_sheet.Goals as goal
+
+pub returns : goal.returns
+returns c = record { value = c.code_of.ensures ∙ ap code_of c.write_sheet.ensures.value; text_after = c.write_sheet.ensures.text_after }
