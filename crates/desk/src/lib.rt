@@ -1,5 +1,5 @@
-// The core for other languages: each export hands its rows to the core's call and gives the answer in the numbers of documents 01 and 02.
-// include/hold_desk.h documents them for C.
+// The core for other languages: each call hands its rows to the core's call and gives the answer in the numbers of documents 01 and 02.
+// The crate desk_c exports them; include/hold_desk.h documents them for C.
 ghost use Rattle.std.specs.Prelude.{◌≡◌, true};
 ghost use Rattle.answers.specs.Answers.{code_of};
 ghost use Rattle.answers.specs.Decides.{Decides};
@@ -40,8 +40,7 @@ pub struct ReadingCode {
     pub closing: u64,
 }
 
-#[unsafe(no_mangle)]
-pub extern "C" fn hold_desk_read_sheet(
+pub fn hold_desk_read_sheet(
     sheet: &[u8],
     capacities: &mut [u32],
     flights: &mut [u32],
@@ -62,8 +61,7 @@ pub extern "C" fn hold_desk_read_sheet(
     }
 }
 
-#[unsafe(no_mangle)]
-pub extern "C" fn hold_desk_write_sheet(
+pub fn hold_desk_write_sheet(
     capacities: &[u32],
     flights: &[u32],
     closing: u32,
@@ -76,8 +74,7 @@ pub extern "C" fn hold_desk_write_sheet(
     code_of(sheet_writer::write_sheet(capacities, flights, closing, text, place))
 }
 
-#[unsafe(no_mangle)]
-pub extern "C" fn hold_desk_quick_plan(
+pub fn hold_desk_quick_plan(
     capacities: &[u32],
     flights: &[u32],
     closing: u32,
@@ -89,8 +86,7 @@ pub extern "C" fn hold_desk_quick_plan(
     code_of(quick_plan::quick_plan(capacities, flights, closing, holds))
 }
 
-#[unsafe(no_mangle)]
-pub extern "C" fn hold_desk_growth_plan(
+pub fn hold_desk_growth_plan(
     capacities: &[u32],
     flights: &[u32],
     closing: u32,
@@ -103,8 +99,7 @@ pub extern "C" fn hold_desk_growth_plan(
     code_of(growth_plan::growth_plan(capacities, flights, closing, growth, holds))
 }
 
-#[unsafe(no_mangle)]
-pub extern "C" fn hold_desk_period_card(
+pub fn hold_desk_period_card(
     capacities: &[u32],
     flights: &[u32],
     closing: u32,
@@ -126,8 +121,7 @@ pub extern "C" fn hold_desk_period_card(
     }
 }
 
-#[unsafe(no_mangle)]
-pub extern "C" fn hold_desk_full_plan(
+pub fn hold_desk_full_plan(
     capacities: &[u32],
     flights: &[u32],
     closing: u32,
@@ -139,8 +133,7 @@ pub extern "C" fn hold_desk_full_plan(
     code_of(full_plan::full_plan(capacities, flights, closing, holds, prices))
 }
 
-#[unsafe(no_mangle)]
-pub extern "C" fn hold_desk_price_check(
+pub fn hold_desk_price_check(
     capacities: &[u32],
     flights: &[u32],
     closing: u32,
@@ -153,8 +146,7 @@ pub extern "C" fn hold_desk_price_check(
     price_check::price_check(capacities, flights, closing, holds, prices)
 }
 
-#[unsafe(no_mangle)]
-pub extern "C" fn hold_desk_choice(
+pub fn hold_desk_choice(
     capacities: &[u32],
     flights: &[u32],
     closing: u32,
@@ -171,8 +163,7 @@ pub extern "C" fn hold_desk_choice(
     }
 }
 
-#[unsafe(no_mangle)]
-pub extern "C" fn hold_desk_board(
+pub fn hold_desk_board(
     capacities: &[u32],
     flights: &[u32],
     closing: u32,
@@ -185,8 +176,7 @@ pub extern "C" fn hold_desk_board(
     code_of(board::make_board(capacities, flights, closing, holds, board))
 }
 
-#[unsafe(no_mangle)]
-pub extern "C" fn hold_desk_plan_text(
+pub fn hold_desk_plan_text(
     capacities: &[u32],
     flights: &[u32],
     closing: u32,
@@ -200,8 +190,7 @@ pub extern "C" fn hold_desk_plan_text(
     code_of(plan_text::write_plan(capacities, flights, closing, holds, text, place))
 }
 
-#[unsafe(no_mangle)]
-pub extern "C" fn hold_desk_read_plan(
+pub fn hold_desk_read_plan(
     capacities: &[u32],
     flights: &[u32],
     closing: u32,
@@ -213,8 +202,7 @@ pub extern "C" fn hold_desk_read_plan(
     code_of(plan_reader::read_plan(capacities, flights, closing, text, holds))
 }
 
-#[unsafe(no_mangle)]
-pub extern "C" fn hold_desk_forecast_plan(
+pub fn hold_desk_forecast_plan(
     capacities: &[u32],
     flights: &[u32],
     closing: u32,
