@@ -1,4 +1,6 @@
 // What the calls answer, and the number and two values that documents 01 and 02 give for each case.
+#![tactic(auto)]
+
 ghost use Rattle.std.specs.Prelude.{◌≡◌};
 ghost use Rattle.answers.specs.Answers.{code, code_of};
 

@@ -1,4 +1,6 @@
 // The cheaper of two hold rows for a day, handed back itself.
+#![tactic(auto)]
+
 ghost use Rattle.std.specs.Prelude.{◌≡◌, []};
 ghost use Rattle.day.specs.Day.{lent};
 ghost use Rattle.legality.specs.Check.{plan_check, onPlan};

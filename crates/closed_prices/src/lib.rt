@@ -1,4 +1,6 @@
 // The prices of the closed periods, those of capacity 0, for a plan whose other prices are known: a search leaves such periods out.
+#![tactic(auto)]
+
 ghost use Rattle.std.specs.Prelude.{◌<◌};
 ghost use Rattle.day.specs.Day.{lent, unlimited, flight_count};
 ghost use Rattle.closed_prices.specs.ClosedPrices.{CanPay, Shortfall, LeastPrice, CanPrice, Priced};

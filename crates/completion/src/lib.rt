@@ -1,5 +1,7 @@
 // Holds for the first flights of a day: whether they can be completed to a legal plan. What they leave of the day, the places that are left
 // in its periods and the flights behind them, is a day too, and the search for a short stretch decides whether that has a legal plan.
+#![tactic(auto)]
+
 ghost use Rattle.std.specs.Prelude.{◌≡◌, true, cond, ◌+◌, ◌*◌, ◌<◌, ◌≤◌, length, get_or};
 ghost use Rattle.answers.specs.Decides.{Decides};
 ghost use Rattle.day.specs.Day.{lent, most_periods, width, counted_of, has_line, valid, N};

@@ -1,19 +1,19 @@
 -- A closing line (#108) either leaves a day without a legal plan, or changes no cheapest plan and no price but for the added 0.
 -- Assumes nothing.
-use mathlib.Core.Path.{◌≡◌, refl, sym, ap, ◌∙◌}
+use mathlib.Core.Path.{◌≡◌, refl, ap, ◌∙◌}
 use mathlib.Core.Logic.{◌⊎◌, inl, inr, ◌↔◌}
 use mathlib.Core.List.{List, [], ◌∷◌, ◌++◌}
 use Prim.Native.Nat.{ℕ, zero, suc, ◌+◌, ◌-◌, ◌*◌, ◌≤◌, ◌<◌}
 use native.Mathlib.Omega.{arith}
 use lib.ListN.{length, get_or, length-append}
-use lib.Dec.{ltb, eqb, ltb→lt}
+use lib.Dec.{ltb, ltb→lt}
 use Rattle.assignment.specs.Sum.{gate, sum, count}
 use Rattle.assignment.specs.Assignment as A
 use Rattle.assignment.specs.Moves.{put}
 use Rattle.assignment.proofs.Tests.{lt?, eq?, gate_lt, gate_eq, gate_ne, gate_le, gate_mul_le, gate_mul_ge}
 use Rattle.assignment.proofs.Sums.{sum_le, exchange_all}
 use Rattle.assignment.proofs.Moves.{moved_count, moved_total, moved_window, put_moved}
-use Rattle.day.specs.Day.{Day, day, P, N, unlimited, due, of_period, capacity, takes, counted, Window, land, landings, total}
+use Rattle.day.specs.Day.{Day, day, P, N, unlimited, due, of_period, takes, counted, Window, land, landings, total}
 use Rattle.day.specs.Plan.{Legal, Cheapest, Accepted, Smallest, one_more, PricesSave}
 use Rattle.day.specs.Valid.{ValidFlights, Valid}
 use Rattle.day.specs.Instance.{last_to, instance}

@@ -1,4 +1,6 @@
 // The day in two lent rows and its closing number: its numbers, its check (refusal 6), and what a hold costs and where it lands.
+#![tactic(auto)]
+
 ghost use Rattle.std.specs.Prelude.{◌≡◌, true, false, ◌&&◌, ◌||◌, ◌+◌, ◌*◌, ◌/◌, ◌%◌, ◌^◌, ◌<◌, ◌≤◌, ◌++◌, length, take, drop, leb};
 ghost use Rattle.day.specs.Day.{lent, unlimited, most_periods, most_flights, column, number_of, due_of, rate_of, limit_of, width, flight_at, flight_count, of_period, takes_of, counted_of, hold_cost, land_of, latest_of, last_of, all, inside, missing, flight_fits, capacities_fit, in_range, is_new, valid};
 ghost use Rattle.day.specs.Flights.{with_flight};

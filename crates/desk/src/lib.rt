@@ -1,5 +1,7 @@
 // The core for other languages: each call hands its rows to the core's call and gives the answer in the numbers of documents 01 and 02.
 // The crate desk_c exports them; include/hold_desk.h documents them for C.
+#![tactic(auto)]
+
 ghost use Rattle.std.specs.Prelude.{◌≡◌, true};
 ghost use Rattle.answers.specs.Answers.{code_of};
 ghost use Rattle.answers.specs.Decides.{Decides};

@@ -6,6 +6,8 @@
 // every call for days in memory that differ from the sheet's in a value or a length; `unfit` the reader with rows of other lengths;
 // `program` the text that the program writes.
 // What a call changed though it had to leave it is reported as `CHANGED`, and a text that is not the expected one as `OTHER`.
+#![tactic(auto)]
+
 ghost use Rattle.std.specs.Prelude.{◌≡◌, length};
 
 mod back;

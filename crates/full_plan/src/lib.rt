@@ -1,5 +1,7 @@
 // The full plan of a day: a cheapest legal plan, and prices that show it and say what one more landing would save; or the short stretch that
 // leaves none.
+#![tactic(auto)]
+
 ghost use Rattle.day.specs.Day.{lent};
 ghost use Rattle.full_plan.specs.FullPlan.{FullPlan};
 ghost use Rattle.full_plan.specs.Inserted.{CanPlan, Made};

@@ -1,4 +1,6 @@
 // Growing cost of waiting: what each further period of hold costs, in millionths.
+#![tactic(auto)]
+
 ghost use Rattle.std.specs.Prelude.{◌≡◌, ◌^◌, ◌≤◌, ◌<◌};
 ghost use Rattle.growth.specs.Growth.{factor, HoldsFactors, further_cost, growth_cost, most_growth, most_growth_periods};
 

@@ -1,4 +1,6 @@
 // The growing plan: the quick plan of a day on which each further period of hold costs more than the one before.
+#![tactic(auto)]
+
 ghost use Rattle.std.specs.Prelude.{◌≡◌};
 ghost use Rattle.day.specs.Day.{lent};
 ghost use Rattle.growth.specs.Growth.{growth_fits};

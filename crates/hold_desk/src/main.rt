@@ -1,3 +1,5 @@
+#![tactic(auto)]
+
 // The program: a day sheet on standard input, its full plan's text or a refusal on standard output. What is written of what was read is
 // `program::answer`, which is proved; here are only the two buffers and the two calls of the system.
 fn main() {

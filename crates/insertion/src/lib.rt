@@ -4,6 +4,8 @@
 // insertion to the next beside the plan is how many flights land in each period, the chains of their places, and the rows of the search,
 // in which all is far again after each.
 // The day is planned without a closing line, so that the closing period always has room; the full plan's proof shows that this is enough.
+#![tactic(auto)]
+
 ghost use Rattle.std.specs.Prelude.{◌≡◌, ◌+◌, ◌-◌, ◌*◌, ◌<◌, ◌≤◌, length, set};
 ghost use Rattle.day.specs.Day.{lent, unlimited, most_flights, period_row, width, N, due_of};
 ghost use Rattle.assignment.specs.Rows.{el};

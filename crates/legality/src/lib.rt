@@ -1,4 +1,6 @@
 // A hold row checked against its day: refusals 6, 7 and 10, or the plan's total.
+#![tactic(auto)]
+
 ghost use Rattle.std.specs.Prelude.{◌≡◌, true, ◌+◌, ◌*◌, ◌<◌, ◌≤◌, length};
 ghost use Rattle.day.specs.Day.{lent, most_periods, most_flights, width, N, total_of, valid};
 ghost use Rattle.day.specs.Plan.{too_long_of, over_capacity, first_break};

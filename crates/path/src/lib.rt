@@ -1,4 +1,6 @@
 // The search for the cheapest chain of moves that makes room for a new flight: periods are reached in the order of their distances.
+#![tactic(auto)]
+
 ghost use Rattle.std.specs.Prelude.{◌≡◌, ◌+◌, ◌<◌, length};
 ghost use Rattle.assignment.specs.Rows.{el};
 ghost use Rattle.day.specs.Day.{lent, unlimited, period_row};

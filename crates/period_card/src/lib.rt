@@ -1,4 +1,6 @@
 // The period card: who is eligible in one period of the quick plan, as marks in two words, and how many are.
+#![tactic(auto)]
+
 ghost use Rattle.std.specs.Prelude.{◌≡◌, true, ◌^◌, ◌<◌, ◌≤◌, length};
 ghost use Rattle.std.specs.Int.Bits.{bit_or};
 ghost use Rattle.day.specs.Day.{lent, N, valid};

@@ -1,4 +1,6 @@
 // A plan text read back: the hold row of the legal plan whose text it is, or the first line with which no legal plan's text goes on.
+#![tactic(auto)]
+
 ghost use Rattle.std.specs.Prelude.{◌≡◌, ◌+◌, ◌*◌, ◌≤◌, length, drop};
 ghost use Rattle.answers.specs.Decides.{Decides};
 ghost use Rattle.text.specs.Fixed.{starts_with};

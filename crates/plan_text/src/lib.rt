@@ -1,4 +1,6 @@
 // The text of a plan, put into a lent byte buffer from a given place on.
+#![tactic(auto)]
+
 ghost use Rattle.std.specs.Prelude.{◌≡◌, [], ◌∷◌, ◌+◌, ◌*◌, ◌≤◌, ◌<◌, length};
 ghost use Rattle.text.specs.Writing.{Put, text_answer, text_after};
 ghost use Rattle.day.specs.Day.{lent, most_flights, width, number_of, due_of, flight_at, flight_count, hold_cost, hold, land_of, total_of};

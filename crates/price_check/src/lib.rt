@@ -1,4 +1,6 @@
 // The price check: whether prices show that a plan is cheapest.
+#![tactic(auto)]
+
 ghost use Rattle.std.specs.Prelude.{◌≡◌, true, false, ℕ, ◌*◌, ◌<◌, ◌≤◌, length};
 ghost use Rattle.day.specs.Day.{lent, unlimited, N, counted, width, land_of, valid};
 ghost use Rattle.assignment.specs.Sum.{count};

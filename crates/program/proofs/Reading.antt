@@ -12,7 +12,7 @@ use borrow.Author.Tests.{eq-eqb}
 use Rattle.answers.specs.declared.Answer.{Answer}
 use Rattle.answers.specs.declared.Code.{Code}
 use Rattle.answers.specs.Answers.{code_of}
-use Rattle.day.specs.Day.{day, counted_of, counted, P, N, most_periods, most_flights, valid, width}
+use Rattle.day.specs.Day.{day, counted_of, counted, N, most_periods, most_flights, valid, width}
 use Rattle.day.proofs.Costs.{counted_to}
 use Rattle.day.proofs.Valid.{valid_means}
 use Rattle.day.specs.declared.Flight.{Flight}

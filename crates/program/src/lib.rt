@@ -1,4 +1,6 @@
 // What the program does between reading and writing: of the bytes of a day sheet, the text of its full plan or of its refusal.
+#![tactic(auto)]
+
 ghost use Rattle.std.specs.Prelude.{◌≡◌, true, ◌+◌, ◌*◌, ◌≤◌, length, take};
 ghost use Rattle.day.specs.Day.{lent, most_periods, most_flights, width, counted, N, valid};
 ghost use Rattle.day.specs.Plan.{Legal};

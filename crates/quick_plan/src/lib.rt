@@ -1,5 +1,7 @@
 // The quick plan: period by period, those of the flights that wait land that go first, which are those that one more period of hold
 // would cost most. A hold row starts with every flight at the closing period, so that a flight that stands there has yet to land.
+#![tactic(auto)]
+
 ghost use Rattle.std.specs.Prelude.{◌≡◌, true, ◌+◌, ◌*◌, ◌<◌, ◌≤◌, length};
 ghost use Rattle.assignment.specs.Rows.{row};
 ghost use Rattle.day.specs.Day.{lent, N, most_periods, width, capacity, valid};

@@ -1,4 +1,6 @@
 // Day sheets: the values of a flight line and of a period line. The grammar, the text of a day and the round trips stand in specs/ and proofs/.
+#![tactic(auto)]
+
 use day::Flight;
 
 #[derive(Clone, Copy)]

@@ -1,4 +1,6 @@
 // The reader of day sheets: it fills two lent rows from a sheet and answers the closing number, or says why not.
+#![tactic(auto)]
+
 ghost use Rattle.std.specs.Prelude.{◌≡◌, List, [], ◌++◌, ℕ, ◌+◌, ◌-◌, ◌*◌, ◌≤◌, ◌<◌, length, take, drop};
 ghost use Rattle.text.specs.Fixed.{starts_with};
 ghost use Rattle.day.specs.Day.{most_periods, most_flights, width};

@@ -1,4 +1,6 @@
 // The writer of day sheets: it puts a day's sheet into a lent byte buffer, from a given place on.
+#![tactic(auto)]
+
 ghost use Rattle.std.specs.Prelude.{◌≡◌, ◌+◌, ◌*◌, ◌≤◌, ◌<◌, length};
 ghost use Rattle.text.specs.Writing.{Put};
 ghost use Rattle.day.specs.Day.{lent, has_line, width, most_periods, most_flights};

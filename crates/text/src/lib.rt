@@ -1,4 +1,6 @@
 // Numbers and fixed lines as bytes: read from a slice, and written to the front of a lent part.
+#![tactic(auto)]
+
 ghost use Rattle.std.specs.Prelude.{◌≡◌, ◌+◌, ◌-◌, ◌*◌, ◌%◌, ◌≤◌, ◌<◌, length, drop};
 ghost use Rattle.text.specs.Digits.{digits, ended, separated, line};
 ghost use Rattle.text.specs.Reading.{is_digit, run, value, number, field, separated_at, place_of, row_after, line_at, last_of};

@@ -1,9 +1,7 @@
 -- Each arm gives the numbers that the definition gives for its case.
 -- Assumes nothing.
 use mathlib.Core.Path.{ap, sym, ◌∙◌}
-use borrow.Author.Rules.{rules}
 use Rattle.answers.specs.Answers.{code_of}
-
 use Rattle.answers.proofs.code_of.Goals as goal
 
 pub returns-in-Read : goal.returns-in-Read

@@ -2,8 +2,6 @@
 -- Assumes nothing.
 use mathlib.Core.Path.{◌≡◌, refl, sym, ◌∙◌}
 use Rattle.choice.specs.declared.Which.TheVariants.{First, Second, Neither}
-use borrow.Author.Rules.{rules}
-
 use Rattle.choice.proofs.choose.Goals as goal
 
 pub returns-in-First : goal.returns-in-First

@@ -1,8 +1,6 @@
 -- Each arm of the finding. Assumes nothing.
 use Rattle.choice.proofs.Laws.{total_or}
 use mathlib.Core.Path.{sym, ap, ◌∙◌}
-use borrow.Author.Rules.{rules}
-
 use Rattle.choice.proofs.legal_total.Goals as goal
 
 pub returns-in-Legal : goal.returns-in-Legal

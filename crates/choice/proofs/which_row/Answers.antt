@@ -2,8 +2,6 @@
 -- Assumes nothing.
 use mathlib.Core.Path.{sym}
 use Rattle.choice.proofs.Laws.{choose_second, choose_first, choose_neither}
-use borrow.Author.Rules.{rules}
-
 use Rattle.choice.proofs.which_row.Goals as goal
 
 pub returns-then-other-one : goal.returns-then-other-one

@@ -1,7 +1,5 @@
 use native.Mathlib.Omega.{arith}
-use Prim.Native.Nat.{◌-◌}
-use Rattle.closed_prices.proofs.Pricing.{Pricing, pricing_start, pricing_in, pricing_keep, pricing_up, pricing_end}
-
+use Rattle.closed_prices.proofs.Pricing.{pricing_start, pricing_in, pricing_keep, pricing_up, pricing_end}
 use Rattle.closed_prices.proofs.least_price.Goals as goal
 
 pub flight_count-count-requires : goal.flight_count-count-requires

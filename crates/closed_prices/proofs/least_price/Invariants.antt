@@ -1,8 +1,6 @@
 -- The price is the least for the flights looked at so far. Assumes nothing.
-use native.Mathlib.Omega.{arith}
 use Prim.Native.Nat.{◌-◌}
-use Rattle.closed_prices.proofs.Pricing.{Pricing, pricing_start, pricing_in, pricing_keep, pricing_up, pricing_end}
-
+use Rattle.closed_prices.proofs.Pricing.{Pricing}
 use Rattle.closed_prices.proofs.least_price.Given as goal
 
 abbrev pub invariant-loop-i : goal.invariant-loop-i

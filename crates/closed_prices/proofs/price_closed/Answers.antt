@@ -1,8 +1,5 @@
 use native.Mathlib.Omega.{arith}
-use Prim.Native.Nat.{◌-◌}
-use Rattle.day.specs.Day.{day, unlimited}
-use Rattle.closed_prices.proofs.Pricing.{Closing, closing_start, closing_room, closing_pass, closing_pay, closing_small, closing_next, closing_end}
-
+use Rattle.closed_prices.proofs.Pricing.{closing_start, closing_room, closing_pass, closing_pay, closing_small, closing_next, closing_end}
 use Rattle.closed_prices.proofs.price_closed.Goals as goal
 
 pub loop-at-init : goal.loop-at-init

@@ -1,9 +1,7 @@
 -- The closed periods looked at so far have their prices. Assumes nothing.
-use native.Mathlib.Omega.{arith}
 use Prim.Native.Nat.{◌-◌}
 use Rattle.day.specs.Day.{day, unlimited}
-use Rattle.closed_prices.proofs.Pricing.{Closing, closing_start, closing_room, closing_pass, closing_pay, closing_small, closing_next, closing_end}
-
+use Rattle.closed_prices.proofs.Pricing.{Closing}
 use Rattle.closed_prices.proofs.price_closed.Given as goal
 
 abbrev pub invariant-loop-at : goal.invariant-loop-at

@@ -3,7 +3,6 @@ use native.Mathlib.Omega.{arith}
 use mathlib.Core.Path.{◌∙◌}
 use Rattle.day.proofs.Flights.{due_read}
 use Rattle.closed_prices.proofs.Pricing.{pay_stands, out_early, out_late, pay_hold, pay_small, pay_less, pay_more}
-
 use Rattle.closed_prices.proofs.shortfall.Goals as goal
 
 pub flight_at-f-requires : goal.flight_at-f-requires

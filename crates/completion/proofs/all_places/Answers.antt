@@ -1,8 +1,6 @@
 -- The capacities copied, and the closing number behind them.
 -- Assumes nothing.
-use borrow.Author.Rules.{rules}
 use Rattle.completion.proofs.Steps.{places_made}
-
 use Rattle.completion.proofs.all_places.Goals as goal
 
 pub returns : goal.returns

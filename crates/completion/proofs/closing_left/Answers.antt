@@ -1,11 +1,9 @@
 -- The entry behind those of the periods, if there is one.
 -- Assumes nothing.
 use native.Mathlib.Omega.{arith}
-use borrow.Author.Rules.{rules}
 use borrow.Author.Tests.{lt-ltb, le-ltb}
 use Rattle.day.specs.Day.{unlimited}
 use Rattle.day.proofs.Costs.{counted_line}
-
 use Rattle.completion.proofs.closing_left.Goals as goal
 
 pub bounds-left-periods : goal.bounds-left-periods

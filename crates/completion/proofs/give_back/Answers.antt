@@ -1,10 +1,8 @@
 -- The landing was taken last: in a period that is not counted nothing was taken, else one place of what is left.
 -- Assumes nothing.
 use native.Mathlib.Omega.{arith}
-use borrow.Author.Rules.{rules}
 use Rattle.day.proofs.Valid.{valid_means}
 use Rattle.completion.proofs.Steps.{place_in, last_in, lands_from, lands_in, left_fits, back_closing, back_in}
-
 use Rattle.completion.proofs.give_back.Goals as goal
 
 pub land_of-k-requires : goal.land_of-k-requires

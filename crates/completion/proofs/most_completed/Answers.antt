@@ -1,10 +1,5 @@
-use borrow.Author.Rules.{rules}
-use borrow.Author.Tests.{not-true, not-false}
-use mathlib.Core.Path.{◌≡◌, refl, ◌∙◌}
-use lib.ListN.{length}
-use Rattle.day.specs.Day.{day}
-use Rattle.completion.proofs.Steps.{Tried, tried_start, tried_rest, tried_end, tried_none, tried_back, tried_last}
-
+use mathlib.Core.Path.{refl, ◌∙◌}
+use Rattle.completion.proofs.Steps.{tried_start, tried_rest, tried_end, tried_none, tried_back, tried_last}
 use Rattle.completion.proofs.most_completed.Goals as goal
 
 pub loop-closing-init : goal.loop-closing-init
@@ -20,11 +15,10 @@ pub give_back-requires : goal.give_back-requires
 give_back-requires c = tried_last c.loop-closing.invariant.0 c.if-m-eq0.false
 
 pub loop-closing-preserved : goal.loop-closing-preserved
-loop-closing-preserved c =
-    (
-      tried_back c.loop-closing.invariant.0 c.rest_has_plan.ensures c.loop-closing-test.true c.if-m-eq0.false c.give_back.ensures,
-      c.give_back.auto.left ∙ c.loop-closing.invariant.1,
-    )
+loop-closing-preserved c = (
+  tried_back c.loop-closing.invariant.0 c.rest_has_plan.ensures c.loop-closing-test.true c.if-m-eq0.false c.give_back.ensures,
+  c.give_back.auto.left ∙ c.loop-closing.invariant.1,
+)
 
 pub returns : goal.returns
 returns c = tried_end c.loop-closing.invariant.0 c.rest_has_plan.ensures c.loop-closing-test.false

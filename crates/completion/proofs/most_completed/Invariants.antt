@@ -1,12 +1,9 @@
 -- The holds taken back so far cannot be completed, and one hold less is tried until the rest has a plan.
 -- Assumes nothing.
-use borrow.Author.Rules.{rules}
-use borrow.Author.Tests.{not-true, not-false}
-use mathlib.Core.Path.{◌≡◌, refl, ◌∙◌}
+use mathlib.Core.Path.{◌≡◌}
 use lib.ListN.{length}
 use Rattle.day.specs.Day.{day}
-use Rattle.completion.proofs.Steps.{Tried, tried_start, tried_rest, tried_end, tried_none, tried_back, tried_last}
-
+use Rattle.completion.proofs.Steps.{Tried}
 use Rattle.completion.proofs.most_completed.Given as goal
 
 abbrev pub invariant-loop-closing : goal.invariant-loop-closing

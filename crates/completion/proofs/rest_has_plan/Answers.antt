@@ -1,12 +1,10 @@
 -- The places left and the flights from table place i on are lent, and a legal plan of them exists exactly when no stretch is short.
 -- Assumes nothing.
 use native.Mathlib.Omega.{arith}
-use borrow.Author.Rules.{rules}
 use mathlib.Core.Path.{◌≡◌}
 use Rattle.day.proofs.Costs.{counted_from}
 use Rattle.stretch.specs.declared.ShortStretch.TheVariants.{NoneShort}
 use Rattle.completion.proofs.Steps.{front_is, part_is, short_found, none_found}
-
 use Rattle.completion.proofs.rest_has_plan.Goals as goal
 
 pub slice_bounds-find_short-end : goal.slice_bounds-find_short-end

@@ -1,11 +1,8 @@
 -- The landing is too long, in a period that is not counted, in a full period, or taken from what is left.
 -- Assumes nothing.
-use borrow.Author.Rules.{rules}
-use mathlib.Core.Path.{sym, ◌∙◌}
 use Rattle.day.proofs.Valid.{valid_means}
 use Rattle.legality.proofs.Laws.{long_of}
 use Rattle.completion.proofs.Steps.{place_in, lands_from, lands_in, landing_long, landing_closing, landing_full, landing_taken}
-
 use Rattle.completion.proofs.take_landing.Goals as goal
 
 pub land_of-k-requires : goal.land_of-k-requires

@@ -1,14 +1,10 @@
 use borrow.Author.Rules.{rules}
-use Prim.Native.Nat.{◌≤◌, ◌-◌}
 use mathlib.Core.Path.{◌≡◌, refl, sym}
-use mathlib.Core.Bool.{true}
 use native.Mathlib.Omega.{arith}
-use lib.ListN.{length, get_or}
-use lib.Dec.{leb}
+use lib.ListN.{length}
 use borrow.Author.Tests.{le-leb, lt-leb}
 use Rattle.day.specs.Day.{all}
 use Rattle.day.proofs.Tests.{all_next, all_not}
-
 use Rattle.day.proofs.capacities_fit.Goals as goal
 
 pub loop-k-init : goal.loop-k-init

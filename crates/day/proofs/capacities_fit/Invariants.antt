@@ -1,16 +1,11 @@
 -- The loop passes the capacities that fit.
 -- Assumes nothing.
-use borrow.Author.Rules.{rules}
 use Prim.Native.Nat.{◌≤◌, ◌-◌}
-use mathlib.Core.Path.{◌≡◌, refl, sym}
+use mathlib.Core.Path.{◌≡◌}
 use mathlib.Core.Bool.{true}
-use native.Mathlib.Omega.{arith}
 use lib.ListN.{length, get_or}
 use lib.Dec.{leb}
-use borrow.Author.Tests.{le-leb, lt-leb}
 use Rattle.day.specs.Day.{all}
-use Rattle.day.proofs.Tests.{all_next, all_not}
-
 use Rattle.day.proofs.capacities_fit.Given as goal
 
 abbrev pub invariant-loop-k : goal.invariant-loop-k

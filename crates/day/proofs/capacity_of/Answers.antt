@@ -1,8 +1,6 @@
 -- What the row has, the closing period, or nothing beyond it. Assumes nothing.
 use Rattle.day.proofs.Costs.{period_out, takes_other, takes_in, takes_closing}
 use mathlib.Core.Path.{sym, ◌∙◌}
-use borrow.Author.Rules.{rules}
-
 use Rattle.day.proofs.capacity_of.Goals as goal
 
 pub returns-then-k-capacities : goal.returns-then-k-capacities

@@ -1,12 +1,7 @@
 use Rattle.day.proofs.Copying.{copy_step}
 use lib.ListN.{length-set}
-use borrow.Author.Rules.{rules}
-use lib.ListN.{length, take, drop}
-use mathlib.Core.List.{◌++◌}
-use Prim.Native.Nat.{◌≤◌, ◌-◌}
 use native.Mathlib.Omega.{arith}
 use mathlib.Core.Path.{◌≡◌, ◌∙◌}
-
 use Rattle.day.proofs.copy_front.Goals as goal
 
 pub loop-at-preserved : goal.loop-at-preserved

@@ -1,14 +1,9 @@
 -- After so many turns so many entries are copied.
 -- Assumes nothing.
-use Rattle.day.proofs.Copying.{copy_step}
-use lib.ListN.{length-set}
-use borrow.Author.Rules.{rules}
 use lib.ListN.{length, take, drop}
 use mathlib.Core.List.{◌++◌}
 use Prim.Native.Nat.{◌≤◌, ◌-◌}
-use native.Mathlib.Omega.{arith}
-use mathlib.Core.Path.{◌≡◌, ◌∙◌}
-
+use mathlib.Core.Path.{◌≡◌}
 use Rattle.day.proofs.copy_front.Given as goal
 
 abbrev pub invariant-loop-at : goal.invariant-loop-at

@@ -1,5 +1,4 @@
 -- The cost of the hold to the flight of the row. Assumes nothing.
-use borrow.Author.Rules.{rules}
 
 use Rattle.day.proofs.cost_of.Goals as goal
 

@@ -1,9 +1,7 @@
 -- The closing period is counted exactly if there is a closing line.
 -- Assumes nothing.
 use mathlib.Core.Path.{sym}
-use borrow.Author.Rules.{rules}
 use Rattle.day.proofs.Costs.{counted_line, counted_open}
-
 use Rattle.day.proofs.counted_of.Goals as goal
 
 pub returns-then-closing-lt-UNLIMITED : goal.returns-then-closing-lt-UNLIMITED

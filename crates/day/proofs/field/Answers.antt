@@ -2,9 +2,7 @@
 -- Assumes nothing.
 use Prim.Native.Nat.{◌+◌, ◌*◌}
 use native.Mathlib.Omega.{arith}
-use borrow.Author.Rules.{rules}
 use Rattle.day.specs.Day.{width}
-
 use Rattle.day.proofs.field.Goals as goal
 
 pub returns : goal.returns

@@ -3,8 +3,6 @@ use native.Mathlib.Omega.{arith}
 use Prim.Native.Nat.{◌+◌, ◌*◌}
 use mathlib.Core.Path.{◌≡◌}
 use Rattle.day.specs.Day.{width, flight_at}
-use borrow.Author.Rules.{rules}
-
 use Rattle.day.proofs.flight_at.Goals as goal
 
 pub returns : goal.returns

@@ -1,7 +1,5 @@
 -- The tests of the seven numbers, joined in the order of the definition. Assumes nothing.
 use Rattle.day.specs.Day.{flight_fits}
-use borrow.Author.Rules.{rules}
-
 use Rattle.day.proofs.flight_fits.Goals as goal
 
 pub returns : goal.returns

@@ -1,9 +1,6 @@
 -- The ranges first; numbers are compared only on a day that passes them.
 -- Assumes nothing.
-use borrow.Author.Tests.{not-true, not-false}
 use mathlib.Core.Path.{sym, ◌∙◌}
-use borrow.Author.Rules.{rules}
-
 use Rattle.day.proofs.flights_fit.Goals as goal
 
 pub returns-then-not-flights_in_range : goal.returns-then-not-flights_in_range

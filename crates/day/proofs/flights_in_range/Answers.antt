@@ -1,14 +1,12 @@
-use borrow.Author.Tests.{not-true, not-false}
 use borrow.Author.Rules.{rules}
-use Prim.Native.Nat.{ℕ, ◌≤◌, ◌-◌}
+use Prim.Native.Nat.{ℕ}
 use mathlib.Core.Path.{◌≡◌, refl, sym, ap, ◌∙◌}
-use mathlib.Core.Bool.{Bool, true}
+use mathlib.Core.Bool.{Bool}
 use mathlib.Core.List.{List}
 use native.Mathlib.Omega.{arith}
 use Rattle.day.specs.Day.{all, flight_at, flight_fits, in_range}
 use Rattle.day.specs.declared.Flight.{Flight}
 use Rattle.day.proofs.Tests.{all_next, all_not}
-
 use Rattle.day.proofs.flights_in_range.Goals as goal
 
 -- what the test of a flight of the row has found

@@ -5,8 +5,6 @@ use Prim.Native.Nat.{◌+◌}
 use Rattle.day.specs.Day.{hold_cost}
 use Rattle.day.proofs.Costs.{product_fits}
 use Rattle.assignment.proofs.Tests.{gate_lt, gate_ge}
-use borrow.Author.Rules.{rules}
-
 use Rattle.day.proofs.hold_cost.Goals as goal
 
 pub overflow_mul-run : goal.overflow_mul-run

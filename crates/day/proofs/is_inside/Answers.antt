@@ -1,7 +1,6 @@
 -- The two comparisons.
 -- Assumes nothing.
 use borrow.Author.Tests.{le-leb, lt-leb}
-
 use Rattle.day.proofs.is_inside.Goals as goal
 
 pub returns-then-low-x : goal.returns-then-low-x

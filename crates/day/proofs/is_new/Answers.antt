@@ -1,7 +1,5 @@
-use borrow.Author.Rules.{rules}
 use native.Mathlib.Omega.{arith}
-use Rattle.day.proofs.Chains.{Walking, walk_start, walk_not, walk_less, walk_next, walk_end}
-
+use Rattle.day.proofs.Chains.{walk_start, walk_not, walk_less, walk_next, walk_end}
 use Rattle.day.proofs.is_new.Goals as goal
 
 pub loop-entry-init : goal.loop-entry-init

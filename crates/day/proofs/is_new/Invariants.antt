@@ -1,9 +1,6 @@
 -- The walk up the chain passes flights of other numbers.
 -- Assumes nothing.
-use borrow.Author.Rules.{rules}
-use native.Mathlib.Omega.{arith}
-use Rattle.day.proofs.Chains.{Walking, walk_start, walk_not, walk_less, walk_next, walk_end}
-
+use Rattle.day.proofs.Chains.{Walking}
 use Rattle.day.proofs.is_new.Given as goal
 
 abbrev pub invariant-loop-entry : goal.invariant-loop-entry

@@ -3,10 +3,8 @@
 use mathlib.Core.Path.{sym, ap, ◌∙◌}
 use Prim.Native.Nat.{◌*◌}
 use Rattle.day.proofs.Valid.{valid_not_periods, valid_not_whole, valid_not_few, valid_not_closing, valid_made}
-use borrow.Author.Tests.{not-true, not-false}
 use Rattle.day.specs.Day.{day, flight_count, width}
 use borrow.Author.Rules.{rules}
-
 use Rattle.day.proofs.is_valid.Goals as goal
 
 pub returns-then-not-is_inside : goal.returns-then-not-is_inside

@@ -3,8 +3,6 @@
 use native.Mathlib.Omega.{arith}
 use mathlib.Core.Path.{ap₂}
 use Prim.Native.Nat.{◌+◌}
-use borrow.Author.Rules.{rules}
-
 use Rattle.day.proofs.land_of.Goals as goal
 
 pub overflow_add-result : goal.overflow_add-result

@@ -1,9 +1,7 @@
 -- The smaller of the two.
 -- Assumes nothing.
 use native.Mathlib.Omega.{arith}
-use borrow.Author.Rules.{rules}
 use Rattle.day.specs.Day.{last_of}
-
 use Rattle.day.proofs.last_of.Goals as goal
 
 pub returns-then-closing-latest : goal.returns-then-closing-latest

@@ -1,8 +1,6 @@
 -- The missing limit, or due and limit added. Assumes nothing.
 use borrow.Author.Tests.{eq-eqb, ne_eqb}
 use Rattle.day.specs.Day.{latest_of}
-use borrow.Author.Rules.{rules}
-
 use Rattle.day.proofs.latest_of.Goals as goal
 
 pub returns-then-f-eq-MISSING : goal.returns-then-f-eq-MISSING

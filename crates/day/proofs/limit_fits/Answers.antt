@@ -1,7 +1,6 @@
 -- The two comparisons.
 -- Assumes nothing.
 use borrow.Author.Tests.{le-leb, lt-leb}
-
 use Rattle.day.proofs.limit_fits.Goals as goal
 
 pub returns-then-limit-le96 : goal.returns-then-limit-le96

@@ -1,8 +1,6 @@
 -- Rows of zeros chain no flight.
 -- Assumes nothing.
-use borrow.Author.Rules.{rules}
 use Rattle.day.proofs.Chains.{pass_start}
-
 use Rattle.day.proofs.numbers_differ.Goals as goal
 
 pub numbers_differ_in-requires : goal.numbers_differ_in-requires

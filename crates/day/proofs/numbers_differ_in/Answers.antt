@@ -1,10 +1,6 @@
-use borrow.Author.Tests.{not-true, not-false}
 use borrow.Author.Rules.{rules}
-use Prim.Native.Nat.{◌-◌}
 use native.Mathlib.Omega.{arith}
-use Rattle.day.specs.Chains.{Passed}
 use Rattle.day.proofs.Chains.{pass_not, pass_next, pass_end}
-
 use Rattle.day.proofs.numbers_differ_in.Goals as goal
 
 pub is_new-requires : goal.is_new-requires

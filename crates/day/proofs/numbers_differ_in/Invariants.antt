@@ -1,12 +1,7 @@
 -- The flights passed are chained, and have numbers of their own.
 -- Assumes nothing.
-use borrow.Author.Tests.{not-true, not-false}
-use borrow.Author.Rules.{rules}
 use Prim.Native.Nat.{◌-◌}
-use native.Mathlib.Omega.{arith}
 use Rattle.day.specs.Chains.{Passed}
-use Rattle.day.proofs.Chains.{pass_not, pass_next, pass_end}
-
 use Rattle.day.proofs.numbers_differ_in.Given as goal
 
 abbrev pub invariant-loop-i : goal.invariant-loop-i

@@ -4,8 +4,6 @@ use Prim.Native.Nat.{◌-◌}
 use native.Mathlib.Omega.{arith}
 use mathlib.Core.Path.{sym, ◌∙◌}
 use Rattle.day.proofs.Costs.{period_in, period_out}
-use borrow.Author.Rules.{rules}
-
 use Rattle.day.proofs.of_period.Goals as goal
 
 pub returns-then-at-row : goal.returns-then-at-row

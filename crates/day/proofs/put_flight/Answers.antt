@@ -2,8 +2,6 @@
 use native.Mathlib.Omega.{arith}
 use Rattle.day.proofs.Flights.{stored}
 use lib.ListN.{length-set}
-use borrow.Author.Rules.{rules}
-
 use Rattle.day.proofs.put_flight.Goals as goal
 
 pub bounds-flights-at-2 : goal.bounds-flights-at-2

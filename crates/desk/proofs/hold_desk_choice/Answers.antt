@@ -3,8 +3,6 @@
 use mathlib.Core.Path.{◌≡◌, sym, ap, ◌∙◌}
 use Rattle.choice.specs.declared.Which.TheVariants.{First, Second, Neither}
 use Rattle.desk.specs.Desk.{row_number}
-use borrow.Author.Rules.{rules}
-
 use Rattle.desk.proofs.hold_desk_choice.Goals as goal
 
 pub returns-in-First : goal.returns-in-First

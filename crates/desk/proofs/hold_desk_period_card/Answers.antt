@@ -1,6 +1,5 @@
 -- The card's answer in numbers, beside its words and size.
 -- Assumes nothing.
-use borrow.Author.Rules.{rules}
 
 use Rattle.desk.proofs.hold_desk_period_card.Goals as goal
 

@@ -1,6 +1,5 @@
 -- The call's answer and its closing number in numbers, and its rows.
 -- Assumes nothing.
-use borrow.Author.Rules.{rules}
 
 use Rattle.desk.proofs.hold_desk_read_sheet.Goals as goal
 

@@ -2,8 +2,6 @@
 -- Assumes nothing.
 use mathlib.Core.Path.{ap, ◌∙◌}
 use Rattle.answers.specs.Answers.{code_of}
-use borrow.Author.Rules.{rules}
-
 use Rattle.desk.proofs.hold_desk_write_sheet.Goals as goal
 
 pub returns : goal.returns

@@ -1,8 +1,6 @@
 -- The loop ends after two hundred examples.
 -- Assumes nothing.
-use borrow.Author.Rules.{rules}
 use Prim.Native.Nat.{◌≤◌, ◌-◌}
-
 use Rattle.examples.proofs.run_all.Given as goal
 
 abbrev pub invariant-loop-examples : goal.invariant-loop-examples

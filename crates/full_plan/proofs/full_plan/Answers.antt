@@ -1,12 +1,9 @@
 -- The refusals in order; then the stretch that is found, or the plan that is made.
 -- Assumes nothing.
 use mathlib.Core.Path.{◌≡◌, sym, ◌∙◌}
-use borrow.Author.Tests.{not-true, not-false}
-use borrow.Author.Rules.{rules}
 use Rattle.day.proofs.Valid.{valid_means}
 use Rattle.stretch.specs.declared.ShortStretch.TheVariants.{NoneShort}
 use Rattle.full_plan.proofs.Laws.{bad_day, bad_holds, bad_prices, found_none, can_plan, found_plan}
-
 use Rattle.full_plan.proofs.full_plan.Goals as goal
 
 pub returns-then-not-is_valid : goal.returns-then-not-is_valid

@@ -3,9 +3,7 @@
 use Prim.Native.Nat.{◌-◌}
 use native.Mathlib.Omega.{arith}
 use lib.ListN.{length, length-drop}
-use borrow.Author.Rules.{rules}
 use Rattle.full_plan.proofs.Laws.{made_line, made_open}
-
 use Rattle.full_plan.proofs.plan_day.Goals as goal
 
 pub returns-then-periods-prices : goal.returns-then-periods-prices

@@ -1,8 +1,6 @@
 -- The table's rule at the entry that is read. Assumes nothing.
-use borrow.Author.Rules.{rules}
 use mathlib.Core.Path.{◌∙◌}
 use Rattle.growth.specs.Growth.{HoldsFactors}
-
 use Rattle.growth.proofs.factor.Goals as goal
 
 pub returns : goal.returns

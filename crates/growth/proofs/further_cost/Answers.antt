@@ -1,9 +1,7 @@
 -- The rate times the factor; of a rate of 32 bits it fits 64. Assumes nothing.
-use borrow.Author.Rules.{rules}
 use native.Mathlib.Omega.{arith}
 use Rattle.growth.specs.Growth.{further_cost}
 use Rattle.growth.proofs.Laws.{further_low}
-
 use Rattle.growth.proofs.further_cost.Goals as goal
 
 pub overflow_mul-result : goal.overflow_mul-result

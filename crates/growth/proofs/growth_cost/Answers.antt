@@ -1,10 +1,8 @@
-use borrow.Author.Rules.{rules}
-use mathlib.Core.Path.{◌≡◌, ap, ◌∙◌}
+use mathlib.Core.Path.{ap, ◌∙◌}
 use native.Mathlib.Omega.{arith}
-use Prim.Native.Nat.{◌+◌, ◌-◌, ◌≤◌}
+use Prim.Native.Nat.{◌+◌}
 use Rattle.growth.specs.Growth.{growth_cost}
 use Rattle.growth.proofs.Laws.{growth_start, growth_next, growth_low}
-
 use Rattle.growth.proofs.growth_cost.Goals as goal
 
 pub loop-t-init : goal.loop-t-init

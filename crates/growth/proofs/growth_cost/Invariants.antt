@@ -1,11 +1,7 @@
 -- The sum is the cost of the periods so far. Assumes nothing.
-use borrow.Author.Rules.{rules}
-use mathlib.Core.Path.{◌≡◌, ap, ◌∙◌}
-use native.Mathlib.Omega.{arith}
-use Prim.Native.Nat.{◌+◌, ◌-◌, ◌≤◌}
+use mathlib.Core.Path.{◌≡◌}
+use Prim.Native.Nat.{◌-◌, ◌≤◌}
 use Rattle.growth.specs.Growth.{growth_cost}
-use Rattle.growth.proofs.Laws.{growth_start, growth_next, growth_low}
-
 use Rattle.growth.proofs.growth_cost.Given as goal
 
 abbrev pub invariant-loop-t : goal.invariant-loop-t

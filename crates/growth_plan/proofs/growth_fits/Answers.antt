@@ -1,7 +1,6 @@
 -- The two tests. Assumes nothing.
 use borrow.Author.Tests.{le-leb, lt-leb}
 use Rattle.growth.specs.Growth.{growth_fits}
-
 use Rattle.growth_plan.proofs.growth_fits.Goals as goal
 
 pub returns-then-growth-le-GROWTH : goal.returns-then-growth-le-GROWTH

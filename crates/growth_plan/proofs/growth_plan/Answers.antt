@@ -1,13 +1,11 @@
 -- A refusal is the check's, or 14, or 9 where a stretch is short; else the row made for all periods is the growing plan.
 -- Assumes nothing.
 use borrow.Author.Rules.{rules}
-use borrow.Author.Tests.{not-true, not-false}
 use mathlib.Core.Path.{sym, ◌∙◌}
 use Rattle.answers.proofs.Outcomes.{says}
 use Rattle.quick_plan.proofs.Calls.{can_plan}
 use Rattle.quick_plan.proofs.Same.{valid_rows}
 use Rattle.growth_plan.proofs.Calls.{refused, bad_growth, can_make, no_plan_lem, can_add, planned}
-
 use Rattle.growth_plan.proofs.growth_plan.Goals as goal
 
 pub returns-in-Refused : goal.returns-in-Refused

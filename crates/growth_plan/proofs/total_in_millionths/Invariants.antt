@@ -1,11 +1,7 @@
 -- The sum is that of the flights so far. Assumes nothing.
-use borrow.Author.Rules.{rules}
-use native.Mathlib.Omega.{arith}
 use lib.ListN.{length}
 use Prim.Native.Nat.{◌-◌}
 use Rattle.growth_plan.specs.Loop.{Summed}
-use Rattle.growth_plan.proofs.Sums.{summed_start, summed_there, summed_can, summed_next, summed_fits, summed_end}
-
 use Rattle.growth_plan.proofs.total_in_millionths.Given as goal
 
 abbrev pub invariant-loop-i : goal.invariant-loop-i

@@ -1,9 +1,6 @@
-use Prim.Native.Nat.{◌-◌}
 use native.Mathlib.Omega.{arith}
-use lib.ListN.{length, length-set}
-use borrow.Author.Rules.{rules}
-use Rattle.insertion.proofs.Steps.{Clearing, clearing_start, clearing_next, clearing_end}
-
+use lib.ListN.{length-set}
+use Rattle.insertion.proofs.Steps.{clearing_start, clearing_next, clearing_end}
 use Rattle.insertion.proofs.clear.Goals as goal
 
 pub loop-at-init : goal.loop-at-init

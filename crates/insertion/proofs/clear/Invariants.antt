@@ -1,10 +1,7 @@
 -- The entries before `at` are 0. Assumes nothing.
 use Prim.Native.Nat.{◌-◌}
-use native.Mathlib.Omega.{arith}
-use lib.ListN.{length, length-set}
-use borrow.Author.Rules.{rules}
-use Rattle.insertion.proofs.Steps.{Clearing, clearing_start, clearing_next, clearing_end}
-
+use lib.ListN.{length}
+use Rattle.insertion.proofs.Steps.{Clearing}
 use Rattle.insertion.proofs.clear.Given as goal
 
 abbrev pub invariant-loop-at : goal.invariant-loop-at

@@ -1,8 +1,5 @@
 use native.Mathlib.Omega.{arith}
-use Rattle.insertion.proofs.Steps.{Passing, passing_start, passing_room, passing_found, passing_in, passing_next}
-use Prim.Native.Nat.{◌+◌, ◌-◌}
-use lib.ListN.{length}
-
+use Rattle.insertion.proofs.Steps.{passing_start, passing_room, passing_found, passing_in, passing_next}
 use Rattle.insertion.proofs.first_with_room.Goals as goal
 
 pub loop-k-init : goal.loop-k-init

@@ -1,9 +1,7 @@
 -- The periods passed are full, and the closing period is not. Assumes nothing.
-use native.Mathlib.Omega.{arith}
-use Rattle.insertion.proofs.Steps.{Passing, passing_start, passing_room, passing_found, passing_in, passing_next}
+use Rattle.insertion.proofs.Steps.{Passing}
 use Prim.Native.Nat.{◌+◌, ◌-◌}
 use lib.ListN.{length}
-
 use Rattle.insertion.proofs.first_with_room.Given as goal
 
 abbrev pub invariant-loop-k : goal.invariant-loop-k

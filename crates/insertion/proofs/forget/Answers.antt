@@ -1,7 +1,5 @@
 use native.Mathlib.Omega.{arith}
-use Prim.Native.Nat.{◌+◌, ◌-◌}
-use Rattle.insertion.proofs.Steps.{Forgetting, forgetting_start, forgetting_room, forgetting_next, forgetting_end}
-
+use Rattle.insertion.proofs.Steps.{forgetting_start, forgetting_room, forgetting_next, forgetting_end}
 use Rattle.insertion.proofs.forget.Goals as goal
 
 pub loop-k-init : goal.loop-k-init

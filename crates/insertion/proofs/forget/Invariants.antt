@@ -1,8 +1,6 @@
 -- The periods before k are far again. Assumes nothing.
-use native.Mathlib.Omega.{arith}
 use Prim.Native.Nat.{◌+◌, ◌-◌}
-use Rattle.insertion.proofs.Steps.{Forgetting, forgetting_start, forgetting_room, forgetting_next, forgetting_end}
-
+use Rattle.insertion.proofs.Steps.{Forgetting}
 use Rattle.insertion.proofs.forget.Given as goal
 
 abbrev pub invariant-loop-k : goal.invariant-loop-k

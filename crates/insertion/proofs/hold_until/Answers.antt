@@ -2,8 +2,6 @@
 use mathlib.Core.Path.{ap}
 use Prim.Native.Nat.{◌-◌}
 use lib.ListN.{set}
-use borrow.Author.Rules.{rules}
-
 use Rattle.insertion.proofs.hold_until.Goals as goal
 
 pub returns : goal.returns

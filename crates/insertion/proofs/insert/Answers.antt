@@ -2,7 +2,6 @@
 use native.Mathlib.Omega.{arith}
 use mathlib.Core.Path.{refl, ◌∙◌}
 use Rattle.insertion.proofs.Inserting.{insert_room, insert_stands, insert_find, insert_search, insert_within, insert_rows, insert_walk, insert_raise, insert_forget, insert_add, insert_end, insert_kept}
-
 use Rattle.insertion.proofs.insert.Goals as goal
 
 pub offset_bounds-places-n : goal.offset_bounds-places-n

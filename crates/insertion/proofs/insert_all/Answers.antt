@@ -1,11 +1,6 @@
 use native.Mathlib.Omega.{arith}
-use mathlib.Core.Path.{◌≡◌, refl, sym, ◌∙◌}
-use Prim.Native.Nat.{◌-◌}
-use lib.ListN.{length}
-use borrow.Author.Rules.{rules}
-use Rattle.day.specs.Day.{day, unlimited}
-use Rattle.insertion.proofs.Building.{Building, building_order, building_start, building_more, building_small, building_next, building_price, building_end}
-
+use mathlib.Core.Path.{refl, sym, ◌∙◌}
+use Rattle.insertion.proofs.Building.{building_order, building_start, building_more, building_small, building_next, building_price, building_end}
 use Rattle.insertion.proofs.insert_all.Goals as goal
 
 pub order_flights-requires : goal.order_flights-requires

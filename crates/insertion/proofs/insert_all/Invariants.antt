@@ -1,12 +1,9 @@
 -- n flights are placed at the cost that was added up. Assumes nothing.
-use native.Mathlib.Omega.{arith}
-use mathlib.Core.Path.{◌≡◌, refl, sym, ◌∙◌}
+use mathlib.Core.Path.{◌≡◌}
 use Prim.Native.Nat.{◌-◌}
 use lib.ListN.{length}
-use borrow.Author.Rules.{rules}
 use Rattle.day.specs.Day.{day, unlimited}
-use Rattle.insertion.proofs.Building.{Building, building_order, building_start, building_more, building_small, building_next, building_price, building_end}
-
+use Rattle.insertion.proofs.Building.{Building}
 use Rattle.insertion.proofs.insert_all.Given as goal
 
 abbrev pub invariant-loop-n : goal.invariant-loop-n

@@ -1,7 +1,5 @@
 use native.Mathlib.Omega.{arith}
-use Prim.Native.Nat.{◌-◌}
-use Rattle.insertion.proofs.Steps.{Raising, raise_room, raising_start, raising_room, raising_small, raising_keep, raising_up, raising_end}
-
+use Rattle.insertion.proofs.Steps.{raise_room, raising_start, raising_room, raising_small, raising_keep, raising_up, raising_end}
 use Rattle.insertion.proofs.raise.Goals as goal
 
 pub offset_bounds-dist-target : goal.offset_bounds-dist-target

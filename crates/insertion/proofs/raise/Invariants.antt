@@ -1,8 +1,6 @@
 -- The periods before k have their new prices; outside the searched periods nothing is nearer than the target. Assumes nothing.
-use native.Mathlib.Omega.{arith}
 use Prim.Native.Nat.{◌-◌}
-use Rattle.insertion.proofs.Steps.{Raising, raise_room, raising_start, raising_room, raising_small, raising_keep, raising_up, raising_end}
-
+use Rattle.insertion.proofs.Steps.{Raising}
 use Rattle.insertion.proofs.raise.Given as goal
 
 abbrev pub invariant-loop-k : goal.invariant-loop-k

@@ -1,11 +1,6 @@
 use native.Mathlib.Omega.{arith}
 use mathlib.Core.Path.{◌∙◌}
-use Prim.Native.Nat.{suc}
-use Rattle.assignment.specs.Rows.{el}
-use Rattle.day.specs.Day.{period_row}
-use Rattle.path.specs.Path.{landing}
-use Rattle.insertion.proofs.Steps.{hops, Walking, walk_in, walking_start, walking_places, walking_hold, walking_stays, walking_room, walking_left, walking_falls, walking_step, walking_last, walking_end}
-
+use Rattle.insertion.proofs.Steps.{walk_in, walking_start, walking_places, walking_hold, walking_stays, walking_room, walking_left, walking_falls, walking_step, walking_last, walking_end}
 use Rattle.insertion.proofs.walk.Goals as goal
 
 pub offset_bounds-via-at : goal.offset_bounds-via-at

@@ -1,12 +1,9 @@
 -- Flights that land in periods that were reached earlier have not moved yet; fewer and fewer are left to move. Assumes nothing.
-use native.Mathlib.Omega.{arith}
-use mathlib.Core.Path.{◌∙◌}
 use Prim.Native.Nat.{suc}
 use Rattle.assignment.specs.Rows.{el}
 use Rattle.day.specs.Day.{period_row}
 use Rattle.path.specs.Path.{landing}
-use Rattle.insertion.proofs.Steps.{hops, Walking, walk_in, walking_start, walking_places, walking_hold, walking_stays, walking_room, walking_left, walking_falls, walking_step, walking_last, walking_end}
-
+use Rattle.insertion.proofs.Steps.{hops, Walking}
 use Rattle.insertion.proofs.walk.Given as goal
 
 abbrev pub invariant-loop-from : goal.invariant-loop-from

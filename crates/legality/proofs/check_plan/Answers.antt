@@ -2,9 +2,6 @@
 -- Assumes nothing.
 use Rattle.legality.proofs.Laws.{check_bad_day, check_bad_length, check_not_legal, check_legal, can_sum}
 use mathlib.Core.Path.{sym, ◌∙◌}
-use borrow.Author.Tests.{not-true, not-false}
-use borrow.Author.Rules.{rules}
-
 use Rattle.legality.proofs.check_plan.Goals as goal
 
 pub returns-then-not-is_valid : goal.returns-then-not-is_valid

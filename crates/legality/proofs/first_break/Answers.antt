@@ -1,8 +1,6 @@
 -- The walk starts with no landing counted.
 -- Assumes nothing.
 use Rattle.legality.proofs.Laws.{walk_start}
-use borrow.Author.Rules.{rules}
-
 use Rattle.legality.proofs.first_break.Goals as goal
 
 pub walk-requires : goal.walk-requires

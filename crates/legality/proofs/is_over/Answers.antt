@@ -1,7 +1,5 @@
 -- What the period takes, the closing period included. Assumes nothing.
 use Rattle.legality.proofs.Laws.{over_taken}
-use borrow.Author.Rules.{rules}
-
 use Rattle.legality.proofs.is_over.Goals as goal
 
 pub returns : goal.returns

@@ -2,8 +2,6 @@
 -- Assumes nothing.
 use borrow.Author.Tests.{lt-ltb, le-ltb}
 use Rattle.day.specs.Plan.{too_long_of}
-use borrow.Author.Rules.{rules}
-
 use Rattle.legality.proofs.is_too_long.Goals as goal
 
 pub returns-then-periods-k : goal.returns-then-periods-k

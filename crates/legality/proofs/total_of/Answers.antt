@@ -1,11 +1,6 @@
 use native.Mathlib.Omega.{arith}
 use Rattle.legality.proofs.Laws.{sum_start}
-use borrow.Author.Rules.{rules}
-use Prim.Native.Nat.{◌-◌}
-use lib.ListN.{length}
-use Rattle.legality.specs.Loop.{Summed}
 use Rattle.legality.proofs.Laws.{sum_place, sum_fits, cost_fits, sum_next, sum_end}
-
 use Rattle.legality.proofs.total_of.Goals as goal
 
 pub loop-i-init : goal.loop-i-init

@@ -1,15 +1,9 @@
 -- The flights passed break nothing, and their landings are counted by period.
 -- Assumes nothing.
-use native.Mathlib.Omega.{arith}
-use mathlib.Core.Path.{sym, ◌∙◌}
-use Rattle.day.proofs.Valid.{valid_means}
-use borrow.Author.Rules.{rules}
 use Prim.Native.Nat.{◌-◌}
 use lib.ListN.{length}
 use Rattle.day.specs.Day.{day}
 use Rattle.legality.specs.Loop.{Walked}
-use Rattle.legality.proofs.Laws.{long_of, walk_place, walk_long, walk_by, walk_in, walk_fits, walk_over, walk_next, walk_end}
-
 use Rattle.legality.proofs.walk.Given as goal
 
 abbrev pub invariant-loop-place : goal.invariant-loop-place

@@ -4,7 +4,6 @@ use mathlib.Core.Path.{refl}
 use mathlib.Core.Logic.{inl, inr}
 use lib.ListN.{length-set}
 use Rattle.path.proofs.Rows.{as_read}
-
 use Rattle.path.proofs.bring_nearer.Goals as goal
 
 pub offset_bounds-dist-k : goal.offset_bounds-dist-k

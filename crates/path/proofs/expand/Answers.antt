@@ -1,6 +1,5 @@
 use native.Mathlib.Omega.{arith}
-use Rattle.path.proofs.Expanding.{ExpandingAll, expand_room, expanding_start, expanding_sizes, expanding_end, expanding_room, expanding_less, expanding_stands, expanding_home, expanding_small, expanding_can, expanding_offered}
-
+use Rattle.path.proofs.Expanding.{expand_room, expanding_start, expanding_sizes, expanding_end, expanding_room, expanding_less, expanding_stands, expanding_home, expanding_small, expanding_can, expanding_offered}
 use Rattle.path.proofs.expand.Goals as goal
 
 pub offset_bounds-dist-k : goal.offset_bounds-dist-k

@@ -1,7 +1,5 @@
 -- The flights behind `next` that land in k have offered; the chain of the period leads from one to the next. Assumes nothing.
-use native.Mathlib.Omega.{arith}
-use Rattle.path.proofs.Expanding.{ExpandingAll, expand_room, expanding_start, expanding_sizes, expanding_end, expanding_room, expanding_less, expanding_stands, expanding_home, expanding_small, expanding_can, expanding_offered}
-
+use Rattle.path.proofs.Expanding.{ExpandingAll}
 use Rattle.path.proofs.expand.Given as goal
 
 abbrev pub invariant-loop-next : goal.invariant-loop-next

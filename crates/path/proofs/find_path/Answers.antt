@@ -1,11 +1,9 @@
 use native.Mathlib.Omega.{arith}
 use mathlib.Core.Path.{sym, ◌∙◌}
-use Prim.Native.Nat.{ℕ, ◌-◌}
+use Prim.Native.Nat.{ℕ}
 use lib.ListN.{replicate, length-replicate}
-use borrow.Author.Rules.{rules}
-use Rattle.day.specs.Day.{day, unlimited, period_row}
-use Rattle.path.proofs.Expanding.{FindingAll, find_room, find_stands, find_list, find_offer, find_near, finding_start, finding_whole, finding_sizes, finding_end, finding_place, finding_in, finding_expand, finding_level, finding_stop, finding_on, finding_again, finding_next}
-
+use Rattle.day.specs.Day.{period_row}
+use Rattle.path.proofs.Expanding.{find_room, find_stands, find_list, find_offer, find_near, finding_start, finding_whole, finding_sizes, finding_end, finding_place, finding_in, finding_expand, finding_level, finding_stop, finding_on, finding_again, finding_next}
 use Rattle.path.proofs.find_path.Goals as goal
 
 pub offset_bounds-places-n : goal.offset_bounds-places-n

@@ -1,7 +1,5 @@
 use native.Mathlib.Omega.{arith}
-use Prim.Native.Nat.{◌-◌}
-use Rattle.path.proofs.Offering.{Seeking, seeking_start, seeking_end, seeking_room, seeking_found, seeking_next}
-
+use Rattle.path.proofs.Offering.{seeking_start, seeking_end, seeking_room, seeking_found, seeking_next}
 use Rattle.path.proofs.first_from.Goals as goal
 
 pub loop-z-init : goal.loop-z-init

@@ -1,8 +1,6 @@
 -- The periods of the places passed are before the due one. Assumes nothing.
-use native.Mathlib.Omega.{arith}
 use Prim.Native.Nat.{◌-◌}
-use Rattle.path.proofs.Offering.{Seeking, seeking_start, seeking_end, seeking_room, seeking_found, seeking_next}
-
+use Rattle.path.proofs.Offering.{Seeking}
 use Rattle.path.proofs.first_from.Given as goal
 
 abbrev pub invariant-loop-z : goal.invariant-loop-z

@@ -1,9 +1,7 @@
 use native.Mathlib.Omega.{arith}
-use Prim.Native.Nat.{◌-◌}
 use mathlib.Core.Path.{◌∙◌}
 use lib.ListN.{length-set}
-use Rattle.path.proofs.Listing.{Filling, filling_start, filling_room, filling_pass, filling_next, filling_end}
-
+use Rattle.path.proofs.Listing.{filling_start, filling_room, filling_pass, filling_next, filling_end}
 use Rattle.path.proofs.list_periods.Goals as goal
 
 pub loop-k-init : goal.loop-k-init

@@ -1,7 +1,5 @@
 use native.Mathlib.Omega.{arith}
-use Prim.Native.Nat.{◌-◌}
-use Rattle.path.proofs.Scan.{Scan, scan_room, scan_start, scan_in, scan_farther, scan_nearer, scan_level, scan_end}
-
+use Rattle.path.proofs.Scan.{scan_room, scan_start, scan_in, scan_farther, scan_nearer, scan_level, scan_end}
 use Rattle.path.proofs.nearest.Goals as goal
 
 pub offset_bounds-dist-target : goal.offset_bounds-dist-target

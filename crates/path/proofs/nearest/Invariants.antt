@@ -1,8 +1,6 @@
 -- Of the places looked at so far, none has a nearer period than the best; the target is the first best. Assumes nothing.
-use native.Mathlib.Omega.{arith}
 use Prim.Native.Nat.{◌-◌}
-use Rattle.path.proofs.Scan.{Scan, scan_room, scan_start, scan_in, scan_farther, scan_nearer, scan_level, scan_end}
-
+use Rattle.path.proofs.Scan.{Scan}
 use Rattle.path.proofs.nearest.Given as goal
 
 abbrev pub invariant-loop-z : goal.invariant-loop-z

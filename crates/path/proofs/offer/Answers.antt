@@ -1,8 +1,6 @@
 use native.Mathlib.Omega.{arith}
 use mathlib.Core.Path.{◌∙◌, refl}
-use Prim.Native.Nat.{◌-◌}
-use Rattle.path.proofs.Offering.{Offering, offer_room, offering_start, offering_place, offering_from, offering_beyond, offering_room, offering_reach, offering_stop, offering_small, offering_next, offering_last, offering_price, price_is, target_at, target_free}
-
+use Rattle.path.proofs.Offering.{offer_room, offering_start, offering_place, offering_from, offering_beyond, offering_room, offering_reach, offering_stop, offering_small, offering_next, offering_last, offering_price, price_is, target_at, target_free}
 use Rattle.path.proofs.offer.Goals as goal
 
 pub wide-due-requires : goal.wide-due-requires

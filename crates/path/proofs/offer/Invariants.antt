@@ -1,9 +1,6 @@
 -- What stands before the place in the list has been offered; an offer that is no nearer than the target is the last. Assumes nothing.
-use native.Mathlib.Omega.{arith}
-use mathlib.Core.Path.{◌∙◌, refl}
 use Prim.Native.Nat.{◌-◌}
-use Rattle.path.proofs.Offering.{Offering, offer_room, offering_start, offering_place, offering_from, offering_beyond, offering_room, offering_reach, offering_stop, offering_small, offering_next, offering_last, offering_price, price_is, target_at, target_free}
-
+use Rattle.path.proofs.Offering.{Offering}
 use Rattle.path.proofs.offer.Given as goal
 
 abbrev pub invariant-loop-z : goal.invariant-loop-z

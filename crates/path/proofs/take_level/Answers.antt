@@ -1,9 +1,7 @@
 use native.Mathlib.Omega.{arith}
-use Prim.Native.Nat.{◌-◌}
 use mathlib.Core.Path.{refl, ◌∙◌}
 use lib.ListN.{length-set}
-use Rattle.path.proofs.Listing.{Levelling, level_room, levelling_start, levelling_room, levelling_read, levelling_go, levelling_stay, last_room, levelling_end}
-
+use Rattle.path.proofs.Listing.{level_room, levelling_start, levelling_room, levelling_read, levelling_go, levelling_stay, last_room, levelling_end}
 use Rattle.path.proofs.take_level.Goals as goal
 
 pub bounds-list-at : goal.bounds-list-at

@@ -1,10 +1,6 @@
 -- Of the places looked at, what is as near as the level stands in the queue, and the rest before `kept`. Assumes nothing.
-use native.Mathlib.Omega.{arith}
 use Prim.Native.Nat.{◌-◌}
-use mathlib.Core.Path.{refl, ◌∙◌}
-use lib.ListN.{length-set}
-use Rattle.path.proofs.Listing.{Levelling, level_room, levelling_start, levelling_room, levelling_read, levelling_go, levelling_stay, last_room, levelling_end}
-
+use Rattle.path.proofs.Listing.{Levelling}
 use Rattle.path.proofs.take_level.Given as goal
 
 abbrev pub invariant-loop-z : goal.invariant-loop-z

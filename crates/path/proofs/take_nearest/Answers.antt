@@ -1,9 +1,7 @@
 -- The nearest goes to the queue, alone or with all that are as near, unless it is the target. Assumes nothing.
 use native.Mathlib.Omega.{arith}
 use mathlib.Core.Path.{refl}
-use borrow.Author.Rules.{rules}
 use Rattle.path.proofs.Listing.{near_room, removed_level, level_none, level_some}
-
 use Rattle.path.proofs.take_nearest.Goals as goal
 
 pub returns-then-left-at : goal.returns-then-left-at

@@ -1,7 +1,5 @@
 use native.Mathlib.Omega.{arith}
-use Prim.Native.Nat.{◌-◌}
-use Rattle.path.proofs.Listing.{Taking, taking_start, taking_room, taking_next, taking_end}
-
+use Rattle.path.proofs.Listing.{taking_start, taking_room, taking_next, taking_end}
 use Rattle.path.proofs.take_out.Goals as goal
 
 pub loop-z-init : goal.loop-z-init

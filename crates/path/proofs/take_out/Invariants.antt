@@ -1,8 +1,6 @@
 -- The places from `at` up to z have what stood behind them. Assumes nothing.
-use native.Mathlib.Omega.{arith}
 use Prim.Native.Nat.{◌-◌}
-use Rattle.path.proofs.Listing.{Taking, taking_start, taking_room, taking_next, taking_end}
-
+use Rattle.path.proofs.Listing.{Taking}
 use Rattle.path.proofs.take_out.Given as goal
 
 abbrev pub invariant-loop-z : goal.invariant-loop-z

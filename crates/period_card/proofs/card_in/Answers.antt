@@ -5,8 +5,6 @@ use Rattle.quick_plan.proofs.NextCosts.{rate_fits}
 use lib.Count.{ones-le}
 use mathlib.Core.Path.{◌∙◌}
 use native.Mathlib.Omega.{arith}
-use borrow.Author.Rules.{rules}
-
 use Rattle.period_card.proofs.card_in.Goals as goal
 
 pub plan_to-requires : goal.plan_to-requires

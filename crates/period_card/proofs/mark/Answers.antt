@@ -4,8 +4,6 @@ use lib.Pow.{shl_exact}
 use lib.Dec.{lit<}
 use native.Mathlib.Nat.{one-mul}
 use native.Mathlib.Omega.{arith}
-use borrow.Author.Rules.{rules}
-
 use Rattle.period_card.proofs.mark.Goals as goal
 
 pub returns : goal.returns

@@ -1,10 +1,6 @@
 use borrow.Author.Rules.{rules}
 use native.Mathlib.Omega.{arith}
-use lib.ListN.{length}
-use Prim.Native.Nat.{◌-◌}
-use Rattle.day.specs.Day.{day, unlimited}
-use Rattle.period_card.proofs.Steps.{Marked, marked_start, marked_there, marked_small, marked_low, marked_high, marked_skip, marked_end}
-
+use Rattle.period_card.proofs.Steps.{marked_start, marked_there, marked_small, marked_low, marked_high, marked_skip, marked_end}
 use Rattle.period_card.proofs.marks_of.Goals as goal
 
 pub loop-i-init : goal.loop-i-init

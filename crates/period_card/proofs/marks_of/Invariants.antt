@@ -1,12 +1,9 @@
 -- The words mark who waits among the flights before i.
 -- Assumes nothing.
-use borrow.Author.Rules.{rules}
-use native.Mathlib.Omega.{arith}
 use lib.ListN.{length}
 use Prim.Native.Nat.{◌-◌}
 use Rattle.day.specs.Day.{day, unlimited}
-use Rattle.period_card.proofs.Steps.{Marked, marked_start, marked_there, marked_small, marked_low, marked_high, marked_skip, marked_end}
-
+use Rattle.period_card.proofs.Steps.{Marked}
 use Rattle.period_card.proofs.marks_of.Given as goal
 
 abbrev pub invariant-loop-i : goal.invariant-loop-i

@@ -3,11 +3,8 @@
 use Rattle.period_card.proofs.Steps.{bad_day, jump_or_limit_lem, no_period_0, no_period_above, is_card, few_flights, card_any}
 use Rattle.quick_plan.proofs.Same.{valid_rows}
 use Rattle.period_card.specs.PeriodCard.{card}
-use borrow.Author.Tests.{not-true, not-false}
 use mathlib.Core.Path.{sym, ap, ◌∙◌}
 use native.Mathlib.Omega.{arith}
-use borrow.Author.Rules.{rules}
-
 use Rattle.period_card.proofs.period_card.Goals as goal
 
 pub returns-then-not-is_valid : goal.returns-then-not-is_valid

@@ -2,8 +2,6 @@
 -- Assumes nothing.
 use native.Mathlib.Omega.{arith}
 use Rattle.plan_reader.proofs.Reading.{most_none, most_some, partial_rows}
-use borrow.Author.Rules.{rules}
-
 use Rattle.plan_reader.proofs.first_wrong.Goals as goal
 
 pub place_behind-requires : goal.place_behind-requires

@@ -2,8 +2,6 @@
 -- Assumes nothing.
 use mathlib.Core.Path.{refl, sym, ◌∙◌}
 use Rattle.plan_reader.proofs.Holds.{hold_no_line, hold_shown, hold_not_shown}
-use borrow.Author.Rules.{rules}
-
 use Rattle.plan_reader.proofs.hold_at.Goals as goal
 
 pub returns-in_default : goal.returns-in_default

@@ -1,8 +1,6 @@
 -- The constant's bytes are the definition's.
 -- Assumes nothing.
 use Rattle.plan_text.specs.PlanText.{plan_names}
-use borrow.Author.Rules.{rules}
-
 use Rattle.plan_reader.proofs.names_here.Goals as goal
 
 pub returns : goal.returns

@@ -1,8 +1,6 @@
 -- The names line and the lines measured.
 -- Assumes nothing.
 use Rattle.plan_reader.proofs.Reading.{place_is}
-use borrow.Author.Rules.{rules}
-
 use Rattle.plan_reader.proofs.place_behind.Goals as goal
 
 pub returns : goal.returns

@@ -5,12 +5,9 @@ use native.Mathlib.Omega.{arith}
 use mathlib.Core.Bool.{true}
 use lib.Dec.{lit<, lit≤}
 use lib.ListN.{drop}
-use borrow.Author.Tests.{not-true, not-false}
 use Rattle.text.specs.Fixed.{starts_with}
 use Rattle.plan_text.specs.PlanText.{total_name}
 use Rattle.plan_reader.proofs.Ending.{end_inside, end_no_name, number_inside, end_no_number, end_other, end_past, end_whole}
-use borrow.Author.Rules.{rules}
-
 use Rattle.plan_reader.proofs.read_end.Goals as goal
 
 pub total_name_here-requires : goal.total_name_here-requires

@@ -2,8 +2,6 @@
 -- Assumes nothing.
 use native.Mathlib.Omega.{arith}
 use Rattle.plan_reader.proofs.Calls.{row_holds, left_holds, in_starts, call_refused, plan_holds, plan_copied}
-use borrow.Author.Rules.{rules}
-
 use Rattle.plan_reader.proofs.read_in.Goals as goal
 
 pub all_places-counted-requires : goal.all_places-counted-requires

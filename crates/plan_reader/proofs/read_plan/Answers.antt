@@ -1,10 +1,7 @@
 -- The refusals in their order, and the reading.
 -- Assumes nothing.
 use mathlib.Core.Path.{refl, sym, ◌∙◌}
-use borrow.Author.Tests.{not-true, not-false}
 use Rattle.plan_reader.proofs.Calls.{call_bad_day, call_bad_length, call_read}
-use borrow.Author.Rules.{rules}
-
 use Rattle.plan_reader.proofs.read_plan.Goals as goal
 
 pub returns-then-not-is_valid : goal.returns-then-not-is_valid

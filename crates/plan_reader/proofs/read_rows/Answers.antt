@@ -1,10 +1,7 @@
 -- The names line, the flights' lines and the rest, each with its law.
 -- Assumes nothing.
 use mathlib.Core.Path.{sym, ◌∙◌}
-use borrow.Author.Tests.{not-true, not-false}
 use Rattle.plan_reader.proofs.Reading.{no_names, read_start, lines_stopped, lines_all, can_end, rows_ended}
-use borrow.Author.Rules.{rules}
-
 use Rattle.plan_reader.proofs.read_rows.Goals as goal
 
 pub returns-then-not-names_here : goal.returns-then-not-names_here

@@ -5,8 +5,6 @@ use mathlib.Core.Path.{sym, ap, ap₂, ◌∙◌}
 use native.Mathlib.Omega.{arith}
 use Rattle.plan_reader.specs.Loop.{line_cost}
 use Rattle.plan_reader.proofs.Holds.{other_number, cost_decides}
-use borrow.Author.Rules.{rules}
-
 use Rattle.plan_reader.proofs.shows_flight.Goals as goal
 
 pub returns-then-wide-number_of : goal.returns-then-wide-number_of

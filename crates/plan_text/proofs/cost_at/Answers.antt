@@ -1,8 +1,6 @@
 -- The cost of the hold, by its accessor.
 use native.Mathlib.Omega.{arith}
 use mathlib.Core.Path.{refl, ◌∙◌}
-use borrow.Author.Rules.{rules}
-
 use Rattle.plan_text.proofs.cost_at.Goals as goal
 
 pub cost_of-requires : goal.cost_of-requires

@@ -1,8 +1,6 @@
 -- Four texts, one behind the other.
 use Rattle.plan_text.proofs.Placing.{length_plan_names, length_total_name, length_plan, plan_put}
 use native.Mathlib.Omega.{arith}
-use borrow.Author.Rules.{rules}
-
 use Rattle.plan_text.proofs.fill_plan.Goals as goal
 
 pub put_plan_names-a-requires : goal.put_plan_names-a-requires

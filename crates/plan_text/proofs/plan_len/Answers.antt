@@ -1,8 +1,6 @@
 -- The text's length is that of its parts.
 use Rattle.plan_text.proofs.Placing.{length_plan}
 use native.Mathlib.Omega.{arith}
-use borrow.Author.Rules.{rules}
-
 use Rattle.plan_text.proofs.plan_len.Goals as goal
 
 pub returns : goal.returns

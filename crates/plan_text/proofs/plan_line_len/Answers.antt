@@ -6,9 +6,7 @@ use native.Mathlib.Omega.{arith}
 use mathlib.Core.Path.{◌≡◌, ap, sym, ◌∙◌}
 use mathlib.Core.List.{[], ◌∷◌}
 use lib.ListN.{length}
-use borrow.Author.Rules.{rules}
 use Rattle.day.specs.Day.{column, flight_at, hold_cost, hold, land_of}
-
 use Rattle.plan_text.proofs.plan_line_len.Goals as goal
 
 pub returns : goal.returns

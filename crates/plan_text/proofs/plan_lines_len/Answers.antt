@@ -1,11 +1,8 @@
 use Rattle.plan_text.proofs.Placing.{lines_part, no_lines}
-use Rattle.plan_text.specs.PlanText.{plan_lines}
 use borrow.Author.Rules.{rules}
-use Prim.Native.Nat.{◌≤◌, ◌-◌, ◌*◌}
 use native.Mathlib.Omega.{arith}
 use mathlib.Core.Path.{◌≡◌, refl}
 use lib.ListN.{length, length-append}
-
 use Rattle.plan_text.proofs.plan_lines_len.Goals as goal
 
 pub loop-i-init : goal.loop-i-init

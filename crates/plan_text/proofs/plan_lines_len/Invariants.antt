@@ -1,12 +1,8 @@
 -- After i turns the lengths of the first i lines are summed.
-use Rattle.plan_text.proofs.Placing.{lines_part, no_lines}
 use Rattle.plan_text.specs.PlanText.{plan_lines}
-use borrow.Author.Rules.{rules}
 use Prim.Native.Nat.{◌≤◌, ◌-◌, ◌*◌}
-use native.Mathlib.Omega.{arith}
-use mathlib.Core.Path.{◌≡◌, refl}
-use lib.ListN.{length, length-append}
-
+use mathlib.Core.Path.{◌≡◌}
+use lib.ListN.{length}
 use Rattle.plan_text.proofs.plan_lines_len.Given as goal
 
 abbrev pub invariant-loop-i : goal.invariant-loop-i

@@ -6,8 +6,6 @@ use mathlib.Core.Path.{◌≡◌, sym}
 use Rattle.plan_text.specs.PlanText.{plan_line}
 use Rattle.text.specs.Digits.{line}
 use Rattle.plan_text.proofs.Placing.{line_is}
-use borrow.Author.Rules.{rules}
-
 use Rattle.plan_text.proofs.put_plan_line.Goals as goal
 
 pub put_line_at-requires : goal.put_line_at-requires

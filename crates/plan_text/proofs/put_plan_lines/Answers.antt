@@ -1,13 +1,10 @@
 use Rattle.text.proofs.Writing.{then, put_none, put_length}
 use Rattle.plan_text.proofs.Placing.{lines_part, lines_room, no_lines}
-use Rattle.text.specs.Writing.{Put}
-use Rattle.plan_text.specs.PlanText.{plan_lines}
 use borrow.Author.Rules.{rules}
-use Prim.Native.Nat.{◌≤◌, ◌<◌, ◌-◌}
+use Prim.Native.Nat.{◌<◌}
 use native.Mathlib.Omega.{arith}
 use mathlib.Core.Path.{◌≡◌, refl}
 use lib.ListN.{length, length-append}
-
 use Rattle.plan_text.proofs.put_plan_lines.Goals as goal
 
 pub loop-i-init : goal.loop-i-init

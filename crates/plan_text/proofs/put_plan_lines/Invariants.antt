@@ -1,14 +1,9 @@
 -- After i turns the first i lines are written.
-use Rattle.text.proofs.Writing.{then, put_none, put_length}
-use Rattle.plan_text.proofs.Placing.{lines_part, lines_room, no_lines}
 use Rattle.text.specs.Writing.{Put}
 use Rattle.plan_text.specs.PlanText.{plan_lines}
-use borrow.Author.Rules.{rules}
-use Prim.Native.Nat.{◌≤◌, ◌<◌, ◌-◌}
-use native.Mathlib.Omega.{arith}
-use mathlib.Core.Path.{◌≡◌, refl}
-use lib.ListN.{length, length-append}
-
+use Prim.Native.Nat.{◌≤◌, ◌-◌}
+use mathlib.Core.Path.{◌≡◌}
+use lib.ListN.{length}
 use Rattle.plan_text.proofs.put_plan_lines.Given as goal
 
 abbrev pub invariant-loop-i : goal.invariant-loop-i

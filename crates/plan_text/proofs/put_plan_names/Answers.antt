@@ -2,8 +2,6 @@
 use Rattle.plan_text.proofs.Placing.{length_plan_names}
 use Rattle.plan_text.specs.PlanText.{plan_names}
 use native.Mathlib.Omega.{arith}
-use borrow.Author.Rules.{rules}
-
 use Rattle.plan_text.proofs.put_plan_names.Goals as goal
 
 pub put_fixed-requires : goal.put_fixed-requires

@@ -2,8 +2,6 @@
 use native.Mathlib.Omega.{arith}
 use Rattle.plan_text.specs.PlanText.{total_name}
 use Rattle.plan_text.proofs.Placing.{length_total_name}
-use borrow.Author.Rules.{rules}
-
 use Rattle.plan_text.proofs.put_total_name.Goals as goal
 
 pub put_fixed_at-requires : goal.put_fixed_at-requires

@@ -1,7 +1,5 @@
 -- Each accessor gives its number.
 use mathlib.Core.Path.{refl}
-use borrow.Author.Rules.{rules}
-
 use Rattle.plan_text.proofs.values_of.Goals as goal
 
 pub returns : goal.returns

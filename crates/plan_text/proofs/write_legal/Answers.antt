@@ -5,8 +5,6 @@ use Prim.Native.Nat.{◌≤◌, ◌+◌}
 use native.Mathlib.Omega.{arith}
 use mathlib.Core.Path.{◌≡◌}
 use lib.ListN.{length}
-use borrow.Author.Rules.{rules}
-
 use Rattle.plan_text.proofs.write_legal.Goals as goal
 
 pub returns-then-buffer-place : goal.returns-then-buffer-place

@@ -1,8 +1,6 @@
 -- A refusal, or the text of a legal plan. Assumes nothing.
 use Rattle.plan_text.proofs.Placing.{on_refused, on_legal, legal_rows}
 use mathlib.Core.Path.{sym, ◌∙◌}
-use borrow.Author.Rules.{rules}
-
 use Rattle.plan_text.proofs.write_plan.Goals as goal
 
 pub write_legal-requires : goal.write_legal-requires

@@ -1,13 +1,7 @@
 use borrow.Author.Rules.{rules}
 use borrow.Author.Count.{below_more}
-use borrow.Author.Tests.{not-true, not-false}
-use Prim.Native.Nat.{ℕ, ◌≤◌, ◌<◌, ◌-◌}
 use native.Mathlib.Omega.{arith}
-use lib.ListN.{length}
-use Rattle.day.specs.Day.{day, unlimited}
-use Rattle.price_check.specs.Check.{Best}
 use Rattle.answers.proofs.Decides.{say_yes, say_no}
-
 use Rattle.price_check.proofs.are_best.Goals as goal
 
 pub loop-i-init : goal.loop-i-init

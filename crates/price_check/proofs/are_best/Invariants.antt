@@ -1,15 +1,9 @@
 -- The flights passed land where they pay least.
 -- Assumes nothing.
-use borrow.Author.Rules.{rules}
-use borrow.Author.Count.{below_more}
-use borrow.Author.Tests.{not-true, not-false}
 use Prim.Native.Nat.{ℕ, ◌≤◌, ◌<◌, ◌-◌}
-use native.Mathlib.Omega.{arith}
 use lib.ListN.{length}
 use Rattle.day.specs.Day.{day, unlimited}
 use Rattle.price_check.specs.Check.{Best}
-use Rattle.answers.proofs.Decides.{say_yes, say_no}
-
 use Rattle.price_check.proofs.are_best.Given as goal
 
 abbrev pub invariant-loop-i : goal.invariant-loop-i

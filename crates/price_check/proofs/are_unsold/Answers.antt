@@ -1,11 +1,9 @@
 use Rattle.day.proofs.Valid.{valid_means}
 use borrow.Author.Rules.{rules}
-use Prim.Native.Nat.{◌≤◌, ◌+◌, ◌-◌}
+use Prim.Native.Nat.{◌≤◌}
 use native.Mathlib.Omega.{arith}
-use Rattle.day.specs.Day.{day}
 use Rattle.answers.proofs.Decides.{say_yes, say_no}
-use Rattle.price_check.proofs.Laws.{counted_most, UnsoldTo, unsold_free_lem, unsold_full, unsold_not}
-
+use Rattle.price_check.proofs.Laws.{counted_most, unsold_free_lem, unsold_full, unsold_not}
 use Rattle.price_check.proofs.are_unsold.Goals as goal
 
 pub counted_of-last-requires : goal.counted_of-last-requires

@@ -1,8 +1,6 @@
 -- Each arm of the finding. Assumes nothing.
 use Rattle.price_check.proofs.Laws.{found_yes, found_no}
 use mathlib.Core.Path.{sym, ◌∙◌}
-use borrow.Author.Rules.{rules}
-
 use Rattle.price_check.proofs.is_legal.Goals as goal
 
 pub returns-in-Legal : goal.returns-in-Legal

@@ -1,9 +1,5 @@
-use borrow.Author.Rules.{rules}
-use Prim.Native.Nat.{◌-◌}
 use native.Mathlib.Omega.{arith}
-use lib.ListN.{length}
-use Rattle.price_check.proofs.Laws.{Counted, counted_start, counted_place, counted_on, counted_off, counted_end}
-
+use Rattle.price_check.proofs.Laws.{counted_start, counted_place, counted_on, counted_off, counted_end}
 use Rattle.price_check.proofs.landings_of.Goals as goal
 
 pub loop-i-init : goal.loop-i-init

@@ -1,11 +1,8 @@
 -- The flights passed are counted where they land in the period.
 -- Assumes nothing.
-use borrow.Author.Rules.{rules}
 use Prim.Native.Nat.{◌-◌}
-use native.Mathlib.Omega.{arith}
 use lib.ListN.{length}
-use Rattle.price_check.proofs.Laws.{Counted, counted_start, counted_place, counted_on, counted_off, counted_end}
-
+use Rattle.price_check.proofs.Laws.{Counted}
 use Rattle.price_check.proofs.landings_of.Given as goal
 
 abbrev pub invariant-loop-i : goal.invariant-loop-i

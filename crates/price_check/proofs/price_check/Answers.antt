@@ -2,12 +2,9 @@
 -- Assumes nothing.
 use mathlib.Core.Path.{sym, ◌∙◌}
 use native.Mathlib.Omega.{arith}
-use borrow.Author.Tests.{not-true, not-false}
 use Rattle.day.proofs.Valid.{valid_means, means_valid}
 use Rattle.day.proofs.Curfew.{open_valid, legal_without}
 use Rattle.price_check.proofs.Laws.{no_plan_lem, no_length, no_unsold, by_best}
-use borrow.Author.Rules.{rules}
-
 use Rattle.price_check.proofs.price_check.Goals as goal
 
 pub returns-then-not-is_legal : goal.returns-then-not-is_legal

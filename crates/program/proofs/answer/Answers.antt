@@ -3,8 +3,6 @@
 use mathlib.Core.Path.{refl, sym}
 use lib.Seq.{length-take-le}
 use Rattle.program.specs.Program.{printed, no_room}
-use borrow.Author.Rules.{rules}
-
 use Rattle.program.proofs.answer.Goals as goal
 
 pub returns-then-text-lt-ROOM : goal.returns-then-text-lt-ROOM

@@ -2,8 +2,6 @@
 -- Assumes nothing.
 use native.Mathlib.Omega.{arith}
 use Rattle.program.proofs.Reading.{Held, held, prints_refusal, priced_within, can_plan, prints_day}
-use borrow.Author.Rules.{rules}
-
 use Rattle.program.proofs.answer_sheet.Goals as goal
 
 pub returns-then-number-ne0 : goal.returns-then-number-ne0

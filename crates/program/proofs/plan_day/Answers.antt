@@ -2,8 +2,6 @@
 -- Assumes nothing.
 use Rattle.full_plan.proofs.Meaning.{accepted_call}
 use Rattle.program.proofs.Planning.{planned, prints_plan, prints_none}
-use borrow.Author.Rules.{rules}
-
 use Rattle.program.proofs.plan_day.Goals as goal
 
 pub put_plan-requires : goal.put_plan-requires

@@ -2,8 +2,6 @@
 -- Assumes nothing.
 use Rattle.day.specs.Day.{day}
 use Rattle.program.proofs.Writing.{plan_front}
-use borrow.Author.Rules.{rules}
-
 use Rattle.program.proofs.put_plan.Goals as goal
 
 pub returns : goal.returns

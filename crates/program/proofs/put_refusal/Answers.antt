@@ -2,8 +2,6 @@
 -- Assumes nothing.
 use native.Mathlib.Omega.{arith}
 use Rattle.program.proofs.Writing.{refusal_front}
-use borrow.Author.Rules.{rules}
-
 use Rattle.program.proofs.put_refusal.Goals as goal
 
 pub returns : goal.returns

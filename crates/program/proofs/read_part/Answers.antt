@@ -3,8 +3,6 @@
 use native.Mathlib.Nat.{sub-zero}
 use mathlib.Core.Path.{sym}
 use lib.Seq.{take_all}
-use borrow.Author.Rules.{rules}
-
 use Rattle.program.proofs.read_part.Goals as goal
 
 pub returns-then-read-input : goal.returns-then-read-input

@@ -1,10 +1,7 @@
 -- The refusals in the order of the definition.
 -- Assumes nothing.
-use borrow.Author.Tests.{not-true, not-false}
 use mathlib.Core.Path.{sym, ◌∙◌}
 use Rattle.quick_plan.proofs.Calls.{bad_day, bad_length, jump_or_limit_lem, applies}
-use borrow.Author.Rules.{rules}
-
 use Rattle.quick_plan.proofs.check_quick.Goals as goal
 
 pub returns-then-not-is_valid : goal.returns-then-not-is_valid

@@ -1,7 +1,4 @@
-use Rattle.quick_plan.proofs.Steps.{Plain, plain_start, plain_there, plain_stop, plain_next, plain_end}
-use Prim.Native.Nat.{◌-◌}
-use borrow.Author.Rules.{rules}
-
+use Rattle.quick_plan.proofs.Steps.{plain_start, plain_there, plain_stop, plain_next, plain_end}
 use Rattle.quick_plan.proofs.first_jump_or_limit.Goals as goal
 
 pub loop-i-init : goal.loop-i-init

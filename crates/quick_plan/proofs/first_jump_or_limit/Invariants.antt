@@ -1,8 +1,6 @@
 -- No flight before i has a jump or a limit. Assumes nothing.
-use Rattle.quick_plan.proofs.Steps.{Plain, plain_start, plain_there, plain_stop, plain_next, plain_end}
+use Rattle.quick_plan.proofs.Steps.{Plain}
 use Prim.Native.Nat.{◌-◌}
-use borrow.Author.Rules.{rules}
-
 use Rattle.quick_plan.proofs.first_jump_or_limit.Given as goal
 
 abbrev pub invariant-loop-i : goal.invariant-loop-i

@@ -1,10 +1,5 @@
 use borrow.Author.Rules.{rules}
-use mathlib.Core.Logic.{inl, inr}
-use Prim.Native.Nat.{◌-◌}
-use Rattle.day.specs.Day.{day, unlimited}
-use Rattle.quick_plan.specs.NextCost.{next_cost}
-use Rattle.quick_plan.proofs.Steps.{Scan, scan_start, scan_there, scan_periods, scan_due, best_there, scan_skip, scan_fresh, scan_better, scan_worse, scan_end}
-
+use Rattle.quick_plan.proofs.Steps.{scan_start, scan_there, scan_periods, scan_due, best_there, scan_skip, scan_fresh, scan_better, scan_worse, scan_end}
 use Rattle.quick_plan.proofs.first_waiting.Goals as goal
 use Rattle.quick_plan.proofs.first_waiting.Goals.{then-best-n-via-then-best-n, then-best-n-via-else-best-n+then-goes_before}
 

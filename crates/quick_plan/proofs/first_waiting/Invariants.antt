@@ -1,12 +1,9 @@
 -- The loop keeps the first of the flights looked at that wait, and its next cost; a flight that waits takes its place where it goes before it.
 -- Assumes nothing.
-use borrow.Author.Rules.{rules}
-use mathlib.Core.Logic.{inl, inr}
 use Prim.Native.Nat.{◌-◌}
 use Rattle.day.specs.Day.{day, unlimited}
 use Rattle.quick_plan.specs.NextCost.{next_cost}
-use Rattle.quick_plan.proofs.Steps.{Scan, scan_start, scan_there, scan_periods, scan_due, best_there, scan_skip, scan_fresh, scan_better, scan_worse, scan_end}
-
+use Rattle.quick_plan.proofs.Steps.{Scan}
 use Rattle.quick_plan.proofs.first_waiting.Given as goal
 
 abbrev pub invariant-loop-i : goal.invariant-loop-i

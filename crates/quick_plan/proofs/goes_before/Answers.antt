@@ -1,8 +1,6 @@
 -- Each of the three ways is the order with the tests before it decided.
 -- Assumes nothing.
 use Rattle.quick_plan.proofs.Steps.{before_costs, before_dues, before_places}
-use borrow.Author.Rules.{rules}
-
 use Rattle.quick_plan.proofs.goes_before.Goals as goal
 
 pub returns-then-other-cost : goal.returns-then-other-cost

@@ -1,7 +1,6 @@
 -- The two tests. Assumes nothing.
 use borrow.Author.Tests.{lt-ltb, le-ltb}
 use Rattle.day.specs.Plan.{jump_or_limit}
-
 use Rattle.quick_plan.proofs.has_jump_or_limit.Goals as goal
 
 pub returns-then-f-gt0 : goal.returns-then-f-gt0

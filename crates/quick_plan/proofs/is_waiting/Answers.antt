@@ -2,8 +2,6 @@
 -- Assumes nothing.
 use native.Mathlib.Omega.{arith}
 use Rattle.quick_plan.proofs.Steps.{waits_early, waits_late}
-use borrow.Author.Rules.{rules}
-
 use Rattle.quick_plan.proofs.is_waiting.Goals as goal
 
 pub returns-then-j-due : goal.returns-then-j-due

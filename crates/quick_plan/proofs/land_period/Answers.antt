@@ -1,9 +1,6 @@
 use native.Mathlib.Omega.{arith}
 use borrow.Author.Rules.{rules}
-use Rattle.day.specs.Day.{day, unlimited, capacity}
-use Rattle.quick_plan.specs.NextCost.{next_cost}
-use Rattle.quick_plan.proofs.Steps.{Landing, landing_start, landing_early, landing_stop, landing_flight, landing_more, landing_end}
-
+use Rattle.quick_plan.proofs.Steps.{landing_start, landing_early, landing_stop, landing_flight, landing_more, landing_end}
 use Rattle.quick_plan.proofs.land_period.Goals as goal
 
 pub loop-left-init : goal.loop-left-init

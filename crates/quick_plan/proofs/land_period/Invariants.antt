@@ -1,11 +1,8 @@
 -- The landings that are left, made on the row as it stands, come to the same row throughout.
 -- Assumes nothing.
-use native.Mathlib.Omega.{arith}
-use borrow.Author.Rules.{rules}
 use Rattle.day.specs.Day.{day, unlimited, capacity}
 use Rattle.quick_plan.specs.NextCost.{next_cost}
-use Rattle.quick_plan.proofs.Steps.{Landing, landing_start, landing_early, landing_stop, landing_flight, landing_more, landing_end}
-
+use Rattle.quick_plan.proofs.Steps.{Landing}
 use Rattle.quick_plan.proofs.land_period.Given as goal
 
 abbrev pub invariant-loop-left : goal.invariant-loop-left

@@ -1,8 +1,6 @@
 -- The rate, or the rate times the factor of the periods since the due. Assumes nothing.
-use borrow.Author.Rules.{rules}
 use native.Mathlib.Omega.{arith}
 use Rattle.quick_plan.proofs.NextCosts.{next_rate, growing_within, next_growing}
-
 use Rattle.quick_plan.proofs.next_cost.Goals as goal
 
 pub further_cost-requires : goal.further_cost-requires

@@ -1,12 +1,7 @@
-use borrow.Author.Rules.{rules}
 use native.Mathlib.Omega.{arith}
 use mathlib.Core.Path.{sym, ◌∙◌}
-use Prim.Native.Nat.{◌-◌, ◌≤◌}
-use Rattle.day.specs.Day.{day, unlimited}
-use Rattle.quick_plan.specs.NextCost.{next_cost}
 use Rattle.quick_plan.proofs.NextCosts.{fits_to}
-use Rattle.quick_plan.proofs.Steps.{Planned, planned_start, planned_next, planned_end}
-
+use Rattle.quick_plan.proofs.Steps.{planned_start, planned_next, planned_end}
 use Rattle.quick_plan.proofs.plan_to.Goals as goal
 
 pub loop-j-init : goal.loop-j-init

@@ -1,14 +1,9 @@
 -- The row is the one after the periods 1 to j.
 -- Assumes nothing.
-use borrow.Author.Rules.{rules}
-use native.Mathlib.Omega.{arith}
-use mathlib.Core.Path.{sym, ◌∙◌}
 use Prim.Native.Nat.{◌-◌, ◌≤◌}
 use Rattle.day.specs.Day.{day, unlimited}
 use Rattle.quick_plan.specs.NextCost.{next_cost}
-use Rattle.quick_plan.proofs.NextCosts.{fits_to}
-use Rattle.quick_plan.proofs.Steps.{Planned, planned_start, planned_next, planned_end}
-
+use Rattle.quick_plan.proofs.Steps.{Planned}
 use Rattle.quick_plan.proofs.plan_to.Given as goal
 
 abbrev pub invariant-loop-j : goal.invariant-loop-j

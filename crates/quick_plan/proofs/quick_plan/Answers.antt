@@ -8,7 +8,6 @@ use Rattle.quick_plan.proofs.Same.{valid_rows}
 use Rattle.quick_plan.proofs.Calls.{can_plan, refused, no_plan_lem, planned}
 use Rattle.legality.proofs.Laws.{can_sum}
 use borrow.Author.Rules.{rules}
-
 use Rattle.quick_plan.proofs.quick_plan.Goals as goal
 
 pub returns-in-Refused : goal.returns-in-Refused

@@ -1,10 +1,5 @@
-use borrow.Author.Rules.{rules}
-use lib.ListN.{length}
 use native.Mathlib.Omega.{arith}
-use Prim.Native.Nat.{◌-◌}
-use Rattle.day.specs.Day.{day, unlimited}
-use Rattle.quick_plan.proofs.Steps.{Started, started_none, started_periods, started_there, started_due, started_more, started_end}
-
+use Rattle.quick_plan.proofs.Steps.{started_none, started_periods, started_there, started_due, started_more, started_end}
 use Rattle.quick_plan.proofs.start_row.Goals as goal
 
 pub loop-i-init : goal.loop-i-init

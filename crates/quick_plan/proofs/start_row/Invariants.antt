@@ -1,12 +1,9 @@
 -- The entries before i stand at the closing period.
 -- Assumes nothing.
-use borrow.Author.Rules.{rules}
 use lib.ListN.{length}
-use native.Mathlib.Omega.{arith}
 use Prim.Native.Nat.{◌-◌}
 use Rattle.day.specs.Day.{day, unlimited}
-use Rattle.quick_plan.proofs.Steps.{Started, started_none, started_periods, started_there, started_due, started_more, started_end}
-
+use Rattle.quick_plan.proofs.Steps.{Started}
 use Rattle.quick_plan.proofs.start_row.Given as goal
 
 abbrev pub invariant-loop-i : goal.invariant-loop-i

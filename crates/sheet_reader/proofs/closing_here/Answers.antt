@@ -1,7 +1,5 @@
 -- The constant's bytes are the definition's.
 use Rattle.sheet.specs.Text.{closing_name}
-use borrow.Author.Rules.{rules}
-
 use Rattle.sheet_reader.proofs.closing_here.Goals as goal
 
 pub returns : goal.returns

@@ -4,8 +4,6 @@ use Rattle.sheet_reader.proofs.Loops.{closing_at}
 use lib.Dec.{lit≤, lit<}
 use native.Mathlib.Omega.{arith}
 use mathlib.Core.Path.{◌∙◌}
-use borrow.Author.Rules.{rules}
-
 use Rattle.sheet_reader.proofs.closing_line.Goals as goal
 
 pub field_at-requires : goal.field_at-requires

@@ -1,8 +1,6 @@
 -- Either of the two lines.
 use Rattle.sheet_reader.proofs.Loops.{names_end, closing_end}
 use mathlib.Core.Path.{sym, ◌∙◌}
-use borrow.Author.Rules.{rules}
-
 use Rattle.sheet_reader.proofs.end_here.Goals as goal
 
 pub returns-then-names_here : goal.returns-then-names_here

@@ -7,8 +7,6 @@ use Rattle.sheet.specs.Lines.{most_digits, limit_field}
 use Rattle.sheet.proofs.Lines.{limit_within, flight_no, flight_no_limit, flight_no_late, flight_yes}
 use lib.Dec.{lit≤, lit<}
 use mathlib.Core.Path.{◌≡◌, refl, sym, ◌∙◌}
-use borrow.Author.Rules.{rules}
-
 use Rattle.sheet_reader.proofs.flight_line.Goals as goal
 
 pub returns-in_default : goal.returns-in_default

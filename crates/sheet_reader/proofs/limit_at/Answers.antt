@@ -1,11 +1,8 @@
 -- One law for each way through the function.
 use Rattle.sheet.proofs.Lines.{dash_end, dash_hit, dash_miss, no_dash, limit_bad, limit_low, limit_high}
 use lib.ListN.{get_or}
-use mathlib.Core.Logic.{⊎_elim}
 use native.Mathlib.Omega.{arith}
 use mathlib.Core.Path.{◌≡◌, sym, ◌∙◌}
-use borrow.Author.Rules.{rules}
-
 use Rattle.sheet_reader.proofs.limit_at.Goals as goal
 use Rattle.sheet_reader.proofs.limit_at.Goals.{then-at-s+else-s-at-eq-DASH, else-at-s}
 

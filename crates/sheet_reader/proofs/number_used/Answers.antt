@@ -1,11 +1,6 @@
 use Rattle.sheet.proofs.Used.{used_here, used_below, used_none}
-use Rattle.day.specs.Flights.{first_flights}
-use Rattle.sheet.specs.Lines.{used}
-use borrow.Author.Rules.{rules}
-use Prim.Native.Nat.{◌≤◌}
 use native.Mathlib.Omega.{arith}
-use mathlib.Core.Path.{◌≡◌, sym, ◌∙◌}
-
+use mathlib.Core.Path.{sym, ◌∙◌}
 use Rattle.sheet_reader.proofs.number_used.Goals as goal
 
 pub returns-then-number_of-wide : goal.returns-then-number_of-wide

@@ -1,12 +1,8 @@
 -- What is decided by the flights still to compare with decides the whole.
-use Rattle.sheet.proofs.Used.{used_here, used_below, used_none}
 use Rattle.day.specs.Flights.{first_flights}
 use Rattle.sheet.specs.Lines.{used}
-use borrow.Author.Rules.{rules}
 use Prim.Native.Nat.{◌≤◌}
-use native.Mathlib.Omega.{arith}
-use mathlib.Core.Path.{◌≡◌, sym, ◌∙◌}
-
+use mathlib.Core.Path.{◌≡◌}
 use Rattle.sheet_reader.proofs.number_used.Given as goal
 
 abbrev pub invariant-loop-j : goal.invariant-loop-j

@@ -1,8 +1,6 @@
 -- The line that `line_at` reads.
 use Rattle.sheet.proofs.Lines.{period_no, period_yes}
 use mathlib.Core.Path.{refl, sym, ◌∙◌}
-use borrow.Author.Rules.{rules}
-
 use Rattle.sheet_reader.proofs.period_line.Goals as goal
 
 pub returns-in_default : goal.returns-in_default

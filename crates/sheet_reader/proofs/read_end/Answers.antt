@@ -6,10 +6,7 @@ use Rattle.sheet.specs.Text.{closing_name}
 use Rattle.sheet.specs.Lines.{closing_line}
 use lib.ListN.{drop}
 use mathlib.Core.Bool.{true}
-use borrow.Author.Tests.{not-true, not-false}
 use mathlib.Core.Path.{◌≡◌, sym, ◌∙◌}
-use borrow.Author.Rules.{rules}
-
 use Rattle.sheet_reader.proofs.read_end.Goals as goal
 
 pub returns-then-n-eq0 : goal.returns-then-n-eq0

@@ -1,15 +1,9 @@
-use borrow.Author.Rules.{rules}
-use Rattle.day.specs.Day.{most_flights, flight_fits}
+use Rattle.day.specs.Day.{flight_fits}
 use Rattle.sheet.specs.Lines.{flight_line}
 use Rattle.sheet.specs.declared.FlightLine.TheVariants.{Row}
-use Rattle.sheet_reader.specs.Loop.{FlightsRead}
 use Rattle.sheet_reader.proofs.Loops.{flights_start, flights_end, flights_full, flight_form, flight_range, flight_again, flight_next}
-use Prim.Native.Nat.{ℕ, ◌-◌}
 use mathlib.Core.Bool.{true}
-use mathlib.Core.List.{List}
 use mathlib.Core.Path.{◌≡◌, sym, ◌∙◌}
-use borrow.Author.Tests.{not-true, not-false}
-
 use Rattle.sheet_reader.proofs.read_flights.Goals as goal
 
 pub loop-at-init : goal.loop-at-init

@@ -1,9 +1,6 @@
 -- The second names line stands there, or not.
 use Rattle.sheet_reader.proofs.Loops.{names_not, names_on}
-use borrow.Author.Tests.{not-true, not-false}
 use mathlib.Core.Path.{sym, ◌∙◌}
-use borrow.Author.Rules.{rules}
-
 use Rattle.sheet_reader.proofs.read_names.Goals as goal
 
 pub returns-then-not-names_here : goal.returns-then-not-names_here

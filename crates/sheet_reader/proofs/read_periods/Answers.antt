@@ -1,15 +1,9 @@
-use borrow.Author.Rules.{rules}
-use Rattle.day.specs.Day.{most_periods}
-use Rattle.sheet_reader.specs.Loop.{PeriodsRead}
 use Rattle.sheet_reader.proofs.Loops.{periods_start, periods_ended, full_end, full_more, period_form, period_count, period_range, period_next}
 use Rattle.sheet.specs.Sheet.{ends_periods}
 use Rattle.sheet.specs.Lines.{period_line}
 use Rattle.sheet.specs.declared.PeriodLine.TheVariants.{Period}
-use Prim.Native.Nat.{ℕ, ◌-◌}
 use mathlib.Core.Bool.{false}
-use mathlib.Core.List.{List}
 use mathlib.Core.Path.{◌≡◌, sym, ◌∙◌}
-
 use Rattle.sheet_reader.proofs.read_periods.Goals as goal
 
 pub loop-n-init : goal.loop-n-init

@@ -6,12 +6,10 @@ use Rattle.day.specs.Day.{most_flights}
 use Rattle.sheet.specs.Sheet.{read_flights}
 use lib.Seq.{length-take-le}
 use lib.ListN.{length, take}
-use mathlib.Core.List.{List, []}
-use Prim.Native.Nat.{ℕ, ◌≤◌}
+use mathlib.Core.List.{[]}
+use Prim.Native.Nat.{◌≤◌}
 use native.Mathlib.Omega.{arith}
 use mathlib.Core.Path.{◌≡◌, ap, ◌∙◌}
-use borrow.Author.Rules.{rules}
-
 use Rattle.sheet_reader.proofs.read_rest.Goals as goal
 
 pub overflow_mul-n : goal.overflow_mul-n

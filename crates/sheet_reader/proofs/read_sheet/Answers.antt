@@ -6,14 +6,10 @@ use Rattle.day.specs.Day.{most_periods}
 use Rattle.sheet.specs.Sheet.{read_periods, reading}
 use Rattle.sheet.specs.Text.{period_names}
 use Rattle.text.specs.Fixed.{starts_with}
-use Prim.Native.Nat.{ℕ}
 use lib.ListN.{length}
 use mathlib.Core.Bool.{true}
-use mathlib.Core.List.{List, []}
+use mathlib.Core.List.{[]}
 use mathlib.Core.Path.{◌≡◌, refl, ap, sym, ◌∙◌}
-use borrow.Author.Tests.{not-true, not-false}
-use borrow.Author.Rules.{rules}
-
 use Rattle.sheet_reader.proofs.read_sheet.Goals as goal
 
 pub returns-then-capacities-ne-PERIODS : goal.returns-then-capacities-ne-PERIODS

@@ -1,7 +1,5 @@
 -- The constant's bytes are the definition's.
 use Rattle.sheet.specs.Text.{period_names}
-use borrow.Author.Rules.{rules}
-
 use Rattle.sheet_reader.proofs.top_here.Goals as goal
 
 pub returns : goal.returns

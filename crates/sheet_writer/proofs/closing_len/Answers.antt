@@ -4,8 +4,6 @@ use lib.Dec.{lit≤}
 use lib.ListN.{length}
 use mathlib.Core.Path.{ap, sym, ◌∙◌}
 use native.Mathlib.Omega.{arith}
-use borrow.Author.Rules.{rules}
-
 use Rattle.sheet_writer.proofs.closing_len.Goals as goal
 
 pub returns-then-has_line : goal.returns-then-has_line

@@ -5,8 +5,6 @@ use Rattle.sheet_writer.proofs.Placing.{sheet_room, sheet_put}
 use Prim.Native.Nat.{◌≤◌, ◌+◌}
 use native.Mathlib.Omega.{arith}
 use lib.ListN.{length}
-use borrow.Author.Rules.{rules}
-
 use Rattle.sheet_writer.proofs.fill_sheet.Goals as goal
 
 pub put_period_names-a-requires : goal.put_period_names-a-requires
@@ -45,8 +43,7 @@ put_flight_names-d-requires c =
 pub put_flights-requires : goal.put_flights-requires
 put_flights-requires c =
     let room : length period_names + length (periods_text 1 c.args.capacities.now) + length (closing_text c.args.closing) + length flight_names + length (flights_text (first_flights c.args.n c.args.flights.now))
-    ≤ length c.args.out.now = sheet_room c.args.capacities.now (first_flights c.args.n c.args.flights.now) c.args.closing c.requires.0 in
-    (
+    ≤ length c.args.out.now = sheet_room c.args.capacities.now (first_flights c.args.n c.args.flights.now) c.args.closing c.requires.0 in (
       omega (
         arith,
         room,

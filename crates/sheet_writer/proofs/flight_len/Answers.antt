@@ -1,8 +1,6 @@
 -- The line's length is that of its three parts.
 use Rattle.sheet.proofs.Grammar.{flight_length}
 use native.Mathlib.Omega.{arith}
-use borrow.Author.Rules.{rules}
-
 use Rattle.sheet_writer.proofs.flight_len.Goals as goal
 
 pub returns : goal.returns

@@ -1,12 +1,8 @@
 use borrow.Author.Rules.{rules}
 use Rattle.sheet_writer.proofs.Placing.{flight_part, no_flights}
-use Rattle.day.specs.Flights.{first_flights}
-use Rattle.sheet.specs.Text.{flights_text}
-use Prim.Native.Nat.{◌≤◌, ◌-◌, ◌*◌}
 use native.Mathlib.Omega.{arith}
 use mathlib.Core.Path.{◌≡◌, refl}
-use lib.ListN.{length, length-append}
-
+use lib.ListN.{length-append}
 use Rattle.sheet_writer.proofs.flights_len.Goals as goal
 
 pub loop-i-init : goal.loop-i-init

@@ -1,13 +1,9 @@
 -- After i turns the lengths of the first i lines are summed.
-use borrow.Author.Rules.{rules}
-use Rattle.sheet_writer.proofs.Placing.{flight_part, no_flights}
 use Rattle.day.specs.Flights.{first_flights}
 use Rattle.sheet.specs.Text.{flights_text}
 use Prim.Native.Nat.{◌≤◌, ◌-◌, ◌*◌}
-use native.Mathlib.Omega.{arith}
-use mathlib.Core.Path.{◌≡◌, refl}
-use lib.ListN.{length, length-append}
-
+use mathlib.Core.Path.{◌≡◌}
+use lib.ListN.{length}
 use Rattle.sheet_writer.proofs.flights_len.Given as goal
 
 abbrev pub invariant-loop-i : goal.invariant-loop-i

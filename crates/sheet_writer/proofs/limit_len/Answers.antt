@@ -3,8 +3,6 @@ use Rattle.sheet.proofs.Lines.{text_missing, text_number}
 use lib.Dec.{lit≤}
 use lib.ListN.{length}
 use mathlib.Core.Path.{ap, sym, ◌∙◌}
-use borrow.Author.Rules.{rules}
-
 use Rattle.sheet_writer.proofs.limit_len.Goals as goal
 
 pub returns-then-limit-eq-MISSING : goal.returns-then-limit-eq-MISSING

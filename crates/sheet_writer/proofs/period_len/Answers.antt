@@ -1,7 +1,5 @@
 -- The line's length, by its definition.
 use Rattle.sheet.specs.Text.{period_text}
-use borrow.Author.Rules.{rules}
-
 use Rattle.sheet_writer.proofs.period_len.Goals as goal
 
 pub returns : goal.returns

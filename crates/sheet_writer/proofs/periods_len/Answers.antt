@@ -1,12 +1,9 @@
 use Rattle.sheet_writer.proofs.Placing.{period_part, no_periods}
 use lib.Seq.{take_all}
-use Rattle.sheet.specs.Text.{periods_text}
 use borrow.Author.Rules.{rules}
-use Prim.Native.Nat.{◌≤◌, ◌-◌, ◌*◌}
 use native.Mathlib.Omega.{arith}
 use mathlib.Core.Path.{◌≡◌, refl}
-use lib.ListN.{length, take, length-append}
-
+use lib.ListN.{take, length-append}
 use Rattle.sheet_writer.proofs.periods_len.Goals as goal
 
 pub loop-i-init : goal.loop-i-init

@@ -1,13 +1,8 @@
 -- After i turns the lengths of the first i lines are summed.
-use Rattle.sheet_writer.proofs.Placing.{period_part, no_periods}
-use lib.Seq.{take_all}
 use Rattle.sheet.specs.Text.{periods_text}
-use borrow.Author.Rules.{rules}
 use Prim.Native.Nat.{◌≤◌, ◌-◌, ◌*◌}
-use native.Mathlib.Omega.{arith}
-use mathlib.Core.Path.{◌≡◌, refl}
-use lib.ListN.{length, take, length-append}
-
+use mathlib.Core.Path.{◌≡◌}
+use lib.ListN.{length, take}
 use Rattle.sheet_writer.proofs.periods_len.Given as goal
 
 abbrev pub invariant-loop-i : goal.invariant-loop-i

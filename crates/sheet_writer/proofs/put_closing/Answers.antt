@@ -5,8 +5,6 @@ use Rattle.day.specs.Day.{has_line}
 use mathlib.Core.Bool.{true}
 use mathlib.Core.Path.{◌≡◌, sym, ◌∙◌}
 use native.Mathlib.Omega.{arith}
-use borrow.Author.Rules.{rules}
-
 use Rattle.sheet_writer.proofs.put_closing.Goals as goal
 
 pub put_closing_name-k-requires : goal.put_closing_name-k-requires

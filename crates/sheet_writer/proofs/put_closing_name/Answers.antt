@@ -2,8 +2,6 @@
 use Rattle.sheet.proofs.Grammar.{length_closing}
 use Rattle.sheet.specs.Text.{closing_name}
 use native.Mathlib.Omega.{arith}
-use borrow.Author.Rules.{rules}
-
 use Rattle.sheet_writer.proofs.put_closing_name.Goals as goal
 
 pub put_fixed_at-requires : goal.put_fixed_at-requires

@@ -5,8 +5,6 @@ use Rattle.sheet.specs.Text.{before_limit}
 use Rattle.text.specs.Digits.{separated}
 use Rattle.text.specs.Writing.{Put}
 use native.Mathlib.Omega.{arith}
-use borrow.Author.Rules.{rules}
-
 use Rattle.sheet_writer.proofs.put_flight.Goals as goal
 
 pub put_separated-at-requires : goal.put_separated-at-requires

@@ -2,8 +2,6 @@
 use native.Mathlib.Omega.{arith}
 use Rattle.sheet.specs.Text.{flight_names}
 use Rattle.sheet.proofs.Grammar.{length_names}
-use borrow.Author.Rules.{rules}
-
 use Rattle.sheet_writer.proofs.put_flight_names.Goals as goal
 
 pub put_fixed_at-requires : goal.put_fixed_at-requires

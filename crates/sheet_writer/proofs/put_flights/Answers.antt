@@ -1,14 +1,10 @@
 use borrow.Author.Rules.{rules}
-use Rattle.text.specs.Loops.{Grown}
 use Rattle.text.proofs.Writing.{grown_none, grown_room, grown_more}
 use Rattle.sheet_writer.proofs.Placing.{flight_part, flight_room, no_flights}
-use Rattle.day.specs.Flights.{first_flights}
 use Rattle.day.specs.Day.{flight_at}
-use Rattle.sheet.specs.Text.{flight_text, flights_text}
-use Prim.Native.Nat.{◌≤◌, ◌-◌}
+use Rattle.sheet.specs.Text.{flight_text}
 use native.Mathlib.Omega.{arith}
 use mathlib.Core.Path.{◌≡◌}
-
 use Rattle.sheet_writer.proofs.put_flights.Goals as goal
 
 pub loop-i-init : goal.loop-i-init

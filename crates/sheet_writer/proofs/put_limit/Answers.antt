@@ -4,8 +4,6 @@ use Rattle.sheet.proofs.Lines.{text_missing, text_number}
 use native.Mathlib.Omega.{arith}
 use lib.ListN.{length, length-set}
 use mathlib.Core.Path.{ap}
-use borrow.Author.Rules.{rules}
-
 use Rattle.sheet_writer.proofs.put_limit.Goals as goal
 
 pub bounds-out-0 : goal.bounds-out-0

@@ -1,7 +1,5 @@
 -- The part lent on is the rest of the buffer.
 use Rattle.text.proofs.Writing.{lent}
-use borrow.Author.Rules.{rules}
-
 use Rattle.sheet_writer.proofs.put_limit_at.Goals as goal
 
 pub returns : goal.returns

@@ -1,8 +1,6 @@
 -- A line of two numbers. Assumes nothing.
 use native.Mathlib.Omega.{arith}
 use Rattle.sheet.specs.Text.{period_text}
-use borrow.Author.Rules.{rules}
-
 use Rattle.sheet_writer.proofs.put_period_at.Goals as goal
 
 pub put_line_at-requires : goal.put_line_at-requires

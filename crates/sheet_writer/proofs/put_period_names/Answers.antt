@@ -2,8 +2,6 @@
 use Rattle.sheet.proofs.Grammar.{length_top}
 use Rattle.sheet.specs.Text.{period_names}
 use native.Mathlib.Omega.{arith}
-use borrow.Author.Rules.{rules}
-
 use Rattle.sheet_writer.proofs.put_period_names.Goals as goal
 
 pub put_fixed-requires : goal.put_fixed-requires

@@ -1,14 +1,12 @@
-use Rattle.text.specs.Loops.{Grown}
 use Rattle.text.proofs.Writing.{grown_none, grown_room, grown_more}
 use Rattle.sheet_writer.proofs.Placing.{period_part, no_periods}
-use Rattle.sheet.specs.Text.{period_text, periods_text}
+use Rattle.sheet.specs.Text.{period_text}
 use borrow.Author.Rules.{rules}
-use Prim.Native.Nat.{◌≤◌, ◌+◌, ◌-◌}
+use Prim.Native.Nat.{◌+◌}
 use native.Mathlib.Omega.{arith}
 use mathlib.Core.Path.{◌≡◌}
-use lib.ListN.{length, get_or, take}
+use lib.ListN.{get_or, take}
 use lib.Seq.{take_all}
-
 use Rattle.sheet_writer.proofs.put_periods.Goals as goal
 
 pub loop-i-init : goal.loop-i-init

@@ -1,18 +1,15 @@
 -- A valid day gives the bounds, and its text fits or not.
 use Rattle.text.proofs.Writing.{lent}
-use Rattle.day.specs.Day.{Day, day, valid}
+use Rattle.day.specs.Day.{day, valid}
 use Rattle.day.specs.Flights.{first_flights}
 use Rattle.day.proofs.Valid.{valid_means}
 use Rattle.sheet.specs.Text.{sheet_text, sheet_of}
 use Rattle.sheet_writer.proofs.Placing.{bad_day, too_short, all_written, needed_is, text_of}
-use Prim.Native.Nat.{ℕ, ◌≤◌, ◌+◌}
+use Prim.Native.Nat.{◌≤◌, ◌+◌}
 use native.Mathlib.Omega.{arith}
 use mathlib.Core.Path.{◌≡◌, ap, sym, ◌∙◌}
 use mathlib.Core.Bool.{true}
 use lib.ListN.{length, length-take, length-drop}
-use borrow.Author.Tests.{not-true, not-false}
-use borrow.Author.Rules.{rules}
-
 use Rattle.sheet_writer.proofs.write_sheet.Goals as goal
 
 pub returns-then-not-is_valid : goal.returns-then-not-is_valid

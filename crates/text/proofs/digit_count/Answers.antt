@@ -1,11 +1,5 @@
 use Rattle.text.proofs.Digits.{count_short, count_long}
-use Rattle.text.specs.Digits.{digits}
-use borrow.Author.Rules.{rules}
-use Prim.Native.Nat.{◌≤◌, ◌+◌}
 use native.Mathlib.Omega.{arith}
-use mathlib.Core.Path.{◌≡◌}
-use lib.ListN.{length}
-
 use Rattle.text.proofs.digit_count.Goals as goal
 
 pub loop-m-init : goal.loop-m-init

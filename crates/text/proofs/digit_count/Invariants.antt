@@ -1,12 +1,8 @@
 -- The digits counted so far and those of what is left are one more than the digits of n.
-use Rattle.text.proofs.Digits.{count_short, count_long}
 use Rattle.text.specs.Digits.{digits}
-use borrow.Author.Rules.{rules}
 use Prim.Native.Nat.{◌≤◌, ◌+◌}
-use native.Mathlib.Omega.{arith}
 use mathlib.Core.Path.{◌≡◌}
 use lib.ListN.{length}
-
 use Rattle.text.proofs.digit_count.Given as goal
 
 abbrev pub invariant-loop-m : goal.invariant-loop-m

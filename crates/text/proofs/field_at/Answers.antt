@@ -1,8 +1,6 @@
 -- One law for each way through the function.
 use Rattle.text.proofs.Reading.{field_bad, field_end, field_miss, field_hit}
 use mathlib.Core.Path.{sym, ◌∙◌}
-use borrow.Author.Rules.{rules}
-
 use Rattle.text.proofs.field_at.Goals as goal
 
 pub returns-in_default : goal.returns-in_default

@@ -1,12 +1,8 @@
 use borrow.Author.Rules.{rules}
-use Prim.Native.Nat.{◌≤◌, ◌+◌, ◌-◌}
 use native.Mathlib.Omega.{arith}
 use native.Mathlib.Nat.{add-zero}
-use mathlib.Core.Path.{◌≡◌, sym, ◌∙◌}
-use lib.ListN.{length, drop}
-use Rattle.text.specs.Fixed.{starts_with}
+use mathlib.Core.Path.{sym, ◌∙◌}
 use Rattle.text.proofs.Fixed.{starts_end, starts_short, starts_same, starts_other}
-
 use Rattle.text.proofs.fixed_at.Goals as goal
 
 pub loop-k-init : goal.loop-k-init

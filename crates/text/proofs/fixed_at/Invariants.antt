@@ -1,13 +1,8 @@
 -- What is left to compare decides: byte by byte until one differs or one of the two ends.
-use borrow.Author.Rules.{rules}
 use Prim.Native.Nat.{◌≤◌, ◌+◌, ◌-◌}
-use native.Mathlib.Omega.{arith}
-use native.Mathlib.Nat.{add-zero}
-use mathlib.Core.Path.{◌≡◌, sym, ◌∙◌}
+use mathlib.Core.Path.{◌≡◌}
 use lib.ListN.{length, drop}
 use Rattle.text.specs.Fixed.{starts_with}
-use Rattle.text.proofs.Fixed.{starts_end, starts_short, starts_same, starts_other}
-
 use Rattle.text.proofs.fixed_at.Given as goal
 
 abbrev pub invariant-loop-k : goal.invariant-loop-k

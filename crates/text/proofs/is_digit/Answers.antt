@@ -1,7 +1,6 @@
 -- Both comparisons, as the definition has them.
 use borrow.Author.Tests.{le-leb, lt-leb}
 use Rattle.text.specs.Reading.{is_digit}
-
 use Rattle.text.proofs.is_digit.Goals as goal
 
 pub returns-then-d-ge48 : goal.returns-then-d-ge48

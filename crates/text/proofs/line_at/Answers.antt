@@ -2,8 +2,6 @@
 use Rattle.text.proofs.Lines.{line_bad, line_last, place_within}
 use mathlib.Core.Path.{sym, ◌∙◌}
 use lib.Dec.{lit<}
-use borrow.Author.Rules.{rules}
-
 use Rattle.text.proofs.line_at.Goals as goal
 
 pub returns-in_default : goal.returns-in_default

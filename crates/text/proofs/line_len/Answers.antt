@@ -1,8 +1,6 @@
 -- The line's length is that of its two parts.
 use Rattle.text.proofs.Writing.{length_line}
 use native.Mathlib.Omega.{arith}
-use borrow.Author.Rules.{rules}
-
 use Rattle.text.proofs.line_len.Goals as goal
 
 pub returns : goal.returns

@@ -1,9 +1,6 @@
 -- One law for each way through the function.
 use native.Mathlib.Omega.{arith}
-use mathlib.Core.Logic.{⊎_elim}
 use Rattle.text.proofs.Reading.{run_pos, number_none, number_long, number_zero, number_one, number_more}
-use borrow.Author.Rules.{rules}
-
 use Rattle.text.proofs.number_at.Goals as goal
 use Rattle.text.proofs.number_at.Goals.{then-k-gt1+else-s-at-eq48, else-k-gt1}
 

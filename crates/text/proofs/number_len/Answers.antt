@@ -1,8 +1,6 @@
 -- The digits and the end byte; a 64-bit number has at most 20 digits.
 use Rattle.text.proofs.Digits.{length_ended, ended_le}
 use native.Mathlib.Omega.{arith}
-use borrow.Author.Rules.{rules}
-
 use Rattle.text.proofs.number_len.Goals as goal
 
 pub overflow_add-result : goal.overflow_add-result

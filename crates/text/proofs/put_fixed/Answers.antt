@@ -1,12 +1,9 @@
 use Rattle.text.proofs.Writing.{put_none, copy_next}
 use lib.Seq.{take_all}
-use Rattle.text.specs.Writing.{Put}
 use borrow.Author.Rules.{rules}
-use Prim.Native.Nat.{◌≤◌, ◌-◌}
 use native.Mathlib.Omega.{arith}
 use mathlib.Core.Path.{◌≡◌, refl}
-use lib.ListN.{length, take, length-set}
-
+use lib.ListN.{take, length-set}
 use Rattle.text.proofs.put_fixed.Goals as goal
 
 pub loop-i-init : goal.loop-i-init

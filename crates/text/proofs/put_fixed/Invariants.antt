@@ -1,13 +1,8 @@
 -- After i turns the first i bytes are written.
-use Rattle.text.proofs.Writing.{put_none, copy_next}
-use lib.Seq.{take_all}
 use Rattle.text.specs.Writing.{Put}
-use borrow.Author.Rules.{rules}
 use Prim.Native.Nat.{◌≤◌, ◌-◌}
-use native.Mathlib.Omega.{arith}
-use mathlib.Core.Path.{◌≡◌, refl}
-use lib.ListN.{length, take, length-set}
-
+use mathlib.Core.Path.{◌≡◌}
+use lib.ListN.{length, take}
 use Rattle.text.proofs.put_fixed.Given as goal
 
 abbrev pub invariant-loop-i : goal.invariant-loop-i

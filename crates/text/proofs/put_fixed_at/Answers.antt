@@ -1,7 +1,5 @@
 -- The part lent on is the rest of the buffer. Assumes nothing.
 use Rattle.text.proofs.Writing.{lent}
-use borrow.Author.Rules.{rules}
-
 use Rattle.text.proofs.put_fixed_at.Goals as goal
 
 pub returns : goal.returns

@@ -1,8 +1,6 @@
 -- The last number stands behind the others.
 use Rattle.text.proofs.Writing.{line_put, length_line}
 use native.Mathlib.Omega.{arith}
-use borrow.Author.Rules.{rules}
-
 use Rattle.text.proofs.put_line.Goals as goal
 
 pub put_separated-at-requires : goal.put_separated-at-requires

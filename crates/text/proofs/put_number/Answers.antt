@@ -1,14 +1,9 @@
 use borrow.Author.Rules.{rules}
 use Rattle.text.proofs.Writing.{back_step, at_zero, number_put}
-use Rattle.text.specs.Loops.{dec}
 use Rattle.text.proofs.Digits.{length_ended}
-use Rattle.text.specs.Digits.{digits}
-use lib.ListN.{length, drop, length-set}
-use mathlib.Core.List.{◌++◌}
-use Prim.Native.Nat.{◌≤◌, ◌<◌}
+use lib.ListN.{length-set}
 use native.Mathlib.Omega.{arith}
-use mathlib.Core.Path.{◌≡◌, refl, sym, ◌∙◌}
-
+use mathlib.Core.Path.{refl, sym, ◌∙◌}
 use Rattle.text.proofs.put_number.Goals as goal
 
 pub loop-i-init : goal.loop-i-init

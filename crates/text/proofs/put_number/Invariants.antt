@@ -1,15 +1,10 @@
 -- The digits written so far and those of the number that is left make up all digits.
-use borrow.Author.Rules.{rules}
-use Rattle.text.proofs.Writing.{back_step, at_zero, number_put}
 use Rattle.text.specs.Loops.{dec}
-use Rattle.text.proofs.Digits.{length_ended}
 use Rattle.text.specs.Digits.{digits}
-use lib.ListN.{length, drop, length-set}
+use lib.ListN.{length, drop}
 use mathlib.Core.List.{◌++◌}
 use Prim.Native.Nat.{◌≤◌, ◌<◌}
-use native.Mathlib.Omega.{arith}
-use mathlib.Core.Path.{◌≡◌, refl, sym, ◌∙◌}
-
+use mathlib.Core.Path.{◌≡◌}
 use Rattle.text.proofs.put_number.Given as goal
 
 abbrev pub invariant-loop-i : goal.invariant-loop-i

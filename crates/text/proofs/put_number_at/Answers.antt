@@ -1,8 +1,6 @@
 -- The part lent on is the rest of the buffer.
 use Rattle.text.proofs.Writing.{lent}
-use borrow.Author.Rules.{rules}
 use native.Mathlib.Omega.{arith}
-
 use Rattle.text.proofs.put_number_at.Goals as goal
 
 pub overflow_add-result : goal.overflow_add-result

@@ -2,8 +2,6 @@
 use Rattle.text.proofs.Writing.{length_refusal_names}
 use Rattle.text.specs.Fixed.{refusal_names}
 use native.Mathlib.Omega.{arith}
-use borrow.Author.Rules.{rules}
-
 use Rattle.text.proofs.put_refusal_names.Goals as goal
 
 pub put_fixed-requires : goal.put_fixed-requires

@@ -1,13 +1,10 @@
 use Rattle.text.proofs.Writing.{grown_none, grown_room, grown_more, separated_part, no_numbers}
-use Rattle.text.specs.Loops.{Grown}
-use Rattle.text.specs.Digits.{ended, separated}
+use Rattle.text.specs.Digits.{ended}
 use borrow.Author.Rules.{rules}
-use Prim.Native.Nat.{◌≤◌, ◌-◌}
 use native.Mathlib.Omega.{arith}
 use mathlib.Core.Path.{◌≡◌}
-use lib.ListN.{length, get_or, take}
+use lib.ListN.{get_or, take}
 use lib.Seq.{take_all}
-
 use Rattle.text.proofs.put_separated.Goals as goal
 
 pub loop-i-init : goal.loop-i-init

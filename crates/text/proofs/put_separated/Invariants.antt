@@ -1,14 +1,8 @@
 -- After i turns the first i numbers are written.
-use Rattle.text.proofs.Writing.{grown_none, grown_room, grown_more, separated_part, no_numbers}
 use Rattle.text.specs.Loops.{Grown}
-use Rattle.text.specs.Digits.{ended, separated}
-use borrow.Author.Rules.{rules}
+use Rattle.text.specs.Digits.{separated}
 use Prim.Native.Nat.{◌≤◌, ◌-◌}
-use native.Mathlib.Omega.{arith}
-use mathlib.Core.Path.{◌≡◌}
-use lib.ListN.{length, get_or, take}
-use lib.Seq.{take_all}
-
+use lib.ListN.{length, take}
 use Rattle.text.proofs.put_separated.Given as goal
 
 abbrev pub invariant-loop-i : goal.invariant-loop-i

@@ -1,13 +1,7 @@
-use borrow.Author.Tests.{not-false, not-true}
-use mathlib.Core.Logic.{⊎_elim}
-use borrow.Author.Rules.{rules}
-use Prim.Native.Nat.{◌≤◌, ◌+◌, ◌-◌}
 use native.Mathlib.Omega.{arith}
-use mathlib.Core.Path.{◌≡◌, ap, sym, ◌∙◌}
-use lib.ListN.{length, drop}
-use Rattle.text.specs.Reading.{run}
+use mathlib.Core.Path.{ap, sym, ◌∙◌}
+use lib.ListN.{length}
 use Rattle.text.proofs.Reading.{run_on, run_off, run_end}
-
 use Rattle.text.proofs.run_len.Goals as goal
 use Rattle.text.proofs.run_len.Goals.{else-loop-i-test, then-loop-i-test+then-not-is_digit}
 

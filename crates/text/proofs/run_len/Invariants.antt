@@ -1,14 +1,8 @@
 -- The digits passed and those still ahead are all digits of the run.
-use borrow.Author.Tests.{not-false, not-true}
-use mathlib.Core.Logic.{⊎_elim}
-use borrow.Author.Rules.{rules}
 use Prim.Native.Nat.{◌≤◌, ◌+◌, ◌-◌}
-use native.Mathlib.Omega.{arith}
-use mathlib.Core.Path.{◌≡◌, ap, sym, ◌∙◌}
+use mathlib.Core.Path.{◌≡◌}
 use lib.ListN.{length, drop}
 use Rattle.text.specs.Reading.{run}
-use Rattle.text.proofs.Reading.{run_on, run_off, run_end}
-
 use Rattle.text.proofs.run_len.Given as goal
 
 abbrev pub invariant-loop-i : goal.invariant-loop-i

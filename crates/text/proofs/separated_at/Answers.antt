@@ -1,10 +1,5 @@
-use borrow.Author.Rules.{rules}
-use Rattle.text.specs.Loops.{Walk}
 use Rattle.text.proofs.Lines.{walk_start, walk_next, walk_stop, walk_end}
-use Prim.Native.Nat.{◌-◌}
-use lib.ListN.{length}
 use mathlib.Core.Path.{sym, ◌∙◌}
-
 use Rattle.text.proofs.separated_at.Goals as goal
 
 pub loop-i-init : goal.loop-i-init

@@ -1,11 +1,7 @@
 -- After i turns the first i numbers stand in the row, and the whole is those and what is left to read.
-use borrow.Author.Rules.{rules}
 use Rattle.text.specs.Loops.{Walk}
-use Rattle.text.proofs.Lines.{walk_start, walk_next, walk_stop, walk_end}
 use Prim.Native.Nat.{◌-◌}
 use lib.ListN.{length}
-use mathlib.Core.Path.{sym, ◌∙◌}
-
 use Rattle.text.proofs.separated_at.Given as goal
 
 abbrev pub invariant-loop-i : goal.invariant-loop-i

@@ -1,12 +1,9 @@
 use Rattle.text.proofs.Writing.{separated_part, no_numbers}
 use lib.Seq.{take_all}
-use Rattle.text.specs.Digits.{separated}
 use borrow.Author.Rules.{rules}
-use Prim.Native.Nat.{◌≤◌, ◌-◌, ◌*◌}
 use native.Mathlib.Omega.{arith}
 use mathlib.Core.Path.{◌≡◌, refl}
-use lib.ListN.{length, take, length-append}
-
+use lib.ListN.{take, length-append}
 use Rattle.text.proofs.separated_len.Goals as goal
 
 pub loop-i-init : goal.loop-i-init

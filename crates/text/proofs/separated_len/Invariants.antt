@@ -1,13 +1,8 @@
 -- After i turns the lengths of the first i numbers are summed.
-use Rattle.text.proofs.Writing.{separated_part, no_numbers}
-use lib.Seq.{take_all}
 use Rattle.text.specs.Digits.{separated}
-use borrow.Author.Rules.{rules}
 use Prim.Native.Nat.{◌≤◌, ◌-◌, ◌*◌}
-use native.Mathlib.Omega.{arith}
-use mathlib.Core.Path.{◌≡◌, refl}
-use lib.ListN.{length, take, length-append}
-
+use mathlib.Core.Path.{◌≡◌}
+use lib.ListN.{length, take}
 use Rattle.text.proofs.separated_len.Given as goal
 
 abbrev pub invariant-loop-i : goal.invariant-loop-i

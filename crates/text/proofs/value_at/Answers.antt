@@ -1,13 +1,11 @@
 use lib.Dec.{lit<}
-use borrow.Author.Rules.{rules}
-use Prim.Native.Nat.{ℕ, ◌≤◌, ◌<◌, ◌+◌, ◌-◌, ◌^◌}
+use Prim.Native.Nat.{ℕ, ◌≤◌, ◌<◌, ◌+◌, ◌^◌}
 use native.Mathlib.Omega.{arith}
 use mathlib.Core.Path.{◌≡◌, refl}
 use mathlib.Core.List.{List}
 use lib.ListN.{length, get_or, drop}
-use Rattle.text.specs.Reading.{run, value}
+use Rattle.text.specs.Reading.{run}
 use Rattle.text.proofs.Reading.{here, here_digit, below, turn, done}
-
 use Rattle.text.proofs.value_at.Goals as goal
 
 -- what a turn knows: the byte is there, it is a digit, and the number so far is small

@@ -1,13 +1,8 @@
 -- The value so far, continued over the digits still ahead, is the value of the run.
-use lib.Dec.{lit<}
-use borrow.Author.Rules.{rules}
-use Prim.Native.Nat.{◌≤◌, ◌<◌, ◌+◌, ◌-◌, ◌^◌}
-use native.Mathlib.Omega.{arith}
-use mathlib.Core.Path.{◌≡◌, refl}
-use lib.ListN.{length, get_or, drop}
+use Prim.Native.Nat.{◌<◌, ◌+◌, ◌-◌, ◌^◌}
+use mathlib.Core.Path.{◌≡◌}
+use lib.ListN.{length, drop}
 use Rattle.text.specs.Reading.{run, value}
-use Rattle.text.proofs.Reading.{here, here_digit, below, turn, done}
-
 use Rattle.text.proofs.value_at.Given as goal
 
 abbrev pub invariant-loop-i : goal.invariant-loop-i

@@ -7,8 +7,6 @@ use native.Mathlib.Omega.{arith}
 use mathlib.Core.Path.{◌≡◌}
 use mathlib.Core.List.{[], ◌∷◌}
 use lib.ListN.{length}
-use borrow.Author.Rules.{rules}
-
 use Rattle.text.proofs.write_refusal.Goals as goal
 
 pub returns-then-text-needed : goal.returns-then-text-needed

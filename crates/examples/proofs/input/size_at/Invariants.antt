@@ -1,8 +1,6 @@
 -- At most five digits, so the value is small.
 -- Assumes nothing.
-use borrow.Author.Rules.{rules}
 use Prim.Native.Nat.{◌≤◌, ◌-◌}
-
 use Rattle.examples.proofs.input.size_at.Given as goal
 
 abbrev pub invariant-loop-i : goal.invariant-loop-i

@@ -1,9 +1,7 @@
 -- The loop ends with the input.
 -- Assumes nothing.
-use borrow.Author.Rules.{rules}
 use Prim.Native.Nat.{◌≤◌, ◌-◌}
 use lib.ListN.{length}
-
 use Rattle.examples.proofs.input.word_end.Given as goal
 
 abbrev pub invariant-loop-end : goal.invariant-loop-end

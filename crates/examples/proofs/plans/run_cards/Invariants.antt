@@ -1,8 +1,6 @@
 -- The loop ends after period 97.
 -- Assumes nothing.
-use borrow.Author.Rules.{rules}
 use Prim.Native.Nat.{◌≤◌, ◌-◌}
-
 use Rattle.examples.proofs.plans.run_cards.Given as goal
 
 abbrev pub invariant-loop-period : goal.invariant-loop-period

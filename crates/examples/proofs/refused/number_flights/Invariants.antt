@@ -1,10 +1,8 @@
 -- The loop ends after 129 flights, and the row keeps its length.
 -- Assumes nothing.
-use borrow.Author.Rules.{rules}
 use Prim.Native.Nat.{◌≤◌, ◌-◌}
 use mathlib.Core.Path.{◌≡◌}
 use lib.ListN.{length}
-
 use Rattle.examples.proofs.refused.number_flights.Given as goal
 
 abbrev pub invariant-loop-place : goal.invariant-loop-place

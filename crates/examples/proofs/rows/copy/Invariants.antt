@@ -1,10 +1,8 @@
 -- The loop ends with the row that is copied, and the other keeps its length.
 -- Assumes nothing.
-use borrow.Author.Rules.{rules}
 use Prim.Native.Nat.{◌-◌}
 use mathlib.Core.Path.{◌≡◌}
 use lib.ListN.{length}
-
 use Rattle.examples.proofs.rows.copy.Given as goal
 
 abbrev pub invariant-loop-i : goal.invariant-loop-i

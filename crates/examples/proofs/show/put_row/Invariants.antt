@@ -1,9 +1,7 @@
 -- The loop ends with the row.
 -- Assumes nothing.
-use borrow.Author.Rules.{rules}
 use Prim.Native.Nat.{◌-◌}
 use lib.ListN.{length}
-
 use Rattle.examples.proofs.show.put_row.Given as goal
 
 abbrev pub invariant-loop-i : goal.invariant-loop-i
