@@ -30,13 +30,15 @@ TURNED = {
 
 WORD = r"[^\s(){}\[\];,.@\"⌜⌝]+"
 TOKEN = re.compile(r"[^\s(){}\[\];,.@\"⌜⌝]+")
-HEAD = re.compile(r"^ *(?:abbrev |unfoldable )?(?:pub )?(?:abbrev |unfoldable )?(" + WORD + r") : ", re.M)
+HEAD = re.compile(r"^ *(?:abbrev |unfoldable )?(?:pub )?(?:abbrev |unfoldable )?(" + WORD + r")(?: \{\w+\})? : ", re.M)
+# Names that stand at no head of that form: two on a line, and parameters.
+MORE = ["heldTo", "heldTo₂", "onPlan", "getYes", "getNo", "costK", "costI", "row-ext"]
 LET = re.compile(r"\blet (" + WORD + r")(?: :| =)")
-GOAL = re.compile(r"^(" + WORD + r") : (?:tie|goal)\.", re.M)
+GOAL = re.compile(r"^(?:abbrev )?(?:pub )?(" + WORD + r") : (?:tie|goal)\.", re.M)
 USE = re.compile(r"^use ([^\s{]+)\.\{([^}]*)\}", re.M)
 
 
-def antt(kinds=("specs/*.antt", "proofs/*.antt", "proofs/**/Proof.antt")):
+def antt(kinds=("specs/*.antt", "proofs/*.antt", "proofs/**/*.antt")):
     found = set()
     for k in kinds:
         found |= set(glob.glob("crates/*/" + k, recursive=True))
@@ -53,10 +55,10 @@ def turned(name):
 
 
 def own_names():
-    own, library, goals, kept = set(), set(), set(), set()
+    own, library, goals, kept = set(MORE), set(), set(), set()
     for p in antt():
         t = open(p, encoding="utf-8").read()
-        proof = p.endswith("Proof.antt")
+        proof = p.endswith(("Proof.antt", "Answers.antt", "Invariants.antt"))
         g = set(GOAL.findall(t))
         goals |= g
         for m in HEAD.finditer(t):

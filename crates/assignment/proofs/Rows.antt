@@ -11,23 +11,23 @@ use Rattle.assignment.specs.Rows.{el, row}
 use Rattle.assignment.specs.Moves.{Moved}
 use Rattle.assignment.proofs.Tests.{eq?, lt?}
 
-pub row-length {ℓ} : {A : Type ℓ} (n : ℕ) (g : ℕ → A) → length (row n g) ≡ n
+pub row_length {ℓ} : {A : Type ℓ} (n : ℕ) (g : ℕ → A) → length (row n g) ≡ n
 unfolding row
-row-length zero g = refl
-row-length (suc n) g = simp length-append (omega (arith, row-length n g))
+row_length zero g = refl
+row_length (suc n) g = simp length-append (omega (arith, row_length n g))
 
 pub row_at {ℓ} : {A : Type ℓ} (n : ℕ) (g : ℕ → A) (i : ℕ) (d : A) → i < n → get_or (row n g) i d ≡ g i
 unfolding row
 row_at zero g i d l = absurd (omega arith)
 row_at (suc n) g i d l = elim (eq? i n) [
-  | inl e ↦ rw e (get_or_at (row n g) (g n) [] d n (row-length n g))
-  | inr o ↦ get_or-append (row n g) (g n ∷ []) d i (omega (arith, row-length n g)) ∙ row_at n g i d (omega arith)
+  | inl e ↦ rw e (get_or_at (row n g) (g n) [] d n (row_length n g))
+  | inr o ↦ get_or-append (row n g) (g n ∷ []) d i (omega (arith, row_length n g)) ∙ row_at n g i d (omega arith)
 ]
 
-pub row-ext {ℓ} : {A : Type ℓ} (n : ℕ) (g h : ℕ → A) → ((i : ℕ) → i < n → g i ≡ h i) → row n g ≡ row n h
+pub row_ext {ℓ} : {A : Type ℓ} (n : ℕ) (g h : ℕ → A) → ((i : ℕ) → i < n → g i ≡ h i) → row n g ≡ row n h
 unfolding row
-row-ext zero g h e = refl
-row-ext (suc n) g h e = rw (row-ext n g h (λ i l. e i (omega arith)), e n (omega arith))
+row_ext zero g h e = refl
+row_ext (suc n) g h e = rw (row_ext n g h (λ i l. e i (omega arith)), e n (omega arith))
 
 -- a blank row has 0 at every index, past its end too
 pub blank_at : (m k : ℕ) → el (replicate m 0) k ≡ 0

@@ -16,7 +16,7 @@ pub data Claim : Type 0 where
   -- answer 9, and the first and last period of its stretch
   no_plan : ℕ → ℕ → Claim
   -- the price check's answer for holds and prices
-  getYes getNo : List ℕ → List ℕ → Claim
+  get_yes get_no : List ℕ → List ℕ → Claim
   -- a table place, a hold, and what the flight there costs with it
   hold_costs : ℕ → ℕ → ℕ → Claim
   -- the holds of the quick plan
@@ -47,8 +47,8 @@ abbrev pub Says : Day → Claim → Type 0
 Says d (least_total t holds prices) = TotalIsLeast d t holds prices
 Says d (smallest_prices holds prices) = PricesAre d holds prices
 Says d (no_plan first last) = NoneIsLegal d first last
-Says d (getYes holds prices) = Accepted d holds prices
-Says d (getNo holds prices) = Accepted d holds prices → ⊥
+Says d (get_yes holds prices) = Accepted d holds prices
+Says d (get_no holds prices) = Accepted d holds prices → ⊥
 Says d (hold_costs i h c) = cost d i h ≡ c
 Says d (quick_holds holds) = quick d ≡ holds
 Says d (two_land j x y) = OnlyTwoLand d j x y
@@ -162,8 +162,8 @@ table =
     -- B: the total of the plan that document 01 writes out
     ∷ (day_b, least_total 8 holds_b (8 ∷ 4 ∷ []))
     -- C: "for B's holds, prices 8, 4 get a yes; 7, 4 a no"
-    ∷ (day_b, getYes holds_b (8 ∷ 4 ∷ []))
-    ∷ (day_b, getNo holds_b (7 ∷ 4 ∷ []))
+    ∷ (day_b, get_yes holds_b (8 ∷ 4 ∷ []))
+    ∷ (day_b, get_no holds_b (7 ∷ 4 ∷ []))
     -- D: "9, stretch 1 to 1"
     ∷ (day_d, no_plan 1 1)
     -- E: "total 0"
@@ -204,9 +204,9 @@ table =
     ∷ (with_line 255 day_f, smallest_prices (1 ∷ []) (3 ∷ 0 ∷ []))
     -- #108: "the price row has one entry more .. under the same rules": the flight pays the closing price too, and it is 0 where the closing
     -- period isn't full
-    ∷ (with_line 1 day_f, getYes (1 ∷ []) (4 ∷ 1 ∷ []))
-    ∷ (with_line 1 day_f, getNo (1 ∷ []) (3 ∷ 1 ∷ []))
-    ∷ (with_line 2 day_f, getNo (1 ∷ []) (4 ∷ 1 ∷ []))
+    ∷ (with_line 1 day_f, get_yes (1 ∷ []) (4 ∷ 1 ∷ []))
+    ∷ (with_line 1 day_f, get_no (1 ∷ []) (3 ∷ 1 ∷ []))
+    ∷ (with_line 2 day_f, get_no (1 ∷ []) (4 ∷ 1 ∷ []))
     -- #108: "stretches may now end at P+1", where "due + limit counts as P+1 where the limit is missing or reaches further"
     ∷ (with_line 0 day_f, no_plan 1 2)
     ∷ (with_line 0 day_far, no_plan 1 2)

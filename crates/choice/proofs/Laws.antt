@@ -8,7 +8,7 @@ use borrow.Author.Tests.{le-leb, lt-leb}
 use Rattle.day.specs.Day.{Day}
 use Rattle.day.proofs.Instance.{total_le}
 use Rattle.day.proofs.Valid.{valid_means}
-use Rattle.legality.specs.Check.{plan_check, onPlan}
+use Rattle.legality.specs.Check.{plan_check, on_plan}
 use Rattle.legality.specs.declared.PlanCheck.{PlanCheck}
 use Rattle.legality.specs.declared.PlanCheck.TheVariants.{Legal, Refused}
 use Rattle.legality.proofs.Found.{found_legal}
@@ -17,12 +17,12 @@ use Rattle.choice.specs.declared.Which.TheVariants.{First, Second, Neither}
 use Rattle.choice.specs.Choice.{cheaper, choice}
 
 abbrev pub total_or : PlanCheck → ℕ
-total_or p = onPlan p (λ t. t) (λ refusal. 250880001)
+total_or p = on_plan p (λ t. t) (λ refusal. 250880001)
 
 -- a row is legal, with a total that is small, or the choice passes over it
 data Found (p : PlanCheck) : Type 0 where
   is_legal : (t : ℕ) → p ≡ Legal t → t ≤ 250880000 → Found p
-  not_legal : total_or p ≡ 250880001 → ((some : ℕ → Which) (none : Which) → onPlan p some (λ refusal. none) ≡ none) → Found p
+  not_legal : total_or p ≡ 250880001 → ((some : ℕ → Which) (none : Which) → on_plan p some (λ refusal. none) ≡ none) → Found p
 
 found_on : (p : PlanCheck) → ((t : ℕ) → p ≡ Legal t → t ≤ 250880000) → Found p
 found_on (Legal t) small = is_legal t refl (small t refl)

@@ -3,14 +3,14 @@
 -- Assumes nothing.
 use Rattle.std.specs.Prelude.{◌≡◌, cond, List, ℕ, leb}
 use Rattle.day.specs.Day.{Day}
-use Rattle.legality.specs.Check.{plan_check, onPlan}
+use Rattle.legality.specs.Check.{plan_check, on_plan}
 use Rattle.legality.specs.declared.PlanCheck.{PlanCheck}
 use Rattle.choice.specs.declared.Which.{Which}
 use Rattle.choice.specs.declared.Which.TheVariants.{First, Second, Neither}
 
 abbrev pub cheaper : PlanCheck → PlanCheck → Which
 cheaper a b =
-    onPlan a (λ s. onPlan b (λ t. cond (leb s t) First Second) (λ refusal. First)) (λ refusal. onPlan b (λ t. Second) (λ refusal. Neither))
+    on_plan a (λ s. on_plan b (λ t. cond (leb s t) First Second) (λ refusal. First)) (λ refusal. on_plan b (λ t. Second) (λ refusal. Neither))
 
 unfoldable pub choice : Day → (one other : List ℕ) → Which
 choice d one other = cheaper (plan_check d one) (plan_check d other)

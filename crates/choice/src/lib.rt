@@ -3,7 +3,7 @@
 
 ghost use Rattle.std.specs.Prelude.{◌≡◌, []};
 ghost use Rattle.day.specs.Day.{lent};
-ghost use Rattle.legality.specs.Check.{plan_check, onPlan};
+ghost use Rattle.legality.specs.Check.{plan_check, on_plan};
 ghost use Rattle.choice.specs.Choice.{choice, Chosen};
 
 use legality::{PlanCheck, check_plan};
@@ -20,7 +20,7 @@ const NO_TOTAL: usize = 250880001;
 
 // The total of a legal plan; a number above every total for a row that is not legal.
 fn legal_total(capacities: &[u32], flights: &[u32], closing: u32, holds: &[u32]) -> usize
-    ensures { result ≡ onPlan (plan_check (lent capacities.entry flights.entry closing) holds.now) (λ t. t) (λ _. 250880001) }
+    ensures { result ≡ on_plan (plan_check (lent capacities.entry flights.entry closing) holds.now) (λ t. t) (λ _. 250880001) }
 {
     let found = check_plan(capacities, flights, closing, holds);
     match found {

@@ -15,7 +15,7 @@ use borrow.Author.Tests.{lt-ltb, le-ltb}
 use Rattle.assignment.specs.Sum.{gate, count}
 use Rattle.assignment.specs.Rows.{row}
 use Rattle.assignment.proofs.Tests.{lt?}
-use Rattle.assignment.proofs.Rows.{row-length, row_at, row-ext}
+use Rattle.assignment.proofs.Rows.{row_length, row_at, row_ext}
 use Rattle.assignment.proofs.Sums.{sum_split, count_ext, count_zero}
 use Rattle.day.specs.Day.{Day, P, N, width, column, flight_count, flight_at, due, latest, of_period, unlimited, takes, counted, hold, land, landings, Window, valid}
 use Rattle.day.specs.Plan.{Legal, HasPlan, Short, breaks, first_break}
@@ -46,7 +46,7 @@ legal_unbroken {d} {h} v legal i l = record { none = λ j b. none_passes (N d) (
 module _ (d : Day) (h : List ℕ) (i : ℕ) where
   pub left_length : length (places_left d h i) ≡ counted d
   unfolding places_left
-  left_length = row-length (counted d) _
+  left_length = row_length (counted d) _
 
   pub left_at : (k : ℕ) → 1 ≤ k → k ≤ counted d → of_period (places_left d h i) k ≡ takes d k - count i (land d h) k
   unfolding places_left
@@ -230,8 +230,8 @@ completed_less c l = record { plan = c.plan; legal = c.legal; same = λ o b. c.s
 -- the first i holds, and then others
 joined : (h r : List ℕ) (i : ℕ) → Joined h r (row i (hold h) ++ r) i
 joined h r i = record {
-  first = λ j l. get_or-append (row i (hold h)) r 0 j (omega (arith, row-length i (hold h))) ∙ row_at i (hold h) j 0 l;
-  later = λ j. rw (row-length i (hold h)) at (get_or-append-add (row i (hold h)) r j 0);
+  first = λ j l. get_or-append (row i (hold h)) r 0 j (omega (arith, row_length i (hold h))) ∙ row_at i (hold h) j 0 l;
+  later = λ j. rw (row_length i (hold h)) at (get_or-append-add (row i (hold h)) r j 0);
 }
 
 -- Whoever completes the first i holds has a legal plan g that begins with them. No flight breaks g, and whether a flight breaks a row is
@@ -260,7 +260,7 @@ completed_by_rest {d} v h i l = (λ c. (unbroken c, later c), λ p. completed p.
     completed u p =
         let parts = joined h p.holds i in
         let each : length (row i (hold h) ++ p.holds) ≡ N d =
-        rw (length-append, row-length i (hold h)) (omega (arith, p.legal.each, rest_count d h i))
+        rw (length-append, row_length i (hold h)) (omega (arith, p.legal.each, rest_count d h i))
         in
         record { plan = row i (hold h) ++ p.holds; legal = joined_legal d parts l each u p.legal; same = parts.first }
 
@@ -279,7 +279,7 @@ pub left_same : (d : Day) (h g : List ℕ) (i n : ℕ) → ((k : ℕ) → 1 ≤ 
     → places_left d h i ≡ places_left d g n
 unfolding places_left
 left_same d h g i n same =
-    row-ext (counted d) _ _ (λ k l. ap (λ x. takes d (k + 1) - x) (sym (same (k + 1) (omega arith) (omega arith))))
+    row_ext (counted d) _ _ (λ k l. ap (λ x. takes d (k + 1) - x) (sym (same (k + 1) (omega arith) (omega arith))))
 
 -- a row is what is left if each period has what is left there
 pub left_from : (d : Day) (h left : List ℕ) (i : ℕ) → length left ≡ counted d

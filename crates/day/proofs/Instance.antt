@@ -14,7 +14,7 @@ use Rattle.assignment.specs.Assignment as A
 use Rattle.assignment.proofs.Tests.{lt?, eq?, gate_ne}
 use Rattle.assignment.specs.Rows.{row}
 use Rattle.assignment.proofs.Sums.{sum_ext, sum_zero, sum_most, count_le, count_ext}
-use Rattle.assignment.proofs.Rows.{row-length, row_at}
+use Rattle.assignment.proofs.Rows.{row_length, row_at}
 use Rattle.assignment.proofs.Duality as duality
 use Rattle.assignment.proofs.Stretch as stretch
 use Rattle.day.specs.Day.{Day, P, N, due, rate, of_period, takes, counted, cost, latest, Window, hold, land, total_of, total, last_of, last}
@@ -91,7 +91,7 @@ module _ (d : Day) {x : ℕ → ℕ} (legal : A.Legal (instance d) x) where
   lands i l = omega (arith, row_at (N d) (λ o. x o - due d o) i 0 l, (legal.window i l).from)
 
   pub holds_legal : Legal d (holds_of d x)
-  holds_legal = instance_legal (row-length (N d) _) (record {
+  holds_legal = instance_legal (row_length (N d) _) (record {
     window = λ i l. rw (lands i l) (legal.window i l);
     room = λ k. omega (arith, count_ext (N d) x (land d (holds_of d x)) lands k, legal.room k);
   })

@@ -38,17 +38,17 @@ weight_to {d} {f} fit s = elim (lt? s f.count) [
 ]
 
 -- a row of periods that counts flights has no entry above their number
-counts_held : (heldTo : List ℕ) (n : ℕ) (x : ℕ → ℕ) → length heldTo ≡ period_row → n ≤ most_flights
-    → ((k : ℕ) → k < period_row → el heldTo k ≡ count n x k) → Counts heldTo
-counts_held heldTo n x size most counted = record {
+counts_held : (held_to : List ℕ) (n : ℕ) (x : ℕ → ℕ) → length held_to ≡ period_row → n ≤ most_flights
+    → ((k : ℕ) → k < period_row → el held_to k ≡ count n x k) → Counts held_to
+counts_held held_to n x size most counted = record {
   places = size;
   few = λ k. elim (lt? k period_row) [
     | inl l ↦ omega (arith, counted k l, count_le n x k)
-    | inr l ↦ omega (arith, get_or-eq_default heldTo 0 {n = k} (omega (arith, size)))
+    | inr l ↦ omega (arith, get_or-eq_default held_to 0 {n = k} (omega (arith, size)))
   ];
 }
 
-module _ {d : Day} {f : Forecasts} {holds heldTo waits : List ℕ} {total i : ℕ} (p : Placed d f holds heldTo waits total i) (l : i < length holds) where
+module _ {d : Day} {f : Forecasts} {holds held_to waits : List ℕ} {total i : ℕ} (p : Placed d f holds held_to waits total i) (l : i < length holds) where
   in_table : i < N d
   in_table = omega (arith, p.each)
 
@@ -76,7 +76,7 @@ module _ {d : Day} {f : Forecasts} {holds heldTo waits : List ℕ} {total i : �
         sym (room_same (waits_of waits s) (waiting (held d (forecast_holds d f) i) (forecast d f s)) (forecast d f s) q (λ k after to.
         let some : 1 ≤ k = omega (arith, (p.fit.good.flight i in_table).due_from) in
         (p.turns.known s b).each k some (omega (arith, days)) to
-        ∙ waiting_same (el heldTo) (held d (forecast_holds d f) i) (forecast d f s) k (λ o one c. p.counted o (omega (arith, days, p.fit.good.periods_to)))))
+        ∙ waiting_same (el held_to) (held d (forecast_holds d f) i) (forecast d f s) k (λ o one c. p.counted o (omega (arith, days, p.fit.good.periods_to)))))
 
     -- so that its hold costs what the definition says
     same_cost : (h : ℕ) → h ≤ longest d i
@@ -121,30 +121,30 @@ module _ {d : Day} {f : Forecasts} {holds heldTo waits : List ℕ} {total i : �
         lands_to : land d (forecast_holds d f) i ≡ q
         lands_to = omega (arith, q-is, placed_hold)
 
-        m : Moved (el heldTo) (el (set heldTo q (el heldTo q + 1))) q (el heldTo q + 1)
-        m = set_moved heldTo q (el heldTo q + 1) (omega (arith, q-is, placed_to, p.turns.counts.places, p.fit.good.periods_to))
+        m : Moved (el held_to) (el (set held_to q (el held_to q + 1))) q (el held_to q + 1)
+        m = set_moved held_to q (el held_to q + 1) (omega (arith, q-is, placed_to, p.turns.counts.places, p.fit.good.periods_to))
 
-        next_counted : (k : ℕ) → k < period_row → el (set heldTo q (el heldTo q + 1)) k ≡ held d (forecast_holds d f) (i + 1) k
+        next_counted : (k : ℕ) → k < period_row → el (set held_to q (el held_to q + 1)) k ≡ held d (forecast_holds d f) (i + 1) k
         next_counted k b =
             let more = ap (λ n. count n (land d (forecast_holds d f)) k) (add-one i) ∙ count_suc i (land d (forecast_holds d f)) k in
             elim (eq? k q) [
-              | inl e ↦ omega (arith, more, p.counted k b, gate_eq (land d (forecast_holds d f) i) k 1 (lands_to ∙ sym e), ap (el (set heldTo q (el heldTo q + 1))) e, ap (el heldTo) e, m.here)
+              | inl e ↦ omega (arith, more, p.counted k b, gate_eq (land d (forecast_holds d f) i) k 1 (lands_to ∙ sym e), ap (el (set held_to q (el held_to q + 1))) e, ap (el held_to) e, m.here)
               | inr o ↦ omega (arith, more, p.counted k b, gate_ne (land d (forecast_holds d f) i) k 1 (λ z. o (sym z ∙ lands_to)), m.others k o)
             ]
 
-        next_counts : Counts (set heldTo q (el heldTo q + 1))
-        next_counts = counts_held (set heldTo q (el heldTo q + 1)) (i + 1) (land d (forecast_holds d f)) (length-set heldTo q (el heldTo q + 1) ∙ p.turns.counts.places) (omega (arith, in_table, p.fit.good.flights_to)) next_counted
+        next_counts : Counts (set held_to q (el held_to q + 1))
+        next_counts = counts_held (set held_to q (el held_to q + 1)) (i + 1) (land d (forecast_holds d f)) (length-set held_to q (el held_to q + 1) ∙ p.turns.counts.places) (omega (arith, in_table, p.fit.good.flights_to)) next_counted
 
         -- and the rows are to be brought up to date
-        pub placed_turns : {heldTo₂ : List ℕ} → heldTo₂ ≡ set heldTo q (el heldTo q + 1)
-            → Turns (P d) f.count f.rows heldTo₂ waits q × (1 ≤ q) × (q ≤ P d + 1) × (1 ≤ P d)
+        pub placed_turns : {held_to₂ : List ℕ} → held_to₂ ≡ set held_to q (el held_to q + 1)
+            → Turns (P d) f.count f.rows held_to₂ waits q × (1 ≤ q) × (q ≤ P d + 1) × (1 ≤ P d)
         placed_turns is =
             let some : 1 ≤ q = omega (arith, q-is, (p.fit.good.flight i in_table).due_from) in
             let to : q ≤ P d + 1 = omega (arith, q-is, placed_to) in
             rw is (turns_more q p.turns next_counts m some to, some, to, p.fit.good.periods_from)
 
-        pub placed_next : {heldTo₂ waits₂ : List ℕ} → heldTo₂ ≡ set heldTo q (el heldTo q + 1)
-            → Turns (P d) f.count f.rows heldTo₂ waits₂ (P d + 1) → Placed d f (set holds i c.hold) heldTo₂ waits₂ (total + c.cost) (i + 1)
+        pub placed_next : {held_to₂ waits₂ : List ℕ} → held_to₂ ≡ set held_to q (el held_to q + 1)
+            → Turns (P d) f.count f.rows held_to₂ waits₂ (P d + 1) → Placed d f (set holds i c.hold) held_to₂ waits₂ (total + c.cost) (i + 1)
         unfolding sum
         placed_next is t = record {
           fit = p.fit;
@@ -172,8 +172,8 @@ module _ {d : Day} {f : Forecasts} {holds heldTo waits : List ℕ} {total i : �
 -- ---- the first and the last
 
 -- nobody waits where nobody is held
-waiting_none : (heldTo : ℕ → ℕ) (capacities : List ℕ) → ((k : ℕ) → heldTo k ≡ 0) → (j : ℕ) → waiting heldTo capacities j ≡ 0
-waiting_none heldTo capacities none j = omega (arith, waiting_most heldTo capacities 0 (λ k. omega (arith, none k)) j)
+waiting_none : (held_to : ℕ → ℕ) (capacities : List ℕ) → ((k : ℕ) → held_to k ≡ 0) → (j : ℕ) → waiting held_to capacities j ≡ 0
+waiting_none held_to capacities none j = omega (arith, waiting_most held_to capacities 0 (λ k. omega (arith, none k)) j)
 
 pub placed_none : {d : Day} {f : Forecasts} {holds : List ℕ} → Fit d f → length holds ≡ N d
     → Placed d f holds (replicate period_row 0) (replicate 784 0) 0 0
@@ -198,7 +198,7 @@ placed_none {d} {f} fit each = record {
   summed = refl;
 }
 
-module _ {d : Day} {f : Forecasts} {holds heldTo waits : List ℕ} {total i : ℕ} (p : Placed d f holds heldTo waits total i) (l : length holds ≤ i) where
+module _ {d : Day} {f : Forecasts} {holds held_to waits : List ℕ} {total i : ℕ} (p : Placed d f holds held_to waits total i) (l : length holds ≤ i) where
   whole : i ≡ N d
   whole = omega (arith, p.each, p.upto)
 

@@ -17,30 +17,30 @@ use Rattle.forecast_plan.proofs.Turns.{none_behind}
 use Rattle.forecast_plan.proofs.Parts.{parted_days, parted_waits, parted_part, part_size, part_at, put_here, put_others}
 
 -- those of the first s forecasts are known to the end, the others before `from`
-pub record Refreshed (p n : ℕ) (rows heldTo waits : List ℕ) (from s : ℕ) : Type 0 where
+pub record Refreshed (p n : ℕ) (rows held_to waits : List ℕ) (from s : ℕ) : Type 0 where
   pub some : 1 ≤ p
   pub first : 1 ≤ from
   pub last : from ≤ p + 1
   pub parted : Parted p n rows waits
-  pub counts : Counts heldTo
+  pub counts : Counts held_to
   pub upto : s ≤ n
-  pub done : (t : ℕ) → t < s → Known (el heldTo) (forecast_at p rows t) (waits_of waits t) (p + 1)
-  pub others : (t : ℕ) → s ≤ t → t < n → Known (el heldTo) (forecast_at p rows t) (waits_of waits t) from
-  pub behind : (t : ℕ) → s ≤ t → t < n → Behind (el heldTo) (forecast_at p rows t) (waits_of waits t) from
+  pub done : (t : ℕ) → t < s → Known (el held_to) (forecast_at p rows t) (waits_of waits t) (p + 1)
+  pub others : (t : ℕ) → s ≤ t → t < n → Known (el held_to) (forecast_at p rows t) (waits_of waits t) from
+  pub behind : (t : ℕ) → s ≤ t → t < n → Behind (el held_to) (forecast_at p rows t) (waits_of waits t) from
 
 -- a row that has the same entries knows as much
-module _ {heldTo : ℕ → ℕ} {capacities : List ℕ} {waits other : ℕ → ℕ} {from : ℕ} (short : length capacities < period_row)
+module _ {held_to : ℕ → ℕ} {capacities : List ℕ} {waits other : ℕ → ℕ} {from : ℕ} (short : length capacities < period_row)
     (same : (k : ℕ) → k < period_row → other k ≡ waits k) where
-  known_same : Known heldTo capacities waits from → Known heldTo capacities other from
+  known_same : Known held_to capacities waits from → Known held_to capacities other from
   known_same known = record { each = λ k some b in_day. same k (omega arith) ∙ known.each k some b in_day }
 
-  behind_same : Behind heldTo capacities waits from → Behind heldTo capacities other from
+  behind_same : Behind held_to capacities waits from → Behind held_to capacities other from
   behind_same behind = record {
     each = λ k b in_day. same k (omega arith) ∙ behind.each k (rw (room_same other waits capacities from (λ j l to. same j (omega arith))) at b) in_day;
   }
 
-module _ {p n : ℕ} {rows heldTo waits : List ℕ} {from : ℕ} where
-  pub refreshed_none : Turns p n rows heldTo waits from → 1 ≤ from → from ≤ p + 1 → 1 ≤ p → Refreshed p n rows heldTo waits from 0
+module _ {p n : ℕ} {rows held_to waits : List ℕ} {from : ℕ} where
+  pub refreshed_none : Turns p n rows held_to waits from → 1 ≤ from → from ≤ p + 1 → 1 ≤ p → Refreshed p n rows held_to waits from 0
   refreshed_none t first last some = record {
     some = some;
     first = first;
@@ -53,8 +53,8 @@ module _ {p n : ℕ} {rows heldTo waits : List ℕ} {from : ℕ} where
     behind = λ s b l. t.behind s l;
   }
 
-  module _ {s : ℕ} (r : Refreshed p n rows heldTo waits from s) where
-    pub refreshed_all : n ≤ s → Turns p n rows heldTo waits (p + 1)
+  module _ {s : ℕ} (r : Refreshed p n rows held_to waits from s) where
+    pub refreshed_all : n ≤ s → Turns p n rows held_to waits (p + 1)
     refreshed_all l = record {
       parted = r.parted;
       counts = r.counts;
@@ -67,8 +67,8 @@ module _ {p n : ℕ} {rows heldTo waits : List ℕ} {from : ℕ} where
       days = ap length is ∙ parted_days r.parted l
 
       -- the next forecast's row
-      pub refreshed_one : Turn heldTo capacities (take (s * 98 + 98 - s * 98) (drop (s * 98) waits)) from
-          × Behind (el heldTo) capacities (el (take (s * 98 + 98 - s * 98) (drop (s * 98) waits))) from
+      pub refreshed_one : Turn held_to capacities (take (s * 98 + 98 - s * 98) (drop (s * 98) waits)) from
+          × Behind (el held_to) capacities (el (take (s * 98 + 98 - s * 98) (drop (s * 98) waits))) from
           × (1 ≤ from) × (from ≤ length capacities + 1) × (1 ≤ length capacities)
       refreshed_one = rw (part_size s) (
         record {
@@ -86,8 +86,8 @@ module _ {p n : ℕ} {rows heldTo waits : List ℕ} {from : ℕ} where
           short : length capacities < period_row
           short = omega (arith, days, r.parted.periods)
 
-      pub refreshed_next : {part : List ℕ} → Turn heldTo capacities part (length capacities + 1)
-          → Refreshed p n rows heldTo (put_mid (s * 98) (s * 98 + 98 - s * 98) waits part) from (s + 1)
+      pub refreshed_next : {part : List ℕ} → Turn held_to capacities part (length capacities + 1)
+          → Refreshed p n rows held_to (put_mid (s * 98) (s * 98 + 98 - s * 98) waits part) from (s + 1)
       refreshed_next {part} t = rw (part_size s) (record {
         some = r.some;
         first = r.first;

@@ -38,9 +38,9 @@ abbrev pub left_over : (waiting capacity : ℕ) → ℕ
 left_over waiting capacity = waiting - capacity
 
 -- "waiting at j is those held to j plus left over from j−1"; nobody waits before period 1, so that left over is "0 before period 1"
-unfoldable pub waiting : (heldTo : ℕ → ℕ) (capacities : List ℕ) (j : ℕ) → ℕ
-waiting heldTo capacities zero = 0
-waiting heldTo capacities (suc j) = heldTo (suc j) + left_over (waiting heldTo capacities j) (of_period capacities j)
+unfoldable pub waiting : (held_to : ℕ → ℕ) (capacities : List ℕ) (j : ℕ) → ℕ
+waiting held_to capacities zero = 0
+waiting held_to capacities (suc j) = held_to (suc j) + left_over (waiting held_to capacities j) (of_period capacities j)
 
 -- "the first period from its held one on where waiting is below capacity, else .. the closing period"
 unfoldable pub first_room : (waits : ℕ → ℕ) (capacities : List ℕ) (q : ℕ) → ℕ
@@ -48,8 +48,8 @@ unfolding first_of
 first_room waits capacities q = q + first_of (length capacities + 1 - q) (λ t. ltb (waits (q + t)) (of_period capacities (q + t)))
 
 -- the period in which a flight lands that is held to period q, below flights held as `heldTo` says
-abbrev pub lands : (heldTo : ℕ → ℕ) (capacities : List ℕ) (q : ℕ) → ℕ
-lands heldTo capacities q = first_room (waiting heldTo capacities) capacities q
+abbrev pub lands : (held_to : ℕ → ℕ) (capacities : List ℕ) (q : ℕ) → ℕ
+lands held_to capacities q = first_room (waiting held_to capacities) capacities q
 
 -- what hold h costs flight i if it lands in period k: "A period in the air costs K × rate"
 abbrev pub cost_if : Day → (air_factor i h k : ℕ) → ℕ

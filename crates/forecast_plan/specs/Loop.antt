@@ -31,39 +31,39 @@ pub record Parted (p n : ℕ) (rows waits : List ℕ) : Type 0 where
   pub sizes : length waits ≡ 8 * period_row
 
 -- a row in which the flights held to each period are counted
-pub record Counts (heldTo : List ℕ) : Type 0 where
-  pub places : length heldTo ≡ period_row
-  pub few : (k : ℕ) → el heldTo k ≤ most_flights
+pub record Counts (held_to : List ℕ) : Type 0 where
+  pub places : length held_to ≡ period_row
+  pub few : (k : ℕ) → el held_to k ≤ most_flights
 
 -- who waits under one forecast is known for the periods before `from`
-pub record Known (heldTo : ℕ → ℕ) (capacities : List ℕ) (waits : ℕ → ℕ) (from : ℕ) : Type 0 where
-  pub each : (k : ℕ) → 1 ≤ k → k < from → k ≤ length capacities → waits k ≡ waiting heldTo capacities k
+pub record Known (held_to : ℕ → ℕ) (capacities : List ℕ) (waits : ℕ → ℕ) (from : ℕ) : Type 0 where
+  pub each : (k : ℕ) → 1 ≤ k → k < from → k ≤ length capacities → waits k ≡ waiting held_to capacities k
 
 -- and behind the first period from `from` on with room: one flight more is held to `from`, and lands there
-pub record Behind (heldTo : ℕ → ℕ) (capacities : List ℕ) (waits : ℕ → ℕ) (from : ℕ) : Type 0 where
-  pub each : (k : ℕ) → first_room waits capacities from < k → k ≤ length capacities → waits k ≡ waiting heldTo capacities k
+pub record Behind (held_to : ℕ → ℕ) (capacities : List ℕ) (waits : ℕ → ℕ) (from : ℕ) : Type 0 where
+  pub each : (k : ℕ) → first_room waits capacities from < k → k ≤ length capacities → waits k ≡ waiting held_to capacities k
 
 -- a row that stays as it was behind period j
 pub record Stays (before after : List ℕ) (j : ℕ) : Type 0 where
   pub each : (k : ℕ) → j < k → el after k ≡ el before k
 
 -- the rows of one forecast: how many are held to each period, and who waits there as far as it is known
-pub record Turn (heldTo capacities waits : List ℕ) (from : ℕ) : Type 0 where
+pub record Turn (held_to capacities waits : List ℕ) (from : ℕ) : Type 0 where
   pub periods : length capacities ≤ most_periods
-  pub counts : Counts heldTo
+  pub counts : Counts held_to
   pub sizes : length waits ≡ period_row
-  pub known : Known (el heldTo) capacities (el waits) from
+  pub known : Known (el held_to) capacities (el waits) from
 
 -- who waits under forecast s, in a row that has a part for each forecast
 abbrev pub waits_of : List ℕ → ℕ → ℕ → ℕ
 waits_of waits s k = el waits (s * period_row + k)
 
 -- the rows of all forecasts, of p periods each: with `from` past the last period all is known
-pub record Turns (p n : ℕ) (rows heldTo waits : List ℕ) (from : ℕ) : Type 0 where
+pub record Turns (p n : ℕ) (rows held_to waits : List ℕ) (from : ℕ) : Type 0 where
   pub parted : Parted p n rows waits
-  pub counts : Counts heldTo
-  pub known : (s : ℕ) → s < n → Known (el heldTo) (forecast_at p rows s) (waits_of waits s) from
-  pub behind : (s : ℕ) → s < n → Behind (el heldTo) (forecast_at p rows s) (waits_of waits s) from
+  pub counts : Counts held_to
+  pub known : (s : ℕ) → s < n → Known (el held_to) (forecast_at p rows s) (waits_of waits s) from
+  pub behind : (s : ℕ) → s < n → Behind (el held_to) (forecast_at p rows s) (waits_of waits s) from
 
 -- a row of periods in the air by weight, for one forecast: from `due` on, what a flight held to a period waits in the air is added
 pub record Adding (capacities waits : List ℕ) (weight due : ℕ) (air₀ air : List ℕ) (j : ℕ) : Type 0 where
@@ -121,11 +121,11 @@ pub record Ready (f : Flight) (factor p : ℕ) (weights rows waits : List ℕ) :
   pub reach : f.due ≤ latest_of p f
 
 -- the flights above table place i have the plan's holds, and are counted and summed
-pub record Placed (d : Day) (f : Forecasts) (holds heldTo waits : List ℕ) (total i : ℕ) : Type 0 where
+pub record Placed (d : Day) (f : Forecasts) (holds held_to waits : List ℕ) (total i : ℕ) : Type 0 where
   pub fit : Fit d f
   pub each : length holds ≡ N d
   pub upto : i ≤ N d
-  pub turns : Turns (P d) f.count f.rows heldTo waits (P d + 1)
-  pub counted : (k : ℕ) → k < period_row → el heldTo k ≡ held d (forecast_holds d f) i k
+  pub turns : Turns (P d) f.count f.rows held_to waits (P d + 1)
+  pub counted : (k : ℕ) → k < period_row → el held_to k ≡ held d (forecast_holds d f) i k
   pub filled : (j : ℕ) → j < i → hold holds j ≡ hold (forecast_holds d f) j
   pub summed : total ≡ sum i (λ j. expected d f (forecast_holds d f) j (hold (forecast_holds d f) j))

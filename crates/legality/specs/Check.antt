@@ -17,6 +17,6 @@ unfolding walked
 plan_check d holds = cond (valid d) (cond (eqb (length holds) (N d)) (walked d holds) (Refused (BadLength (N d)))) (Refused BadDay)
 
 -- how a call goes on: with a legal plan's total, or with the refusal
-abbrev pub onPlan {ℓ} : {A : Type ℓ} → PlanCheck → (ℕ → A) → (Answer → A) → A
-onPlan (Legal total) legal refused = legal total
-onPlan (Refused answer) legal refused = refused answer
+abbrev pub on_plan {ℓ} : {A : Type ℓ} → PlanCheck → (ℕ → A) → (Answer → A) → A
+on_plan (Legal total) legal refused = legal total
+on_plan (Refused answer) legal refused = refused answer

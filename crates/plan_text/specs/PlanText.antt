@@ -5,7 +5,7 @@ use Rattle.answers.specs.declared.Answer.{Answer}
 use Rattle.text.specs.Digits.{ended, line, line_end}
 use Rattle.text.specs.Writing.{text_answer, text_after}
 use Rattle.day.specs.Day.{Day, number_of, due_of, flight_at, flight_count, hold_cost, hold, land_of, total_of}
-use Rattle.legality.specs.Check.{plan_check, onPlan}
+use Rattle.legality.specs.Check.{plan_check, on_plan}
 
 -- "flight,due,lands,hold,cost" and the end byte
 unfoldable pub plan_names : List ℕ
@@ -33,9 +33,9 @@ plan_text flights holds =
 -- what is found of the day and the hold row comes first (6, 7 for the hold row, 10), "a text's length comes last"
 unfoldable pub plan_text_answer : Day → List ℕ → List ℕ → ℕ → Answer
 plan_text_answer d holds buffer place =
-    onPlan (plan_check d holds) (λ total. text_answer buffer place (plan_text d.flights holds)) (λ refusal. refusal)
+    on_plan (plan_check d holds) (λ total. text_answer buffer place (plan_text d.flights holds)) (λ refusal. refusal)
 
 -- the buffer afterwards
 unfoldable pub plan_text_after : Day → List ℕ → List ℕ → ℕ → List ℕ
 plan_text_after d holds buffer place =
-    onPlan (plan_check d holds) (λ total. text_after buffer place (plan_text d.flights holds)) (λ refusal. buffer)
+    on_plan (plan_check d holds) (λ total. text_after buffer place (plan_text d.flights holds)) (λ refusal. buffer)

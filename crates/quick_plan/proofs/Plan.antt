@@ -10,7 +10,7 @@ use native.Mathlib.Nat.{zero-add, suc-add}
 use lib.ListN.{length}
 use lib.Dec.{T, leb, ltb, eqb, ltb→lt, lt→ltb, leb→le, le→leb, eqb→eq, eqb_refl, T_not}
 use Rattle.assignment.specs.Sum.{gate, count}
-use Rattle.assignment.proofs.Rows.{row_at, row-length}
+use Rattle.assignment.proofs.Rows.{row_at, row_length}
 use Rattle.assignment.proofs.Tests.{and_t, T_and, test, eq?, is_true as on, is_false as off, same_test as same, or_t, T-or-l, T-or-r}
 use Rattle.assignment.proofs.Sums.{sum_ext}
 use Rattle.day.specs.Day.{Day, P, N, due, capacity, takes, counted, land, valid}
@@ -170,7 +170,7 @@ module _ (d : Day) (next : ℕ → ℕ → ℕ) (v : valid d ≡ true) where
 
   pub quick_length : length (quick_by d next) ≡ N d
   unfolding quick_by
-  quick_length = row-length (N d) (λ i. lands d next (P d) i - due d i)
+  quick_length = row_length (N d) (λ i. lands d next (P d) i - due d i)
 
   -- no flight is limited
   module _ (applies : first_jump_or_limit d.flights ≡ N d) where

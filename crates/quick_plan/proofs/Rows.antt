@@ -12,7 +12,7 @@ use lib.Dec.{T, leb, eqb, leb→le}
 use borrow.Author.Tests.{eq-eqb, ne_eqb}
 use Rattle.assignment.specs.Sum.{gate}
 use Rattle.assignment.specs.Rows.{row}
-use Rattle.assignment.proofs.Rows.{row_at, row-length}
+use Rattle.assignment.proofs.Rows.{row_at, row_length}
 use Rattle.assignment.proofs.Tests.{and_t, eq?, is_false as off}
 use Rattle.assignment.proofs.Sums.{sum_ext}
 use Rattle.day.specs.Day.{Day, P, N, due, capacity, land, valid}
@@ -108,7 +108,7 @@ module _ (d : Day) (costs : ℕ → ℕ) (j : ℕ) (p : j ≤ P d) where
 module _ (d : Day) (next : ℕ → ℕ → ℕ) (v : valid d ≡ true) where
   pub row_to_length : (j : ℕ) → j ≤ P d → length (row_to d next j) ≡ N d
   unfolding row_to
-  row_to_length zero p = row-length (N d) (at_closing d)
+  row_to_length zero p = row_length (N d) (at_closing d)
   row_to_length (suc j) p = land_all_length d (next (suc j)) (suc j) p (capacity d (suc j)) (row_to d next j) ∙ row_to_length j (omega arith)
 
   standing : (j k : ℕ) → k < N d → get_or (row_to d next j) k 0 ≡ lands d next j k - due d k → land d (row_to d next j) k ≡ lands d next j k
@@ -138,6 +138,6 @@ module _ (d : Day) (next : ℕ → ℕ → ℕ) (v : valid d ≡ true) where
   pub row_to_quick : row_to d next (P d) ≡ quick_by d next
   unfolding quick_by
   row_to_quick = ext_get_or 0 (row_to d next (P d)) (row (N d) (λ i. lands d next (P d) i - due d i))
-      (row_to_length (P d) (omega arith) ∙ sym (row-length (N d) (λ i. lands d next (P d) i - due d i)))
+      (row_to_length (P d) (omega arith) ∙ sym (row_length (N d) (λ i. lands d next (P d) i - due d i)))
       (λ i l. let o : i < (N d) = omega (arith, row_to_length (P d) (omega arith)) in
       row_to_at (P d) (omega arith) i o ∙ sym (row_at (N d) (λ i. lands d next (P d) i - due d i) i 0 o))

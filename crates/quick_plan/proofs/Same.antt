@@ -9,7 +9,7 @@ use native.Mathlib.Omega.{arith}
 use Rattle.assignment.specs.Sum.{gate, sum}
 use Rattle.assignment.specs.Rows.{row}
 use Rattle.assignment.proofs.Sums.{sum_ext}
-use Rattle.assignment.proofs.Rows.{row-ext}
+use Rattle.assignment.proofs.Rows.{row_ext}
 use Rattle.day.specs.Day.{Day, day, unlimited, P, N, due, capacity, valid}
 use Rattle.day.proofs.Curfew.{open_valid}
 use Rattle.day.proofs.Valid.{valid_means, means_valid}
@@ -58,7 +58,7 @@ module _ (capacities flights others : List ℕ) (closing closing₂ : ℕ) (next
   pub quick_same : quick_by d next ≡ quick_by e other
   unfolding quick_by
   quick_same =
-      row-ext (N d) (λ i. lands d next (P d) i - due d i) (λ i. lands e other (P e) i - due e i) (λ i l. rw (lands_same (P d) (omega arith) i l, same.dues i l))
+      row_ext (N d) (λ i. lands d next (P d) i - due d i) (λ i. lands e other (P e) i - due e i) (λ i l. rw (lands_same (P d) (omega arith) i l, same.dues i l))
       ∙ ap (λ n. row n (λ i. lands e other (P e) i - due e i)) same.count
 
 -- so the closing line changes neither who is eligible nor the plan

@@ -15,8 +15,8 @@ less a b next = ltb a b || eqb a b && next
 
 -- with these next costs, flight k goes before flight i: its own is higher; "Ties: earlier due, then lower table place." Of flights that
 -- wait, the one that is due earlier is the one "held longest" (#105).
-unfoldable pub before : (flights : List ℕ) (costK costI k i : ℕ) → Bool
-before flights costK costI k i = less costI costK (less (due_of flights k) (due_of flights i) (ltb k i))
+unfoldable pub before : (flights : List ℕ) (cost_k cost_i k i : ℕ) → Bool
+before flights cost_k cost_i k i = less cost_i cost_k (less (due_of flights k) (due_of flights i) (ltb k i))
 
 -- the same where `costs` has the next cost of every flight in the period
 unfoldable pub ahead_of : (flights : List ℕ) (costs : ℕ → ℕ) → ℕ → ℕ → Bool
