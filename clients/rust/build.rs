@@ -1,4 +1,4 @@
-// Links the archive that `rt staticlib desk` writes, or the libdesk.a in the folder that the environment variable DESK_FOLDER
+// Links the archive that `tools/build` writes, or the libdesk.a in the folder that the environment variable DESK_FOLDER
 // names.
 fn main() {
     println!("cargo:rerun-if-env-changed=DESK_FOLDER");
