@@ -6,7 +6,7 @@ usage: tools/snake_names.py [--list]    at the top of the repository, once, righ
 A name is turned if this repository defines it (in a file of specs/, of proofs/ or in a Proof.antt, at the top or inside a module, a
 record, a where or a let), it begins with a small letter, and it has a dash or a capital letter in it. Names of the kit's library, of
 goals and of what the source names keep their spelling. Must-fail edits get the same names. --list prints the table and changes
-nothing. Names that would fall together are printed and stop it, unless HAND below says what they become.
+nothing, and prints the names that would fall together too: HAND and TURNED below say what those become.
 """
 
 import glob

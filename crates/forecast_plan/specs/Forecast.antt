@@ -47,7 +47,7 @@ unfoldable pub first_room : (waits : ℕ → ℕ) (capacities : List ℕ) (q : �
 unfolding first_of
 first_room waits capacities q = q + first_of (length capacities + 1 - q) (λ t. ltb (waits (q + t)) (of_period capacities (q + t)))
 
--- the period in which a flight lands that is held to period q, below flights held as `heldTo` says
+-- the period in which a flight lands that is held to period q, below flights held as `held_to` says
 abbrev pub lands : (held_to : ℕ → ℕ) (capacities : List ℕ) (q : ℕ) → ℕ
 lands held_to capacities q = first_room (waiting held_to capacities) capacities q
 
