@@ -365,7 +365,7 @@ def turn_file(path, names, contracts, crate):
         kind = kind.strip()
         if name.endswith("-spec") or "statement M" in kind or name in moves or name in types or name in facts:
             continue
-        m = re.match(r"tie\.(invariant|decreases)_([\w-]+)", kind)
+        m = re.match(r"tie\.(invariant|decreases)[-_]([\w-]+)", kind)
         if m:
             loop = loops.get(same(m.group(2)))
             if not loop:
