@@ -1,16 +1,12 @@
-// What the calls answer, and the number and two values that documents 01 and 02 give for each case.
+// Why a call is turned down, and the number and two values that documents 01 and 02 give for each answer.
 #![tactic(auto)]
 
 ghost use Rattle.std.specs.Prelude.{◌≡◌};
-ghost use Rattle.answers.specs.Answers.{code, code_of};
+ghost use Rattle.answers.specs.Answers.{code, refusal_code, code_of};
 
-// What a call answers. Lines are named by the offset of their first byte, flights by their table place.
+// Why a call is turned down. Lines are named by the offset of their first byte, flights by their table place.
 #[derive(Clone, Copy)]
-pub enum Answer {
-    Read { periods: usize, flights: usize },
-    Planned { total: usize },
-    Written { bytes: usize },
-    Done,
+pub enum Refusal {
     TooLong,
     BadForm { line: usize },
     OutOfRange { line: usize },
@@ -28,7 +24,7 @@ pub enum Answer {
     BadPlanText { line: usize },
 }
 
-// The answer as documents 01 and 02 number it.
+// An answer as documents 01 and 02 number it.
 #[repr(C)]
 #[derive(Clone, Copy)]
 pub struct Code {
@@ -37,38 +33,55 @@ pub struct Code {
     pub second: u64,
 }
 
-fn coded(number: u64, first: usize, second: usize) -> Code
-    ensures { result ≡ code number first second }
-{
-    Code {
-        number,
-        first: first as u64,
-        second: second as u64,
+impl Code {
+    fn new(number: u64, first: usize, second: usize) -> Code
+        ensures { result ≡ code number first second }
+    {
+        Code {
+            number,
+            first: first as u64,
+            second: second as u64,
+        }
+    }
+
+    // An accepted call, with the two values that it returns.
+    pub fn accepted(first: usize, second: usize) -> Code
+        ensures { result ≡ code 0 first second }
+    {
+        Code::new(0, first, second)
     }
 }
 
-pub fn code_of(answer: Answer) -> Code
+impl From<Refusal> for Code {
+    ghost from_gives = { λ refusal given. given ≡ refusal_code refusal };
+
+    fn from(refusal: Refusal) -> Code {
+        match refusal {
+            Refusal::TooLong => Code::new(1, 8192, 0),
+            Refusal::BadForm { line } => Code::new(2, line, 0),
+            Refusal::OutOfRange { line } => Code::new(3, line, 0),
+            Refusal::NumberUsed { line } => Code::new(4, line, 0),
+            Refusal::BadCount { line } => Code::new(5, line, 0),
+            Refusal::BadDay => Code::new(6, 0, 0),
+            Refusal::BadLength { needed } => Code::new(7, needed, 0),
+            Refusal::JumpOrLimit { place } => Code::new(8, place, 0),
+            Refusal::NoPlan { first, last } => Code::new(9, first, last),
+            Refusal::NotLegal { place } => Code::new(10, place, 0),
+            Refusal::NoSuchPeriod { periods } => Code::new(11, periods, 0),
+            Refusal::BadForecasts => Code::new(12, 0, 0),
+            Refusal::BadTerms => Code::new(13, 0, 0),
+            Refusal::BadGrowth => Code::new(14, 0, 0),
+            Refusal::BadPlanText { line } => Code::new(15, line, 0),
+        }
+    }
+}
+
+// The answer of a call that returns one value, a total or how many bytes were written, where it is accepted.
+pub fn code_of(answer: Result<usize, Refusal>) -> Code
     ensures { result ≡ code_of answer }
 {
     match answer {
-        Answer::Read { periods, flights } => coded(0, periods, flights),
-        Answer::Planned { total } => coded(0, total, 0),
-        Answer::Written { bytes } => coded(0, bytes, 0),
-        Answer::Done => coded(0, 0, 0),
-        Answer::TooLong => coded(1, 8192, 0),
-        Answer::BadForm { line } => coded(2, line, 0),
-        Answer::OutOfRange { line } => coded(3, line, 0),
-        Answer::NumberUsed { line } => coded(4, line, 0),
-        Answer::BadCount { line } => coded(5, line, 0),
-        Answer::BadDay => coded(6, 0, 0),
-        Answer::BadLength { needed } => coded(7, needed, 0),
-        Answer::JumpOrLimit { place } => coded(8, place, 0),
-        Answer::NoPlan { first, last } => coded(9, first, last),
-        Answer::NotLegal { place } => coded(10, place, 0),
-        Answer::NoSuchPeriod { periods } => coded(11, periods, 0),
-        Answer::BadForecasts => coded(12, 0, 0),
-        Answer::BadTerms => coded(13, 0, 0),
-        Answer::BadGrowth => coded(14, 0, 0),
-        Answer::BadPlanText { line } => coded(15, line, 0),
+        Ok(value) => Code::accepted(value, 0),
+        Err(refusal) => Code::from(refusal),
     }
 }

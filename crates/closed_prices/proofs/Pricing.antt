@@ -3,100 +3,55 @@
 use mathlib.Core.Path.{◌≡◌, refl, sym, ap, ◌∙◌}
 use mathlib.Core.Logic.{◌⊎◌, inl, inr, ◌≢◌}
 use mathlib.Core.List.{List}
-use Prim.Native.Nat.{ℕ, ◌+◌, ◌-◌, ◌*◌, ◌^◌, ◌≤◌, ◌<◌}
+use Prim.Native.Nat.{ℕ, ◌+◌, ◌-◌, ◌≤◌, ◌<◌}
 use native.Mathlib.Omega.{arith}
 use lib.ListN.{get_or, length, set, length-set}
 use Rattle.assignment.specs.Moves.{Moved}
 use Rattle.assignment.proofs.Tests.{eq?, lt?}
-use Rattle.day.specs.Day.{Day, P, N, most_periods, most_flights, width, column, flight_at, flight_count, of_period, hold_cost, latest_of, cost, capacity, hold, land}
+use Rattle.day.specs.declared.Flight.{Flight}
+use Rattle.day.specs.Day.{Day, P, N, most_periods, column, flight_at, flight_count, of_period, hold_cost, latest_of, cost, capacity, hold, land}
+use Rattle.day.proofs.Flights.{due_read}
 use Rattle.day.proofs.Costs.{period_in, period_out, period_moved}
-use Rattle.closed_prices.specs.ClosedPrices.{paid, cost_in, Reaches, CanPay, Shortfall, Sets, LeastPrice, CanPrice, Priced}
+use Rattle.closed_prices.specs.ClosedPrices.{paid, cost_in, Reaches, CanPay, Shortfall, Sets, LeastPrice, CanPrice}
 
 -- ---- shortfall
 
-module _ {p : ℕ} {flights holds prices : List ℕ} {i k : ℕ} (c : CanPay p flights holds prices k) (l : i < flight_count flights) where
-  pub pay_stands : ((i + 1) * width ≤ length flights) × (p ≤ most_periods) × (i < length holds) × (i < most_flights)
-  pay_stands = omega (arith, c.valid.whole, c.valid.periods_to, c.holds_row, c.valid.flights_to)
+module _ {p : ℕ} {flights holds prices : List ℕ} {i k : ℕ} {f : Flight} (c : CanPay p flights holds prices k) (l : i < flight_count flights) (is : f ≡ flight_at flights i) where
+  due_is : f.due ≡ column 1 flights i
+  due_is = due_read f flights i is
 
-  pub out_early : {due₁ : ℕ} → due₁ ≡ column 1 flights i → k < due₁ → Shortfall p flights holds prices i k 0
-  out_early e b = record { high = λ w. absurd (omega (arith, w.from)); low = inl refl }
+  pub out_early : k < f.due → Shortfall p flights holds prices i k 0
+  out_early b = record { high = λ w. absurd (omega (arith, due_is, w.from)); low = inl refl }
 
-  pub out_late : {last : ℕ} → last ≡ latest_of p (flight_at flights i) → last < k → Shortfall p flights holds prices i k 0
-  out_late e b = record { high = λ w. absurd (omega (arith, w.limited)); low = inl refl }
+  module _ {last : ℕ} (last_is : last ≡ latest_of p f) where
+    latest : last ≡ latest_of p (flight_at flights i)
+    latest = last_is ∙ ap (latest_of p) is
 
-  module _ {due₁ last h : ℕ} (due_is : due₁ ≡ column 1 flights i) (from : due₁ ≤ k) (last_is : last ≡ latest_of p (flight_at flights i)) (to : k ≤ last) (h-is : h ≡ get_or holds i 0) where
-    pub pay_hold : (h < 2 ^ 32) × (due₁ + h ≤ most_periods + 1) × (k - due₁ < 2 ^ 32)
-    pay_hold = omega (arith, due_is, h-is, c.few i l, c.valid.periods_to, c.period)
+    pub out_late : last < k → Shortfall p flights holds prices i k 0
+    out_late b = record { high = λ w. absurd (omega (arith, latest, w.limited)); low = inl refl }
 
-    reaches : Reaches p flights i k
-    reaches = record { from = omega arith; limited = omega arith }
-
-    module _ {a q : ℕ} (a-is : a ≡ hold_cost (flight_at flights i) h) (q-is : q ≡ of_period prices (due₁ + h)) where
+    module _ {a q b : ℕ} (from : f.due ≤ k) (to : k ≤ last) (a-is : a ≡ hold_cost f (hold holds i)) (q-is : q ≡ of_period prices (f.due + hold holds i)) (b-is : b ≡ hold_cost f (k - f.due)) where
       pays_is : a + q ≡ paid flights holds prices i
-      pays_is = rw (a-is, q-is, h-is, due_is)
+      pays_is = omega (arith, a-is ∙ ap (λ g. hold_cost g (hold holds i)) is, q-is ∙ ap (λ z. of_period prices (z + hold holds i)) due_is)
 
-      pub pay_small : a + q ≤ 4294967295
-      pay_small = omega (arith, pays_is, c.low i l)
+      costs_is : b ≡ cost_in flights i k
+      costs_is = b-is ∙ ap (λ z. hold_cost f (k - z)) due_is ∙ ap (λ g. hold_cost g (k - column 1 flights i)) is
 
-      module _ {b : ℕ} (b-is : b ≡ hold_cost (flight_at flights i) (k - due₁)) where
-        costs_is : b ≡ cost_in flights i k
-        costs_is = rw due_is at b-is
-
-        pub pay_less : a + q ≤ b → Shortfall p flights holds prices i k 0
-        pay_less e = record { high = λ _. omega (arith, pays_is, costs_is); low = inl refl }
-
-        pub pay_more : b < a + q → Shortfall p flights holds prices i k ((a + q) - b)
-        pay_more e = record {
-          high = λ _. omega (arith, pays_is, costs_is);
-          low = inr (reaches, omega (arith, pays_is, costs_is));
-        }
+      pub pay_rest : Shortfall p flights holds prices i k ((a + q) - b)
+      pay_rest = record { high = λ _. omega (arith, pays_is, costs_is); low = low }
+        where
+          low : ((a + q) - b ≡ 0) ⊎ (Reaches p flights i k × (cost_in flights i k + ((a + q) - b) ≡ paid flights holds prices i))
+          low = elim (lt? b (a + q)) [
+            | inl more ↦ inr (record { from = omega (arith, due_is); limited = omega (arith, latest) }, omega (arith, pays_is, costs_is))
+            | inr less ↦ inl (omega arith)
+          ]
 
 -- ---- least_price
 
 -- the price of k is the least for the flights before i
-pub record Pricing (p : ℕ) (flights holds prices : List ℕ) (k count price i : ℕ) : Type 0 where
-  pub can : CanPay p flights holds prices k
-  pub count_is : count ≡ flight_count flights
-  pub upto : i ≤ count
+pub record Pricing (p : ℕ) (flights holds prices : List ℕ) (k price i : ℕ) : Type 0 where
   pub high : (o : ℕ) → o < i → Reaches p flights o k → paid flights holds prices o ≤ cost_in flights o k + price
   pub low : (price ≡ 0) ⊎ Sets p flights holds prices i k price
-
-pub pricing_start : {p : ℕ} {flights holds prices : List ℕ} {k count : ℕ} → CanPay p flights holds prices k → count ≡ flight_count flights
-    → Pricing p flights holds prices k count 0 0
-pricing_start c e = record { can = c; count_is = e; upto = omega arith; high = λ o b. absurd (omega arith); low = inl refl }
-
-module _ {p : ℕ} {flights holds prices : List ℕ} {k count price i : ℕ} (s : Pricing p flights holds prices k count price i) where
-  pub pricing_end : count ≤ i → LeastPrice p flights holds prices k price
-  pricing_end l = let e : i ≡ flight_count flights = omega (arith, s.upto, s.count_is) in record { high = λ o b. s.high o (omega arith); low = rw e at s.low }
-
-  module _ (l : i < count) where
-    pub pricing_in : (i < flight_count flights) × (i < most_flights)
-    pricing_in = omega (arith, s.count_is, s.can.valid.flights_to)
-
-    later : {r : ℕ} → (r ≡ 0) ⊎ Sets p flights holds prices i k r → (r ≡ 0) ⊎ Sets p flights holds prices (i + 1) k r
-    later h = elim h [ inl e ↦ inl e | inr a ↦ inr (record { by = a.by; who = omega (arith, a.who); reaches = a.reaches; tie = a.tie }) ]
-
-    module _ {r : ℕ} (h : Shortfall p flights holds prices i k r) where
-      higher : (v : ℕ) → price ≤ v → r ≤ v → (o : ℕ) → o < i + 1 → Reaches p flights o k → paid flights holds prices o ≤ cost_in flights o k + v
-      higher v a b o c w = elim (eq? o i) [
-        | inl e ↦ rw e (omega (arith, h.high (rw e at w)))
-        | inr e ↦ omega (arith, s.high o (omega arith) w)
-      ]
-
-      pub pricing_keep : r ≤ price → Pricing p flights holds prices k count price (i + 1)
-      pricing_keep e = record { can = s.can; count_is = s.count_is; upto = omega arith; high = higher price (omega arith) e; low = later s.low }
-
-      pub pricing_up : price < r → Pricing p flights holds prices k count r (i + 1)
-      pricing_up e = record {
-        can = s.can;
-        count_is = s.count_is;
-        upto = omega arith;
-        high = higher r (omega arith) (omega arith);
-        low = elim h.low [
-          | inl none ↦ inl none
-          | inr a ↦ inr (record { by = i; who = omega arith; reaches = a.0; tie = a.1 })
-        ];
-      }
 
 -- ---- price_closed
 
@@ -120,13 +75,7 @@ pub record Closing (d : Day) (holds prices₀ prices : List ℕ) (at : ℕ) : Ty
   pub same : (k : ℕ) → 0 < capacity d k → of_period prices k ≡ of_period prices₀ k
   pub least : (k : ℕ) → 1 ≤ k → k ≤ at → capacity d k ≡ 0 → LeastPrice (P d) d.flights holds prices₀ k (of_period prices k)
 
-pub closing_start : {d : Day} {holds prices : List ℕ} → CanPrice d holds prices → Closing d holds prices prices 0
-closing_start c = record { can = c; same_row = refl; upto = omega arith; same = λ k _. refl; least = λ k a b. absurd (omega arith) }
-
 module _ {d : Day} {holds prices₀ prices : List ℕ} {at : ℕ} (s : Closing d holds prices₀ prices at) where
-  pub closing_end : length d.capacities ≤ at → Priced d holds prices₀ prices
-  closing_end l = record { same = s.same; least = λ k a b. s.least k a (omega arith) }
-
   module _ (l : at < length d.capacities) where
     pub closing_room : (at < length prices) × (at < most_periods) × (at + 1 ≤ P d)
     closing_room = omega (arith, s.same_row, s.can.prices_row, (s.can.can 0 (omega arith)).valid.periods_to)

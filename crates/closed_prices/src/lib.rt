@@ -5,7 +5,7 @@ ghost use Rattle.std.specs.Prelude.{◌<◌};
 ghost use Rattle.day.specs.Day.{lent, unlimited, flight_count};
 ghost use Rattle.closed_prices.specs.ClosedPrices.{CanPay, Shortfall, LeastPrice, CanPrice, Priced};
 
-use day::{flight_at, flight_count, hold_cost, latest_of, of_period, wide};
+use day::{flight_at, flight_count, hold_cost, latest_of, of_period};
 
 // How much the price of period k must be for the flight at table place i, that it gains nothing by landing there. The day has so many periods.
 fn shortfall(
@@ -21,20 +21,13 @@ fn shortfall(
     ensures { Shortfall periods flights.now holds.now prices.now i k result }
 {
     let f = flight_at(flights, i);
-    let due = wide(f.due);
-    if k < due {
+    let due = f.due as usize;
+    if k < due || latest_of(periods, f) < k {
         return 0;
     }
-    if latest_of(periods, f) < k {
-        return 0;
-    }
-    let hold = wide(holds[i]);
+    let hold = holds[i] as usize;
     let pays = hold_cost(f, hold) + of_period(prices, due + hold);
-    let costs = hold_cost(f, k - due);
-    if pays <= costs {
-        return 0;
-    }
-    pays - costs
+    pays.saturating_sub(hold_cost(f, k - due))
 }
 
 // The least price of period k that keeps every flight where it lands.
@@ -42,15 +35,9 @@ fn least_price(periods: usize, flights: &[u32], holds: &[u32], prices: &[u32], k
     requires { CanPay periods flights.now holds.now prices.now k }
     ensures { LeastPrice periods flights.now holds.now prices.now k result }
 {
-    let count = flight_count(flights);
     let mut price = 0;
-    let mut i = 0;
-    while i < count {
-        let needed = shortfall(periods, flights, holds, prices, i, k);
-        i += 1;
-        if price < needed {
-            price = needed;
-        }
+    for i in 0..flight_count(flights) {
+        price = price.max(shortfall(periods, flights, holds, prices, i, k));
     }
     price
 }
@@ -62,12 +49,9 @@ pub fn price_closed(capacities: &[u32], flights: &[u32], holds: &[u32], prices: 
     ensures { Priced (lent capacities.entry flights.entry unlimited) holds.now prices.old prices.new }
 {
     let periods = capacities.len();
-    let mut at = 0;
-    while at < periods {
-        let here = at;
-        at += 1;
-        if capacities[here] == 0 {
-            prices[here] = least_price(periods, flights, holds, prices, at) as u32;
+    for (at, capacity) in capacities.iter().enumerate() {
+        if *capacity == 0 {
+            prices[at] = least_price(periods, flights, holds, prices, at + 1) as u32;
         }
     }
 }

@@ -8,7 +8,7 @@ use Prim.Native.Nat.{ℕ, suc, ◌+◌, ◌-◌, ◌*◌, ◌≤◌, ◌<◌}
 use native.Mathlib.Numerals.{add-one}
 use native.Mathlib.Omega.{arith}
 use lib.ListN.{length, get_or, set, take, drop, length-append, length-set, length-drop, get_or-append}
-use lib.Seq.{take_all, take-length, get_or-set_same, get_or-set_other}
+use lib.Seq.{take_all, get_or-set_same, get_or-set_other}
 use borrow.Author.Tests.{lt-ltb, le-ltb, le-leb, lt-leb}
 use Rattle.answers.specs.Decides.{Decides}
 use Rattle.answers.proofs.Decides.{say_yes, say_no}
@@ -30,12 +30,12 @@ use Rattle.completion.proofs.Completion.{left_length, left_at, left_same, left_f
 -- ---- the places of the whole day
 
 -- the capacities are copied to the front of a row, and the closing number stands behind them
-pub places_made : {c row : List ℕ} (left : List ℕ) (closing : ℕ) {n : ℕ} → row ≡ take (length c) c ++ drop (length c) left → length c < length left
+pub places_made : {c row : List ℕ} (left : List ℕ) (closing : ℕ) {n : ℕ} → row ≡ c ++ drop (length c) left → length c < length left
     → n ≡ counted_of (length c) closing → AllPlaces c closing (set row (length c) closing) n
 places_made {c} {row} left closing {n} is long n-is = record { counted_is = n-is; there = there; each = each }
   where
     size : length row ≡ length left
-    size = omega (arith, ap length is, length-append (take (length c) c) (drop (length c) left), ap length (take-length c), length-drop (length c) left)
+    size = omega (arith, ap length is, length-append c (drop (length c) left), length-drop (length c) left)
 
     there : n ≤ length (set row (length c) closing)
     there = omega (arith, n-is, counted_to (length c) closing, length-set row (length c) closing, size)
@@ -50,7 +50,7 @@ places_made {c} {row} left closing {n} is long n-is = record { counted_is = n-is
       | inr in_day ↦
           let l : k - 1 < length c = omega arith in
           period_in (set row (length c) closing) k (omega arith) ∙ get_or-set_other row (length c) (k - 1) closing 0 (omega arith)
-          ∙ ap (λ r. get_or r (k - 1) 0) (is ∙ ap (λ r. r ++ drop (length c) left) (take-length c)) ∙ get_or-append c (drop (length c) left) 0 (k - 1) l
+          ∙ ap (λ r. get_or r (k - 1) 0) is ∙ get_or-append c (drop (length c) left) 0 (k - 1) l
           ∙ sym (takes_in c closing k in_day ∙ period_in c k (omega arith))
     ]
 
@@ -177,9 +177,6 @@ module _ {d : Day} {h left : List ℕ} {i : ℕ} (s : Partial d h left (i + 1)) 
 -- ---- whether the rest has a plan
 
 -- the front of a row and the flights from an entry on, as they are lent
-pub front_is : (left : List ℕ) (n : ℕ) → take (n - 0) left ≡ take n left
-front_is left n = let e : n - 0 ≡ n = omega arith in ap (λ m. take m left) e
-
 pub part_is : (flights : List ℕ) (start : ℕ) → take (length flights - start) (drop start flights) ≡ drop start flights
 part_is flights start = take_all (length flights - start) (drop start flights) (rw length-drop (omega arith))
 
@@ -191,44 +188,27 @@ none_found good none = say_yes ((plan_exactly (valid_means good)).1 none)
 
 -- ---- holds taken back from the last on
 
--- the first m holds and the places that they leave, and that no more of the first i holds can be completed
+-- the first m holds and the places that they leave, and that no m of the first i holds can be completed
 pub record Tried (d : Day) (h left : List ℕ) (m i : ℕ) : Type 0 where
   pub kept : Partial d h left m
   pub upto : m ≤ i
-  pub over : m < i → Completed d h (m + 1) → ⊥
+  pub over : Completed d h m → ⊥
 
-pub tried_start : {d : Day} {h left : List ℕ} {i : ℕ} → Partial d h left i → Tried d h left i i
-tried_start s = record { kept = s; upto = omega arith; over = λ l. absurd (omega arith) }
-
-module _ {d : Day} {h left : List ℕ} {m i : ℕ} (t : Tried d h left m i) where
+module _ {d : Day} {h left : List ℕ} {m : ℕ} (s : Partial d h left m) where
   v : Valid d
-  v = valid_means t.kept.good
+  v = valid_means s.good
 
-  pub tried_rest : (P d ≤ most_periods) × (length left ≡ counted d) × (m * width ≤ length d.flights) × (valid (rest_of left d.flights (P d) d.closing m) ≡ true)
-  tried_rest = (
+  pub rest_ready : (P d ≤ most_periods) × (length left ≡ counted d) × (m * width ≤ length d.flights) × (valid (rest_of left d.flights (P d) d.closing m) ≡ true)
+  rest_ready = (
     v.periods_to,
-    ap length t.kept.left_is ∙ left_length d h m,
-    omega (arith, v.whole, t.kept.upto),
-    rw t.kept.left_is (means_valid (rest_valid v h m t.kept.upto)),
+    ap length s.left_is ∙ left_length d h m,
+    omega (arith, v.whole, s.upto),
+    rw s.left_is (means_valid (rest_valid v h m s.upto)),
   )
 
   module _ {r : Bool} (plans : Decides r (HasPlan (rest_of left d.flights (P d) d.closing m))) where
-    pub tried_end : r ≡ true → (m ≤ i) × (Completed d h m × (m < i → Completed d h (m + 1) → ⊥))
-    tried_end e =
-        let p = rw t.kept.left_is at (plans.yes e) in
-        (t.upto, ((completed_by_rest v h m t.kept.upto).1 (t.kept.unbroken, p), t.over))
+    pub rest_completes : r ≡ true → Completed d h m
+    rest_completes e = (completed_by_rest v h m s.upto).1 (s.unbroken, rw s.left_is at (plans.yes e))
 
-    module _ (e : r ≡ false) where
-      none : Completed d h m → ⊥
-      none c = plans.no e (rw t.kept.left_is ((completed_by_rest v h m t.kept.upto).0 c).1)
-
-      pub tried_none : m ≡ 0 → Completed d h 0 → ⊥
-      tried_none z c = none (rw z c)
-
-      pub tried_back : {row : List ℕ} → (m ≡ 0 → ⊥) → Partial d h row (m - 1) → Tried d h row (m - 1) i
-      tried_back some s =
-          let back : m - 1 + 1 ≡ m = omega arith in
-          record { kept = s; upto = omega (arith, t.upto); over = λ l. rw back none }
-
-  pub tried_last : (m ≡ 0 → ⊥) → Partial d h left (m - 1 + 1)
-  tried_last some = let back : m - 1 + 1 ≡ m = omega arith in rw back t.kept
+    pub rest_fails : r ≡ false → Completed d h m → ⊥
+    rest_fails e c = plans.no e (rw s.left_is ((completed_by_rest v h m s.upto).0 c).1)

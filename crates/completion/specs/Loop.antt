@@ -1,10 +1,8 @@
 -- What is known while flights get their holds one after another, and while holds are taken back. Only inner contracts cite it.
 -- Assumes nothing.
-use Rattle.std.specs.Prelude.{◌≡◌, Bool, true, false, List, ℕ, ◌+◌, ◌≤◌, ◌<◌, length}
+use Rattle.std.specs.Prelude.{◌≡◌, Bool, true, false, List, ℕ, ◌+◌, ◌≤◌, ◌<◌, length, Option, Some, None}
 use Rattle.day.specs.Day.{Day, N, of_period, takes_of, counted_of, valid}
 use Rattle.day.specs.Plan.{breaks}
-use Rattle.completion.specs.declared.Most.{Most}
-use Rattle.completion.specs.declared.Most.TheVariants.{Flights, NoPlan}
 use Rattle.completion.specs.Rest.{Completed, Unbroken, places_left}
 
 -- the front of the row has what each of the n counted periods takes
@@ -27,6 +25,6 @@ Landed d holds left i true = Partial d holds left (i + 1)
 Landed d holds left i false = (breaks d holds i ≡ true) × Partial d holds left i
 
 -- of the first i flights' holds so many can be completed, and not one more; or the day has no legal plan
-abbrev pub MostCompleted : Day → List ℕ → ℕ → Most → Type 0
-MostCompleted d holds i (Flights m) = (m ≤ i) × (Completed d holds m × (m < i → Completed d holds (m + 1) → ⊥))
-MostCompleted d holds i NoPlan = Completed d holds 0 → ⊥
+abbrev pub MostCompleted : Day → List ℕ → ℕ → Option ℕ → Type 0
+MostCompleted d holds i (Some m) = (m ≤ i) × (Completed d holds m × (m < i → Completed d holds (m + 1) → ⊥))
+MostCompleted d holds i None = Completed d holds 0 → ⊥

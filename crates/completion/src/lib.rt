@@ -9,16 +9,9 @@ ghost use Rattle.day.specs.Plan.{HasPlan};
 ghost use Rattle.completion.specs.Rest.{rest_of};
 ghost use Rattle.completion.specs.Loop.{AllPlaces, Partial, Landed, MostCompleted};
 
-use day::{UNLIMITED, WIDTH, copy_front, counted_of, flight_at, land_of};
+use day::{UNLIMITED, WIDTH, counted_of, flight_at, land_of};
 use legality::is_too_long;
-use stretch::{ShortStretch, find_short};
-
-// How many of the first flights keep their holds in some legal plan.
-#[derive(Clone, Copy)]
-pub enum Most {
-    Flights(usize),
-    NoPlan,
-}
+use stretch::find_short;
 
 // The places of a day before any flight has landed, at the front of a row; how many periods are counted.
 pub fn all_places(capacities: &[u32], closing: u32, left: &mut [u32]) -> usize
@@ -26,7 +19,7 @@ pub fn all_places(capacities: &[u32], closing: u32, left: &mut [u32]) -> usize
     ensures { AllPlaces capacities.now closing left.new result }
 {
     let periods = capacities.len();
-    copy_front(capacities, left, periods);
+    left[..periods].copy_from_slice(capacities);
     left[periods] = closing;
     counted_of(periods, closing)
 }
@@ -93,17 +86,12 @@ fn rest_has_plan(periods: usize, flights: &[u32], closing: u32, i: usize, left: 
     requires { (periods ≤ most_periods) × (length left.now ≡ counted_of periods closing) × (i * width ≤ length flights.now) × (valid (rest_of left.now flights.now periods closing i) ≡ true) }
     ensures { Decides result (HasPlan (rest_of left.now flights.now periods closing i)) }
 {
-    let start = i * WIDTH;
     let open = closing_left(periods, closing, left);
-    let found = find_short(&left[0..periods], &flights[start..], open);
-    match found {
-        ShortStretch::Found { first, last } => false,
-        ShortStretch::NoneShort => true,
-    }
+    find_short(&left[..periods], &flights[i * WIDTH..], open).is_none()
 }
 
-// The most of the first i flights whose holds can be completed to a legal plan. Holds are taken back from the last on: whoever cannot
-// complete some cannot complete more.
+// The most of the first i flights whose holds can be completed to a legal plan; none if the day has no legal plan. Holds are taken back from
+// the last on: whoever cannot complete some cannot complete more.
 pub fn most_completed(
     capacities: &[u32],
     flights: &[u32],
@@ -111,17 +99,19 @@ pub fn most_completed(
     holds: &[u32],
     i: usize,
     left: &mut [u32],
-) -> Most
+) -> Option<usize>
     requires { Partial (lent capacities flights closing) holds.now left.old i }
     ensures { MostCompleted (lent capacities.entry flights.entry closing) holds.now i result }
 {
-    let mut m = i;
-    while !rest_has_plan(capacities.len(), flights, closing, m, left) {
-        if m == 0 {
-            return Most::NoPlan;
-        }
-        m -= 1;
-        give_back(capacities, flights, closing, holds, m, left);
+    let periods = capacities.len();
+    if rest_has_plan(periods, flights, closing, i, left) {
+        return Some(i);
     }
-    Most::Flights(m)
+    for m in (0..i).rev() {
+        give_back(capacities, flights, closing, holds, m, left);
+        if rest_has_plan(periods, flights, closing, m, left) {
+            return Some(m);
+        }
+    }
+    None
 }

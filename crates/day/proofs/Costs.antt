@@ -4,7 +4,7 @@ use mathlib.Core.Path.{◌≡◌, refl, ap}
 use mathlib.Core.Logic.{◌≢◌, inl, inr}
 use mathlib.Core.List.{List, ◌∷◌}
 use Prim.Native.Nat.{ℕ, zero, suc, ◌+◌, ◌-◌, ◌*◌, ◌≤◌, ◌<◌}
-use native.Mathlib.Nat.{mul-le-mul, mul-le-mul_left}
+use native.Mathlib.Nat.{mul-le-mul_left}
 use native.Mathlib.Omega.{arith}
 use lib.Dec.{ltb}
 use lib.ListN.{length, get_or, set, get_or-eq_default}
@@ -104,10 +104,6 @@ module _ (d : Day) (i s t : ℕ) where
   pub cost_grows : 1 ≤ rate d i → s < t → cost d i s < cost d i t
   unfolding hold_cost flight_at
   cost_grows pos l = omega (arith, mul-le-mul_left (rate d i) l, jump_rises (after d i) (late d i + s) (late d i + t) (jump d i) (omega arith))
-
--- a product of two numbers of 32 bits, and one more such number, fit 64 bits
-pub product_fits : (a b c : ℕ) → a < 4294967296 → b < 4294967296 → c < 4294967296 → a * b + c < 18446744073709551616
-product_fits a b c x y z = omega (arith, mul-le-mul {n₁ = a} {m₁ = b} {n₂ = 4294967295} {m₂ = 4294967295} (omega arith) (omega arith))
 
 -- ---- windows
 

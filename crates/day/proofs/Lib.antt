@@ -7,4 +7,3 @@ pub mod Instance
 pub mod Existence
 pub mod Prices
 pub mod Curfew
-pub mod Copying

@@ -2,11 +2,14 @@
 -- Assumes nothing.
 use mathlib.Core.Path.{◌≡◌, refl, sym, ap, ◌∙◌}
 use mathlib.Core.Logic.{inl, inr}
-use mathlib.Core.Bool.{Bool, true, false, cond}
+use mathlib.Core.Bool.{Bool, true, false, cond, ◌&&◌}
+use mathlib.Core.List.{List, [], ◌∷◌}
+use lib.ListN.{length, get_or}
+use Rattle.std.specs.List.{list_all, range_with_len}
 use Prim.Native.Nat.{ℕ, zero, suc, ◌+◌, ◌≤◌, ◌<◌, zero-le}
 use native.Mathlib.Omega.{arith}
 use native.Mathlib.Numerals.{add-one}
-use Rattle.assignment.proofs.Tests.{eq?, and_true, true_and, and_false}
+use Rattle.assignment.proofs.Tests.{eq?, and_true, true_and, and_false, and_assoc}
 use Rattle.day.specs.Day.{all}
 use Rattle.day.specs.Plan.{first_of}
 
@@ -72,3 +75,25 @@ none_passes (suc n) f e i l = at (f 0) refl e (none_passes n (λ j. f (suc j))) 
     at true s e rest i l = absurd (omega arith)
     at false s e rest zero l = s
     at false s e rest (suc i) l = rest (omega arith) i (omega arith)
+
+-- ---- against std's test of all entries of a list
+
+-- the first index first
+all_first : (n : ℕ) (f : ℕ → Bool) → all (suc n) f ≡ (f 0 && all n (λ i. f (suc i)))
+unfolding all
+all_first zero f = elim (f 0) as (λ t. (true && t) ≡ (t && true)) [ true ↦ refl | false ↦ refl ]
+all_first (suc n) f = rw (all_first n f) (sym (and_assoc (f 0) _ _))
+
+pub all_of_list : (test : ℕ → Bool) (xs : List ℕ) → list_all test xs ≡ all (length xs) (λ k. test (get_or xs k 0))
+unfolding all
+all_of_list test [] = refl
+all_of_list test (x ∷ xs) = rw (all_first (length xs) (λ k. test (get_or (x ∷ xs) k 0)), all_of_list test xs)
+
+pub all_of_range : (test f : ℕ → Bool) (n from : ℕ) → ((k : ℕ) → test (from + k) ≡ f k) → list_all test (range_with_len from n) ≡ all n f
+unfolding all
+all_of_range test f zero from h = refl
+all_of_range test f (suc n) from h =
+    let e : from + 0 ≡ from = omega arith in
+    let here = rw e at (h 0) in
+    let rest = all_of_range test (λ k. f (suc k)) n (from + 1) (λ k. let s : from + 1 + k ≡ from + suc k = omega arith in rw s (h (suc k))) in
+    rw (all_first n f, rest, here)

@@ -1,56 +1,16 @@
--- The laws of the day check: one for each way through it, and what it says of a day that passes.
+-- The laws of the day check: what it says of a day that passes, and the other way round.
 -- Assumes nothing.
 use mathlib.Core.Path.{◌≡◌, refl}
 use mathlib.Core.Logic.{◌⊎◌, ◌≢◌, inl, inr}
-use mathlib.Core.Bool.{Bool, true, false, ◌&&◌, ◌||◌}
+use mathlib.Core.Bool.{Bool, true, false, ◌||◌}
 use Prim.Native.Nat.{ℕ, ◌*◌, ◌≤◌, ◌<◌}
 use lib.ListN.{length, get_or}
 use lib.Dec.{leb}
-use borrow.Author.Tests.{le-leb, lt-leb, eq-eqb, ne_eqb, leb-true, eqb-true, eqb-false, not-true}
-use Rattle.assignment.proofs.Tests.{and_true, true_and, and_assoc}
-use Rattle.day.specs.Day.{Day, P, N, unlimited, most_periods, most_flights, number, due, rate, after, jump, late, limit, missing, all, inside, flight_at, flight_fits, in_range, is_new, valid, width}
+use borrow.Author.Tests.{le-leb, eq-eqb, ne_eqb, leb-true, eqb-true, eqb-false, not-true}
+use Rattle.assignment.proofs.Tests.{and_true, true_and}
+use Rattle.day.specs.Day.{Day, P, N, unlimited, most_periods, most_flights, number, due, rate, after, jump, late, limit, missing, inside, flight_at, flight_fits, in_range, is_new, valid, width}
 use Rattle.day.specs.Valid.{InRange, ValidFlights, Valid}
 use Rattle.day.proofs.Tests.{all_at, all_from}
-
--- ---- the whole check, in its order
-
-module _ (d : Day) where
-  pub valid_not_periods : inside 1 most_periods (P d) ≡ false → false ≡ valid d
-  unfolding valid
-  valid_not_periods e = rw e
-
-  module _ (periods : inside 1 most_periods (P d) ≡ true) where
-    pub valid_not_whole : (length d.flights ≡ N d * width → ⊥) → false ≡ valid d
-    unfolding valid
-    valid_not_whole e = rw (periods, ne_eqb (length d.flights) (N d * width) e)
-
-    module _ (whole : length d.flights ≡ N d * width) where
-      pub valid_not_few : most_flights < N d → false ≡ valid d
-      unfolding valid
-      valid_not_few e = rw (periods, eq-eqb (length d.flights) (N d * width) whole, lt-leb (N d) most_flights e)
-
-      pub valid_not_closing : N d ≤ most_flights → unlimited < d.closing → false ≡ valid d
-      unfolding valid
-      valid_not_closing few e =
-          rw (periods, eq-eqb (length d.flights) (N d * width) whole, le-leb (N d) most_flights few, lt-leb d.closing unlimited e)
-
-  -- the rest of the check, with what its parts found
-  pub valid_made : inside 1 most_periods (P d) ≡ true → {n : ℕ} → n ≡ N d → length d.flights ≡ n * width → n ≤ most_flights → d.closing ≤ unlimited
-      → {x y r : Bool}
-      → x ≡ all (P d) (λ k. leb (get_or d.capacities k 0) 255) → y ≡ (all n (in_range (P d) d.flights) && all n (is_new d.flights)) → r ≡ (x && y) → r ≡ valid d
-  unfolding valid
-  valid_made periods e whole few line caps fits both =
-      rw (
-        both,
-        caps,
-        fits,
-        e,
-        periods,
-        eq-eqb (length d.flights) (N d * width) (rw e at whole),
-        le-leb (N d) most_flights (rw e at few),
-        le-leb d.closing unlimited line,
-      )
-      (and_assoc (all (P d) (λ k. leb (get_or d.capacities k 0) 255)) (all (N d) (in_range (P d) d.flights)) (all (N d) (is_new d.flights)))
 
 -- ---- what a day that passes is
 

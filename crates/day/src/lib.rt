@@ -1,8 +1,8 @@
 // The day in two lent rows and its closing number: its numbers, its check (refusal 6), and what a hold costs and where it lands.
 #![tactic(auto)]
 
-ghost use Rattle.std.specs.Prelude.{◌≡◌, true, false, ◌&&◌, ◌||◌, ◌+◌, ◌*◌, ◌/◌, ◌%◌, ◌^◌, ◌<◌, ◌≤◌, ◌++◌, length, take, drop, leb};
-ghost use Rattle.day.specs.Day.{lent, unlimited, most_periods, most_flights, column, number_of, due_of, rate_of, limit_of, width, flight_at, flight_count, of_period, takes_of, counted_of, hold_cost, land_of, latest_of, last_of, all, inside, missing, flight_fits, capacities_fit, in_range, is_new, valid};
+ghost use Rattle.std.specs.Prelude.{◌≡◌, true, false, ◌&&◌, ◌+◌, ◌*◌, ◌/◌, ◌%◌, ◌^◌, ◌<◌, ◌≤◌, ◌++◌, length, take, drop};
+ghost use Rattle.day.specs.Day.{lent, unlimited, most_periods, most_flights, column, number_of, due_of, rate_of, limit_of, width, flight_at, flight_count, of_period, takes_of, counted_of, hold_cost, land_of, latest_of, last_of, all, inside, flight_fits, capacities_fit, in_range, is_new, valid};
 ghost use Rattle.day.specs.Flights.{with_flight};
 ghost use Rattle.day.specs.Chains.{chains, Linked, Passed};
 
@@ -12,6 +12,7 @@ pub const PERIODS: usize = 96;
 pub const FLIGHTS: usize = 128;
 
 // How many numbers a flight takes in its row, and the most numbers of a row of flights.
+// Kept: a row of numbers and no slice of flights, since the C interface lends the days of its callers so.
 pub const WIDTH: usize = 7;
 
 pub const FLIGHT_ROW: usize = FLIGHTS * WIDTH;
@@ -48,14 +49,11 @@ pub fn copy_front(from: &[u32], to: &mut [u32], n: usize)
     requires { (n ≤ length from.now) × (n ≤ length to.old) }
     ensures { to.new ≡ take n from.now ++ drop n to.old }
 {
-    let mut at = 0;
-    while at < n {
-        to[at] = from[at];
-        at += 1;
-    }
+    to[..n].copy_from_slice(&from[..n]);
 }
 
 // How many flights the row has.
+#[tactic(auto, unfolding(crate::specs::Day::flight_count))]
 pub fn flight_count(flights: &[u32]) -> usize
     ensures { result ≡ flight_count flights.now }
 {
@@ -67,7 +65,7 @@ fn field(flights: &[u32], i: usize, j: usize) -> usize
     requires { (j < width) × ((i + 1) * width ≤ length flights.now) }
     ensures { (result ≡ column j flights.now i) × (result < 2 ^ 32) }
 {
-    wide(flights[i * WIDTH + j])
+    flights[i * WIDTH + j] as usize
 }
 
 // One number of the flight at table place i, for whoever needs no other.
@@ -100,6 +98,7 @@ pub fn limit_of(flights: &[u32], i: usize) -> usize
 }
 
 // The flight at table place i.
+#[tactic(auto, unfolding(crate::specs::Day::flight_at))]
 pub fn flight_at(flights: &[u32], i: usize) -> Flight
     requires { (i + 1) * width ≤ length flights.now }
     ensures { result ≡ flight_at flights.now i }
@@ -138,14 +137,11 @@ pub fn of_period(row: &[u32], k: usize) -> usize
     if k == 0 {
         return 0;
     }
-    let at = k - 1;
-    if at < row.len() {
-        return wide(row[at]);
-    }
-    0
+    row.get(k - 1).map_or(0, |entry| *entry as usize)
 }
 
 // How many flights period k takes, the closing period included.
+#[tactic(auto, unfolding(crate::specs::Day::takes_of))]
 pub fn capacity_of(capacities: &[u32], closing: u32, k: usize) -> usize
     requires { length capacities.now ≤ most_periods }
     ensures { result ≡ takes_of capacities.now closing k }
@@ -154,13 +150,14 @@ pub fn capacity_of(capacities: &[u32], closing: u32, k: usize) -> usize
         return of_period(capacities, k);
     }
     if k == capacities.len() + 1 {
-        return wide(closing);
+        return closing as usize;
     }
     0
 }
 
 // The last period whose landings are counted against a number, on a day of so many periods: the closing period, if there is a closing
 // line. A price row has an entry for each of them.
+#[tactic(auto, unfolding(crate::specs::Day::counted_of))]
 pub fn counted_of(periods: usize, closing: u32) -> usize
     requires { periods ≤ most_periods }
     ensures { result ≡ counted_of periods closing }
@@ -176,18 +173,19 @@ pub fn land_of(flights: &[u32], holds: &[u32], i: usize) -> usize
     requires { (i < length holds.now) × ((i + 1) * width ≤ length flights.now) }
     ensures { (result ≡ land_of flights.now holds.now i) × (result < 2 ^ 33) }
 {
-    due_of(flights, i) + wide(holds[i])
+    due_of(flights, i) + holds[i] as usize
 }
 
 // What a hold costs a flight: the jump counts the delay that it brings along. Its numbers and the hold are of 32 bits, so that the sum
 // fits.
+#[tactic(auto, unfolding(crate::specs::Day::hold_cost))]
 pub fn hold_cost(f: Flight, hold: usize) -> usize
     requires { hold < 2 ^ 32 }
     ensures { result ≡ hold_cost f hold }
 {
-    let run = wide(f.rate) * hold;
-    if wide(f.after) < wide(f.late) + hold {
-        return run + wide(f.jump);
+    let run = f.rate as usize * hold;
+    if f.late as usize + hold > f.after as usize {
+        return run + f.jump as usize;
     }
     run
 }
@@ -201,6 +199,7 @@ pub fn cost_of(flights: &[u32], i: usize, hold: usize) -> usize
 }
 
 // The last period that a flight's limit allows, on a day of so many periods.
+#[tactic(auto, unfolding(crate::specs::Day::latest_of))]
 pub fn latest_of(periods: usize, f: Flight) -> usize
     requires { periods ≤ most_periods }
     ensures { result ≡ latest_of periods f }
@@ -208,80 +207,52 @@ pub fn latest_of(periods: usize, f: Flight) -> usize
     if f.limit == MISSING {
         return periods + 1;
     }
-    wide(f.due) + wide(f.limit)
+    f.due as usize + f.limit as usize
 }
 
 // The last period in which a flight may land, on a day of so many periods: the closing period where its limit is missing or reaches further.
+#[tactic(auto, unfolding(crate::specs::Day::last_of))]
 pub fn last_of(periods: usize, f: Flight) -> usize
     requires { periods ≤ most_periods }
     ensures { result ≡ last_of periods f }
 {
     let closing = periods + 1;
-    let latest = latest_of(periods, f);
-    if closing < latest {
-        return closing;
-    }
-    latest
-}
-
-fn both(a: bool, b: bool) -> bool
-    ensures { result ≡ (a && b) }
-{
-    a && b
+    latest_of(periods, f).min(closing)
 }
 
 // A number from low to high.
 pub fn is_inside(low: usize, high: usize, x: usize) -> bool
     ensures { result ≡ inside low high x }
 {
-    low <= x && x <= high
-}
-
-fn limit_fits(limit: u32) -> bool
-    ensures { result ≡ (leb limit 96 || missing limit) }
-{
-    limit <= 96 || limit == MISSING
+    (low..=high).contains(&x)
 }
 
 // A flight's numbers are within the table's ranges, on a day of so many periods.
+#[tactic(auto, unfolding(crate::specs::Day::flight_fits))]
 pub fn flight_fits(periods: usize, f: Flight) -> bool
     ensures { result ≡ flight_fits periods f }
 {
-    let named = both(
-        is_inside(1, 9999, wide(f.number)),
-        is_inside(1, periods, wide(f.due)),
-    );
-    let rated = both(named, is_inside(1, 10000, wide(f.rate)));
-    let priced = both(both(rated, f.after <= 96), f.jump <= 1000000);
-    both(both(priced, limit_fits(f.limit)), f.late <= 255)
+    is_inside(1, 9999, f.number as usize)
+        && is_inside(1, periods, f.due as usize)
+        && is_inside(1, 10000, f.rate as usize)
+        && f.after <= 96
+        && f.jump <= 1000000
+        && (f.limit <= 96 || f.limit == MISSING)
+        && f.late <= 255
 }
 
 // A row of capacities is within the table's range.
 pub fn capacities_fit(capacities: &[u32]) -> bool
     ensures { result ≡ capacities_fit capacities.now }
 {
-    let mut k = 0;
-    while k < capacities.len() {
-        if 255 < capacities[k] {
-            return false;
-        }
-        k += 1;
-    }
-    true
+    capacities.iter().all(|capacity| *capacity <= 255)
 }
 
 fn flights_in_range(periods: usize, flights: &[u32], n: usize) -> bool
     requires { n * width ≤ length flights.now }
     ensures { result ≡ all n (in_range periods flights.now) }
 {
-    let mut i = 0;
-    while i < n {
-        if !flight_fits(periods, flight_at(flights, i)) {
-            return false;
-        }
-        i += 1;
-    }
-    true
+    (0..n).all(|i| flight_fits(periods, flight_at(flights, i)))
 }
 
 // A repeated number is found in one pass: the flights passed stand in chains by the residue of their number, and a flight is compared
@@ -297,28 +268,23 @@ fn chain_of(flights: &[u32], i: usize) -> usize
     number_of(flights, i) % CHAINS
 }
 
-// A chain's entry: the table place of a flight plus one, or 0 at the chain's end. There are at most 128 flights, so that it fits a byte.
-fn entry_of(x: u8) -> usize
-    ensures { result ≡ x }
-{
-    x as usize
-}
-
 // No flight above the one at table place i has its number. The row `nearest` has for each chain its flight nearest above place i,
-// the row `above` for each flight the next above it in its chain.
+// the row `above` for each flight the next above it in its chain. An entry is the table place of a flight plus one, or 0 at the chain's
+// end; there are at most 128 flights, so that it fits a byte.
 fn is_new(flights: &[u32], nearest: &[u8], above: &[u8], i: usize) -> bool
     requires { ((i + 1) * width ≤ length flights.now) × Linked flights.now nearest.now above.now i }
     ensures { result ≡ is_new flights.now i }
 {
     let number = number_of(flights, i);
     let chain = chain_of(flights, i);
-    let mut entry = entry_of(nearest[chain]);
-    while 0 < entry {
+    // Kept: a while, since the chain is walked by its links and not by an index.
+    let mut entry = nearest[chain] as usize;
+    while entry > 0 {
         let at = entry - 1;
         if number_of(flights, at) == number {
             return false;
         }
-        entry = entry_of(above[at]);
+        entry = above[at] as usize;
     }
     true
 }
@@ -328,15 +294,13 @@ fn numbers_differ_in(flights: &[u32], n: usize, nearest: &mut [u8], above: &mut 
     requires { Passed flights.now n nearest.old above.old 0 }
     ensures { result ≡ all n (is_new flights.now) }
 {
-    let mut i = 0;
-    while i < n {
+    for i in 0..n {
         if !is_new(flights, nearest, above, i) {
             return false;
         }
         let chain = chain_of(flights, i);
         above[i] = nearest[chain];
-        i += 1;
-        nearest[chain] = i as u8;
+        nearest[chain] = i as u8 + 1;
     }
     true
 }
@@ -350,36 +314,17 @@ fn numbers_differ(flights: &[u32], n: usize) -> bool
     numbers_differ_in(flights, n, &mut nearest, &mut above)
 }
 
-// Every flight is in range, and has a number of its own.
-fn flights_fit(periods: usize, flights: &[u32], n: usize) -> bool
-    requires { (n * width ≤ length flights.now) × (n ≤ most_flights) }
-    ensures { result ≡ (all n (in_range periods flights.now) && all n (is_new flights.now)) }
-{
-    if !flights_in_range(periods, flights, n) {
-        return false;
-    }
-    numbers_differ(flights, n)
-}
-
 // The day check: refusal 6 is given where it says no.
+#[tactic(auto, unfolding(crate::specs::Day::flight_count, crate::specs::Day::valid))]
 pub fn is_valid(capacities: &[u32], flights: &[u32], closing: u32) -> bool
     ensures { result ≡ valid (lent capacities.entry flights.entry closing) }
 {
     let n = flight_count(flights);
-    if !is_inside(1, PERIODS, capacities.len()) {
-        return false;
-    }
-    if flights.len() != n * WIDTH {
-        return false;
-    }
-    if FLIGHTS < n {
-        return false;
-    }
-    if UNLIMITED < closing {
-        return false;
-    }
-    both(
-        capacities_fit(capacities),
-        flights_fit(capacities.len(), flights, n),
-    )
+    is_inside(1, PERIODS, capacities.len())
+        && flights.len() == n * WIDTH
+        && n <= FLIGHTS
+        && closing <= UNLIMITED
+        && capacities_fit(capacities)
+        && flights_in_range(capacities.len(), flights, n)
+        && numbers_differ(flights, n)
 }

@@ -17,7 +17,7 @@ ghost use Rattle.board.specs.Board.{board_answer, board_after};
 ghost use Rattle.plan_text.specs.PlanText.{plan_text_answer, plan_text_after};
 ghost use Rattle.forecast_plan.specs.Forecast.{forecasts};
 ghost use Rattle.forecast_plan.specs.Calls.{forecast_plan};
-ghost use Rattle.desk.specs.Desk.{row_number, reading_code, card_code, Exported, ReadExported};
+ghost use Rattle.desk.specs.Desk.{row_number, done_code, reading_code, card_code, Exported, ReadExported};
 
 use answers::{Code, code_of};
 use choice::Which;
@@ -51,15 +51,22 @@ pub fn hold_desk_read_sheet(
     ensures capacities_after { capacities.new ≡ capacities_after (reading sheet.now capacities.old flights.old) capacities.old }
     ensures flights_after { flights.new ≡ flights_after (reading sheet.now capacities.old flights.old) flights.old }
 {
-    let read = sheet_reader::read_sheet(sheet, capacities, flights);
-    let answer = read.answer;
-    let values = code_of(answer);
-    let closing = read.closing;
-    ReadingCode {
-        number: values.number,
-        first: values.first,
-        second: values.second,
-        closing: day::wide(closing) as u64,
+    match sheet_reader::read_sheet(sheet, capacities, flights) {
+        Ok(read) => ReadingCode {
+            number: 0,
+            first: read.periods as u64,
+            second: read.flights as u64,
+            closing: read.closing as u64,
+        },
+        Err(refusal) => {
+            let code = Code::from(refusal);
+            ReadingCode {
+                number: code.number,
+                first: code.first,
+                second: code.second,
+                closing: 0,
+            }
+        }
     }
 }
 
@@ -109,17 +116,30 @@ pub fn hold_desk_period_card(
 ) -> CardCode
     ensures { result ≡ card_code (period_card (lent capacities.entry flights.entry closing) period) }
 {
-    let card = period_card::period_card(capacities, flights, closing, period);
-    let answer = card.answer;
-    let code = code_of(answer);
-    let size = card.size;
-    CardCode {
-        number: code.number,
-        first: code.first,
-        second: code.second,
-        low: card.low,
-        high: card.high,
-        size: day::wide(size) as u64,
+    match period_card::period_card(capacities, flights, closing, period) {
+        Ok(card) => CardCode {
+            number: 0,
+            first: 0,
+            second: 0,
+            low: card.low,
+            high: card.high,
+            size: card.size as u64,
+        },
+        Err(refusal) => {
+            let Code {
+                number,
+                first,
+                second,
+            } = Code::from(refusal);
+            CardCode {
+                number,
+                first,
+                second,
+                low: 0,
+                high: 0,
+                size: 0,
+            }
+        }
     }
 }
 
@@ -157,11 +177,10 @@ pub fn hold_desk_choice(
 ) -> u32
     ensures { result ≡ row_number (choice (lent capacities.entry flights.entry closing) first.now second.now) }
 {
-    let chosen = choice::which_row(capacities, flights, closing, first, second);
-    match chosen {
-        Which::First => 1,
-        Which::Second => 2,
-        Which::Neither => 0,
+    match choice::which_row(capacities, flights, closing, first, second) {
+        Some(Which::First) => 1,
+        Some(Which::Second) => 2,
+        None => 0,
     }
 }
 
@@ -172,10 +191,13 @@ pub fn hold_desk_board(
     holds: &[u32],
     board: &mut [u32],
 ) -> Code
-    ensures value { result ≡ code_of (board_answer (lent capacities.entry flights.entry closing) holds.now board.old) }
+    ensures value { result ≡ done_code (board_answer (lent capacities.entry flights.entry closing) holds.now board.old) }
     ensures board_after { board.new ≡ board_after (lent capacities.entry flights.entry closing) holds.now board.old }
 {
-    code_of(board::make_board(capacities, flights, closing, holds, board))
+    match board::make_board(capacities, flights, closing, holds, board) {
+        Ok(()) => Code::accepted(0, 0),
+        Err(refusal) => Code::from(refusal),
+    }
 }
 
 pub fn hold_desk_plan_text(

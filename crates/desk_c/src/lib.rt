@@ -17,7 +17,7 @@ ghost use Rattle.board.specs.Board.{board_answer, board_after};
 ghost use Rattle.plan_text.specs.PlanText.{plan_text_answer, plan_text_after};
 ghost use Rattle.forecast_plan.specs.Forecast.{forecasts};
 ghost use Rattle.forecast_plan.specs.Calls.{forecast_plan};
-ghost use Rattle.desk.specs.Desk.{row_number, reading_code, card_code, Exported, ReadExported};
+ghost use Rattle.desk.specs.Desk.{row_number, done_code, reading_code, card_code, Exported, ReadExported};
 
 use answers::Code;
 use desk::{CardCode, ReadingCode};
@@ -136,7 +136,7 @@ pub extern "C" fn hold_desk_board(
     holds: &[u32],
     board: &mut [u32],
 ) -> Code
-    ensures value { result ≡ code_of (board_answer (lent capacities.entry flights.entry closing) holds.now board.old) }
+    ensures value { result ≡ done_code (board_answer (lent capacities.entry flights.entry closing) holds.now board.old) }
     ensures board_after { board.new ≡ board_after (lent capacities.entry flights.entry closing) holds.now board.old }
 {
     desk::hold_desk_board(capacities, flights, closing, holds, board)

@@ -1,19 +1,19 @@
 // Plan texts read back. The bytes of such an example are the length of a sheet, a space, the sheet, and the text.
-use crate::input::size_at;
-use crate::rows::{behind, front_mut, hold_row, part, show_filled};
+use crate::input::{Kind, size_at};
+use crate::rows::{MORE_FLIGHTS, RUBBISH, behind, front_mut, part, show_filled};
 use crate::sheets::run_sheet;
 use crate::show::put_code;
 
 // ` back number,first,second`, then the holds
 pub fn read_back(capacities: &[u32], flights: &[u32], closing: u32, text: &[u8], count: usize) {
-    let mut space = hold_row();
+    let mut space = [RUBBISH; MORE_FLIGHTS];
     let holds = front_mut(&mut space, count);
     let code = desk::hold_desk_read_plan(capacities, flights, closing, text, holds);
     put_code(b" back ", code);
     show_filled(code, b" holds", holds);
 }
 
-pub fn run_text(kind: u8, bytes: &[u8]) {
+pub fn run_text(kind: Kind, bytes: &[u8]) {
     let size = size_at(bytes, 0);
     let length = size.value;
     let rest = behind(bytes, size.end + 1);

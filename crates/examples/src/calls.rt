@@ -1,11 +1,12 @@
 // Each call of the core with rows and buffers of its own, its answer printed, and all that it was lent printed or compared.
 use crate::rows::{
-    expect_around, expect_written, front_mut, hold_row, price_row, show_filled, text_buffer,
+    MORE_FLIGHTS, MORE_PRICES, RUBBISH, RUBBISH_BYTE, TEXT_ROOM, expect_around, expect_written,
+    front_mut, show_filled,
 };
 use crate::show::{put_code, put_number};
 
 pub fn quick_plan(capacities: &[u32], flights: &[u32], closing: u32, count: usize) {
-    let mut space = hold_row();
+    let mut space = [RUBBISH; MORE_FLIGHTS];
     let holds = front_mut(&mut space, count);
     let code = desk::hold_desk_quick_plan(capacities, flights, closing, holds);
     put_code(b" quick ", code);
@@ -33,8 +34,8 @@ pub fn full_plan_of(
     count: usize,
     periods: usize,
 ) {
-    let mut hold_space = hold_row();
-    let mut price_space = price_row();
+    let mut hold_space = [RUBBISH; MORE_FLIGHTS];
+    let mut price_space = [RUBBISH; MORE_PRICES];
     full_plan(
         capacities,
         flights,
@@ -57,11 +58,11 @@ pub fn price_check(
 
 pub fn choice(capacities: &[u32], flights: &[u32], closing: u32, first: &[u32], second: &[u32]) {
     let row = desk::hold_desk_choice(capacities, flights, closing, first, second);
-    put_number(b" choice ", day::wide(row) as u64);
+    put_number(b" choice ", u64::from(row));
 }
 
 pub fn board(capacities: &[u32], flights: &[u32], closing: u32, holds: &[u32], count: usize) {
-    let mut space = hold_row();
+    let mut space = [RUBBISH; MORE_FLIGHTS];
     let places = front_mut(&mut space, count);
     let code = desk::hold_desk_board(capacities, flights, closing, holds, places);
     put_code(b" board ", code);
@@ -71,7 +72,7 @@ pub fn board(capacities: &[u32], flights: &[u32], closing: u32, holds: &[u32], c
 // ` card period: number,first,second low high size`
 pub fn card(capacities: &[u32], flights: &[u32], closing: u32, period: u32) {
     let card = desk::hold_desk_period_card(capacities, flights, closing, period);
-    put_number(b" card ", day::wide(period) as u64);
+    put_number(b" card ", u64::from(period));
     put_number(b": ", card.number);
     put_number(b",", card.first);
     put_number(b",", card.second);
@@ -81,7 +82,7 @@ pub fn card(capacities: &[u32], flights: &[u32], closing: u32, period: u32) {
 }
 
 pub fn plan_text(capacities: &[u32], flights: &[u32], closing: u32, holds: &[u32], place: usize) {
-    let mut text = text_buffer();
+    let mut text = [RUBBISH_BYTE; TEXT_ROOM];
     let code = desk::hold_desk_plan_text(capacities, flights, closing, holds, &mut text, place);
     put_code(b" text ", code);
     expect_around(code, &text, place);
@@ -95,7 +96,7 @@ pub fn plan_text_at(
     place: usize,
     expected: &[u8],
 ) {
-    let mut text = text_buffer();
+    let mut text = [RUBBISH_BYTE; TEXT_ROOM];
     let code = desk::hold_desk_plan_text(capacities, flights, closing, holds, &mut text, place);
     put_number(b" at ", place as u64);
     put_code(b": ", code);
@@ -103,7 +104,7 @@ pub fn plan_text_at(
 }
 
 pub fn sheet_text(capacities: &[u32], flights: &[u32], closing: u32, place: usize) {
-    let mut text = text_buffer();
+    let mut text = [RUBBISH_BYTE; TEXT_ROOM];
     let code = desk::hold_desk_write_sheet(capacities, flights, closing, &mut text, place);
     put_code(b" sheet ", code);
     expect_around(code, &text, place);
@@ -116,7 +117,7 @@ pub fn sheet_text_at(
     place: usize,
     expected: &[u8],
 ) {
-    let mut text = text_buffer();
+    let mut text = [RUBBISH_BYTE; TEXT_ROOM];
     let code = desk::hold_desk_write_sheet(capacities, flights, closing, &mut text, place);
     put_number(b" at ", place as u64);
     put_code(b": ", code);

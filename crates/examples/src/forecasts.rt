@@ -1,6 +1,6 @@
 // The forecast plan of a day under two forecasts, each with one capacity for all periods, and what turns it down.
 use crate::calls::board;
-use crate::rows::{capacity_row, copy, forecast_rows, front, front_mut, hold_row, show_filled};
+use crate::rows::{MORE_FLIGHTS, MORE_PERIODS, RUBBISH, copy, front, front_mut, show_filled};
 use crate::show::{put, put_code, put_number};
 use answers::Code;
 
@@ -28,29 +28,23 @@ fn asked(capacities: &[u32], flights: &[u32]) -> Lengths {
     Lengths {
         holds: day::flight_count(flights),
         weights: 2,
-        rows: twice(capacities.len()),
+        rows: capacities.len().saturating_mul(2),
     }
-}
-
-// Two entries for each period; 0 where there are more periods than a row has.
-fn twice(periods: usize) -> usize {
-    if periods < 98 { periods * 2 } else { 0 }
 }
 
 // The board of a plan; the day's own capacities may not allow it.
 fn show_board(code: Code, capacities: &[u32], flights: &[u32], closing: u32, holds: &[u32]) {
-    let number = code.number;
-    if number == 0 {
+    if code.number == 0 {
         board(capacities, flights, closing, holds, holds.len());
     }
 }
 
 fn forecast_plan(capacities: &[u32], flights: &[u32], closing: u32, odds: Odds, lent: Lengths) {
-    let mut hold_space = hold_row();
+    let mut hold_space = [RUBBISH; MORE_FLIGHTS];
     let holds = front_mut(&mut hold_space, lent.holds);
     let weights = [odds.weight, odds.other_weight, 0];
-    let first = capacity_row(odds.first);
-    let mut rows = forecast_rows(odds.second);
+    let first = [odds.first; MORE_PERIODS];
+    let mut rows = [odds.second; 2 * MORE_PERIODS];
     copy(front(&first, capacities.len()), &mut rows);
     let code = desk::hold_desk_forecast_plan(
         capacities,
@@ -88,12 +82,12 @@ pub fn forecast_plan_of(capacities: &[u32], flights: &[u32], closing: u32, count
 
 // ` capacities first second weights weight other_weight air factor:`, then the call
 fn run_odds(capacities: &[u32], flights: &[u32], closing: u32, odds: Odds) {
-    put_number(b"\n capacities ", day::wide(odds.first) as u64);
-    put_number(b" ", day::wide(odds.second) as u64);
-    put_number(b" weights ", day::wide(odds.weight) as u64);
-    put_number(b" ", day::wide(odds.other_weight) as u64);
-    put_number(b" count ", day::wide(odds.count) as u64);
-    put_number(b" air factor ", day::wide(odds.factor) as u64);
+    put_number(b"\n capacities ", u64::from(odds.first));
+    put_number(b" ", u64::from(odds.second));
+    put_number(b" weights ", u64::from(odds.weight));
+    put_number(b" ", u64::from(odds.other_weight));
+    put_number(b" count ", u64::from(odds.count));
+    put_number(b" air factor ", u64::from(odds.factor));
     put(b":");
     forecast_plan(
         capacities,
@@ -105,57 +99,84 @@ fn run_odds(capacities: &[u32], flights: &[u32], closing: u32, odds: Odds) {
 }
 
 fn run_plans(capacities: &[u32], flights: &[u32], closing: u32) {
-    let mut odds = reported();
-    run_odds(capacities, flights, closing, odds);
-    odds.weight = 600;
-    odds.other_weight = 400;
-    run_odds(capacities, flights, closing, odds);
-    odds.weight = 1000;
-    odds.other_weight = 0;
-    run_odds(capacities, flights, closing, odds);
-    odds.first = 0;
-    run_odds(capacities, flights, closing, odds);
-    odds.weight = 500;
-    odds.other_weight = 500;
-    odds.factor = 1;
-    run_odds(capacities, flights, closing, odds);
-    odds.factor = 10;
-    run_odds(capacities, flights, closing, odds);
-    odds.second = 255;
-    run_odds(capacities, flights, closing, odds);
+    let turned = Odds {
+        weight: 600,
+        other_weight: 400,
+        ..reported()
+    };
+    let sure = Odds {
+        weight: 1000,
+        other_weight: 0,
+        ..reported()
+    };
+    let none_at_first = Odds { first: 0, ..sure };
+    let even = Odds {
+        weight: 500,
+        other_weight: 500,
+        factor: 1,
+        ..none_at_first
+    };
+    let dear = Odds { factor: 10, ..even };
+    let all_at_second = Odds {
+        second: 255,
+        ..dear
+    };
+    for odds in [
+        reported(),
+        turned,
+        sure,
+        none_at_first,
+        even,
+        dear,
+        all_at_second,
+    ] {
+        run_odds(capacities, flights, closing, odds);
+    }
 }
 
 // Refusal 13: the count and the air factor at the ends of their ranges and past them.
 fn run_terms(capacities: &[u32], flights: &[u32], closing: u32) {
-    let mut odds = reported();
-    odds.count = 0;
-    run_odds(capacities, flights, closing, odds);
-    odds.count = 9;
-    run_odds(capacities, flights, closing, odds);
-    odds.count = 4294967295;
-    run_odds(capacities, flights, closing, odds);
-    odds.count = 2;
-    odds.factor = 0;
-    run_odds(capacities, flights, closing, odds);
-    odds.factor = 11;
-    run_odds(capacities, flights, closing, odds);
+    for count in [0, 9, u32::MAX] {
+        let odds = Odds {
+            count,
+            ..reported()
+        };
+        run_odds(capacities, flights, closing, odds);
+    }
+    for factor in [0, 11] {
+        let odds = Odds {
+            factor,
+            ..reported()
+        };
+        run_odds(capacities, flights, closing, odds);
+    }
 }
 
 // Refusal 12: weights that add up to less, to more, and to 1,000 in 32 bits only; a capacity that is too high, of a forecast that
 // does not count.
 fn run_forecasts_refused(capacities: &[u32], flights: &[u32], closing: u32) {
-    let mut odds = reported();
-    odds.weight = 399;
-    run_odds(capacities, flights, closing, odds);
-    odds.weight = 401;
-    run_odds(capacities, flights, closing, odds);
-    odds.weight = 4294967295;
-    odds.other_weight = 1001;
-    run_odds(capacities, flights, closing, odds);
-    odds.weight = 1000;
-    odds.other_weight = 0;
-    odds.second = 256;
-    run_odds(capacities, flights, closing, odds);
+    let less = Odds {
+        weight: 399,
+        ..reported()
+    };
+    let more = Odds {
+        weight: 401,
+        ..reported()
+    };
+    let wrapped = Odds {
+        weight: u32::MAX,
+        other_weight: 1001,
+        ..reported()
+    };
+    let too_high = Odds {
+        weight: 1000,
+        other_weight: 0,
+        second: 256,
+        ..reported()
+    };
+    for odds in [less, more, wrapped, too_high] {
+        run_odds(capacities, flights, closing, odds);
+    }
 }
 
 fn run_with(

@@ -1,33 +1,59 @@
 // The examples as they stand in the input.
-ghost use Rattle.std.specs.Prelude.{◌≤◌};
+ghost use Rattle.std.specs.Prelude.{◌≤◌, IfSome};
 
-fn byte_at(input: &[u8], at: usize) -> u8 {
-    if at < input.len() { input[at] } else { 0 }
+// What an example asks for.
+#[derive(Clone, Copy)]
+pub enum Kind {
+    Day,
+    Factors,
+    Growth,
+    Lengths,
+    Odds,
+    Program,
+    Read,
+    Text,
+    Unfit,
+    Values,
 }
 
-fn digit(byte: u8) -> usize
-    ensures { result ≤ 10 }
-{
-    if 48 <= byte {
-        if byte <= 57 {
-            return byte as usize - 48;
+// By the first letter of its name.
+impl From<u8> for Kind {
+    fn from(letter: u8) -> Kind {
+        match letter {
+            b'd' => Kind::Day,
+            b'f' => Kind::Factors,
+            b'g' => Kind::Growth,
+            b'l' => Kind::Lengths,
+            b'o' => Kind::Odds,
+            b'p' => Kind::Program,
+            b't' => Kind::Text,
+            b'u' => Kind::Unfit,
+            b'v' => Kind::Values,
+            _ => Kind::Read,
         }
     }
-    10
+}
+
+// The digit that stands at a place, if one does.
+fn digit_at(input: &[u8], place: usize) -> Option<usize>
+    ensures { IfSome result (λ digit. digit ≤ 9) }
+{
+    match input.get(place) {
+        Some(byte) if byte.is_ascii_digit() => Some((*byte - b'0') as usize),
+        _ => None,
+    }
 }
 
 // Where the word that begins at `at` ends.
 pub fn word_end(input: &[u8], at: usize) -> usize
     ensures { at ≤ result }
 {
-    let mut end = at;
-    while end < input.len() {
-        if input[end] == 32 {
-            return end;
+    for place in at..input.len() {
+        if input[place] == b' ' {
+            return place;
         }
-        end += 1;
     }
-    end
+    at.max(input.len())
 }
 
 // The number whose digits stand from `at` on, and the place behind them. No more than five digits are read.
@@ -47,17 +73,14 @@ pub fn size_at(input: &[u8], at: usize) -> Size
         };
     }
     let mut value = 0;
-    let mut i = 0;
-    while i < 5 {
-        let next = digit(byte_at(input, at + i));
-        if 9 < next {
-            return Size { value, end: at + i };
-        }
+    for end in at..at + 5 {
+        let Some(digit) = digit_at(input, end) else {
+            return Size { value, end };
+        };
         if 9999 < value {
-            return Size { value, end: at + i };
+            return Size { value, end };
         }
-        value = value * 10 + next;
-        i += 1;
+        value = value * 10 + digit;
     }
-    Size { value, end: at + i }
+    Size { value, end: at + 5 }
 }

@@ -8,8 +8,6 @@
 // What a call changed though it had to leave it is reported as `CHANGED`, and a text that is not the expected one as `OTHER`.
 #![tactic(auto)]
 
-ghost use Rattle.std.specs.Prelude.{◌≡◌, length};
-
 mod back;
 mod calls;
 mod factors;
@@ -22,37 +20,37 @@ mod rows;
 mod sheets;
 mod show;
 
-use input::{size_at, word_end};
-use rows::{behind, part, same, short_buffer, text_buffer};
+use input::{Kind, size_at, word_end};
+use rows::{RUBBISH_BYTE, TEXT_ROOM, behind, part};
 use show::{put, put_number};
 
-// More bytes than a sheet and the rest of the examples have.
+// Room for all examples: more bytes than they have.
 const BEYOND: usize = 131072;
 
 // The text that the program writes for the first bytes of a buffer. It is the same where the buffer ends with them and the count goes
 // beyond it; a text's buffer that is a byte too short gives no text.
 fn run_program(input: &[u8], read: usize) {
-    let mut space = text_buffer();
-    let mut other_space = text_buffer();
-    let mut short_space = short_buffer();
+    let mut space = [RUBBISH_BYTE; TEXT_ROOM];
+    let mut other_space = [RUBBISH_BYTE; TEXT_ROOM];
+    let mut short_space = [RUBBISH_BYTE; TEXT_ROOM - 1];
     let text = program::answer(input, read, &mut space);
     let other = program::answer(part(input, 0, read), BEYOND, &mut other_space);
     let none = program::answer(input, read, &mut short_space);
     put_number(b" bytes ", text.len() as u64);
     put_number(b" short text ", none.len() as u64);
-    if !same(text, other) {
+    if text != other {
         put(b" OTHER");
     }
     put(b"\n");
     put(text);
 }
 
-fn run_kind(kind: u8, input: &[u8], length: usize) {
+fn run_kind(kind: Kind, input: &[u8], length: usize) {
     match kind {
-        b'p' => run_program(input, length),
-        b'f' => factors::show_factors(),
-        b't' => back::run_text(kind, part(input, 0, length)),
-        b'u' => sheets::run_reader(part(input, 0, length)),
+        Kind::Program => run_program(input, length),
+        Kind::Factors => factors::show_factors(),
+        Kind::Text => back::run_text(kind, part(input, 0, length)),
+        Kind::Unfit => sheets::run_reader(part(input, 0, length)),
         _ => sheets::run_sheet(kind, part(input, 0, length), b""),
     }
 }
@@ -71,32 +69,23 @@ fn run_example(input: &[u8], at: usize) -> usize {
     let size = size_at(input, name_end + 1);
     let length = size.value;
     let start = size.end + 1;
-    run_kind(input[at], behind(input, start), length);
+    run_kind(Kind::from(input[at]), behind(input, start), length);
     put(b"\n");
     start + length + 1
 }
 
 // At most two hundred examples.
 fn run_all(input: &[u8]) {
-    let mut at: usize = 0;
-    let mut examples: usize = 0;
-    while examples < 200 {
-        examples += 1;
+    let mut at = 0;
+    for _ in 0..200 {
         if at < input.len() {
             at = run_example(input, at);
         }
     }
 }
 
-// Room for all examples.
-fn input_buffer() -> [u8; 131072]
-    ensures { 131072 ≡ length result }
-{
-    [0; 131072]
-}
-
 fn main() {
-    let mut space = input_buffer();
+    let mut space = [0; BEYOND];
     let read = io::read_full(0, &mut space);
     run_all(&space[0..read]);
 }

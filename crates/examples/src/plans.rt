@@ -6,18 +6,18 @@ use crate::calls::{
     board, card, choice, full_plan, plan_text, plan_text_at, price_check, quick_plan, sheet_text_at,
 };
 use crate::rows::{
-    due_row, expect_around, front, front_mut, hold_row, later_row, part, price_count, price_row,
-    text_buffer,
+    MORE_FLIGHTS, MORE_PRICES, NO_ROOM, RUBBISH, RUBBISH_BYTE, TEXT_ROOM, expect_around, front,
+    front_mut, part, price_count,
 };
 use crate::show::{put, put_code};
 use day::UNLIMITED;
 
 // A place beyond every buffer.
-const FAR: usize = 18446744073709551615;
+const FAR: usize = usize::MAX;
 
 // The plan beside the row where everyone lands when due: which of the two is chosen, and the board of each.
 fn run_choices(capacities: &[u32], flights: &[u32], closing: u32, holds: &[u32]) {
-    let zeros = due_row();
+    let zeros = [0; MORE_FLIGHTS];
     let due = front(&zeros, holds.len());
     put(b"\n due, plan:");
     choice(capacities, flights, closing, due, holds);
@@ -34,7 +34,7 @@ fn run_choices(capacities: &[u32], flights: &[u32], closing: u32, holds: &[u32])
 // Of a day with a closing line also the row where everyone is held for one period: the closing period may have too many.
 fn run_later(capacities: &[u32], flights: &[u32], closing: u32, holds: &[u32]) {
     if closing < UNLIMITED {
-        let ones = later_row();
+        let ones = [1; MORE_FLIGHTS];
         let later = front(&ones, holds.len());
         put(b"\n a period later:");
         board(capacities, flights, closing, later, holds.len());
@@ -47,53 +47,44 @@ fn run_later(capacities: &[u32], flights: &[u32], closing: u32, holds: &[u32]) {
 // Periods 0 to P + 1, and the largest number.
 fn run_cards(capacities: &[u32], flights: &[u32], closing: u32) {
     put(b"\n");
-    card(capacities, flights, closing, 0);
-    let mut period: u32 = 1;
-    while period < 98 {
-        if day::wide(period - 1) <= capacities.len() {
+    for period in 0..98 {
+        if period as usize <= capacities.len() + 1 {
             card(capacities, flights, closing, period);
         }
-        period += 1;
     }
-    card(capacities, flights, closing, 4294967295);
+    card(capacities, flights, closing, u32::MAX);
 }
 
 // The last place of a text's buffer from which it has room.
 fn last_place(length: usize) -> usize
     ensures { result ≤ 4096 }
 {
-    if length <= 4096 { 4096 - length } else { 0 }
+    TEXT_ROOM.saturating_sub(length)
 }
 
 fn run_sheet_texts(capacities: &[u32], flights: &[u32], closing: u32, sheet: &[u8]) {
     let last = last_place(sheet.len());
     put(b"\n sheet");
-    sheet_text_at(capacities, flights, closing, 0, sheet);
-    sheet_text_at(capacities, flights, closing, 7, sheet);
-    sheet_text_at(capacities, flights, closing, last, sheet);
-    sheet_text_at(capacities, flights, closing, last + 1, sheet);
-    sheet_text_at(capacities, flights, closing, 4097, sheet);
-    sheet_text_at(capacities, flights, closing, FAR, sheet);
+    for place in [0, 7, last, last + 1, NO_ROOM, FAR] {
+        sheet_text_at(capacities, flights, closing, place, sheet);
+    }
 }
 
 fn run_plan_places(capacities: &[u32], flights: &[u32], closing: u32, holds: &[u32], text: &[u8]) {
     let last = last_place(text.len());
     put(b" text");
-    plan_text_at(capacities, flights, closing, holds, 7, text);
-    plan_text_at(capacities, flights, closing, holds, last, text);
-    plan_text_at(capacities, flights, closing, holds, last + 1, text);
-    plan_text_at(capacities, flights, closing, holds, 4097, text);
-    plan_text_at(capacities, flights, closing, holds, FAR, text);
+    for place in [7, last, last + 1, NO_ROOM, FAR] {
+        plan_text_at(capacities, flights, closing, holds, place, text);
+    }
 }
 
 // The text as it stands from place 0 on; then the same at other places, and read back.
 fn run_plan_texts(capacities: &[u32], flights: &[u32], closing: u32, holds: &[u32]) {
-    let mut space = text_buffer();
+    let mut space = [RUBBISH_BYTE; TEXT_ROOM];
     let code = desk::hold_desk_plan_text(capacities, flights, closing, holds, &mut space, 0);
     put_code(b"\n text ", code);
     expect_around(code, &space, 0);
-    let number = code.number;
-    if number != 0 {
+    if code.number != 0 {
         return;
     }
     let length = code.first as usize;
@@ -106,8 +97,8 @@ fn run_plan_texts(capacities: &[u32], flights: &[u32], closing: u32, holds: &[u3
 
 pub fn run_day(capacities: &[u32], flights: &[u32], closing: u32, sheet: &[u8]) {
     let count = day::flight_count(flights);
-    let mut hold_space = hold_row();
-    let mut price_space = price_row();
+    let mut hold_space = [RUBBISH; MORE_FLIGHTS];
+    let mut price_space = [RUBBISH; MORE_PRICES];
     let holds = front_mut(&mut hold_space, count);
     let prices = front_mut(&mut price_space, price_count(capacities, closing));
     put(b"\n");

@@ -7,14 +7,11 @@ use crate::calls::{
 use crate::forecasts::forecast_plan_of;
 use crate::growing::growth_plan;
 use crate::rows::{
-    capacity_row, copy, due_row, flight_row, front, front_mut, hold_row, price_count, price_row,
-    set,
+    LONGER_ROW, MORE_FLIGHTS, MORE_PERIODS, MORE_PRICES, NO_ROOM, RUBBISH, copy, front, front_mut,
+    price_count, set,
 };
 use crate::show::{put, put_number};
-use day::WIDTH;
-
-// A place beyond the texts' buffers.
-const NO_ROOM: usize = 4097;
+use day::{Flight, MISSING, WIDTH, put_flight};
 
 // What a call is lent beside the day and a hold row: the lengths of a price and a board row, and the place in a text's buffer.
 #[derive(Clone, Copy)]
@@ -25,18 +22,18 @@ struct Lent {
 }
 
 fn longer(length: usize) -> usize {
-    if length < 1000 { length + 1 } else { 0 }
+    length.saturating_add(1)
 }
 
 // One less; for an empty row another length.
 fn shorter(length: usize) -> usize {
-    if 0 < length { length - 1 } else { 1 }
+    length.checked_sub(1).unwrap_or(1)
 }
 
 // Every call. The card is asked for period 0, the growing plan for a growth of 41, and the text to be read back is none, which are
 // refused last.
 fn run_calls(capacities: &[u32], flights: &[u32], closing: u32, holds: &[u32], lent: Lent) {
-    let prices = price_row();
+    let prices = [RUBBISH; MORE_PRICES];
     quick_plan(capacities, flights, closing, holds.len());
     growth_plan(capacities, flights, closing, 41, holds.len());
     card(capacities, flights, closing, 0);
@@ -111,7 +108,7 @@ fn run_other_rows(capacities: &[u32], flights: &[u32], closing: u32, plan: &[u32
 
 // Everyone lands when due, which is not legal where a period has too few places.
 fn run_when_due(capacities: &[u32], flights: &[u32], closing: u32, count: usize) {
-    let zeros = due_row();
+    let zeros = [0; MORE_FLIGHTS];
     let due = front(&zeros, count);
     let fit = Lent {
         prices: price_count(capacities, closing),
@@ -131,8 +128,8 @@ fn run_when_due(capacities: &[u32], flights: &[u32], closing: u32, count: usize)
 
 pub fn run_lengths(capacities: &[u32], flights: &[u32], closing: u32) {
     let count = day::flight_count(flights);
-    let mut plan = hold_row();
-    let mut prices = price_row();
+    let mut plan = [RUBBISH; MORE_FLIGHTS];
+    let mut prices = [RUBBISH; MORE_PRICES];
     let planned = desk::hold_desk_full_plan(
         capacities,
         flights,
@@ -147,7 +144,7 @@ pub fn run_lengths(capacities: &[u32], flights: &[u32], closing: u32) {
 
 // Every call for a day in memory, with rows of the lengths that it asks; everyone lands when due.
 fn run_memory(capacities: &[u32], flights: &[u32], closing: u32) {
-    let zeros = due_row();
+    let zeros = [0; MORE_FLIGHTS];
     let count = day::flight_count(flights);
     let lent = Lent {
         prices: price_count(capacities, closing),
@@ -159,19 +156,19 @@ fn run_memory(capacities: &[u32], flights: &[u32], closing: u32) {
 
 // The day with one number of its flight row changed.
 fn run_changed(capacities: &[u32], flights: &[u32], closing: u32, at: usize, value: u32) {
-    let mut space = flight_row();
+    let mut space = [RUBBISH; LONGER_ROW];
     let row = front_mut(&mut space, flights.len());
     copy(flights, row);
     set(row, at, value);
     put_number(b"\n flight entry ", at as u64);
-    put_number(b" is ", day::wide(value) as u64);
+    put_number(b" is ", u64::from(value));
     put(b":");
     run_memory(capacities, row, closing);
 }
 
 // The day with its flight row cut or lengthened; what is added is rubbish.
 fn run_resized(capacities: &[u32], flights: &[u32], closing: u32, length: usize) {
-    let mut space = flight_row();
+    let mut space = [RUBBISH; LONGER_ROW];
     let row = front_mut(&mut space, length);
     copy(flights, row);
     put_number(b"\n flight row of ", length as u64);
@@ -181,43 +178,39 @@ fn run_resized(capacities: &[u32], flights: &[u32], closing: u32, length: usize)
 
 // The day with periods of one capacity, so and so many.
 fn run_periods(flights: &[u32], closing: u32, length: usize, capacity: u32) {
-    let space = capacity_row(capacity);
+    let space = [capacity; MORE_PERIODS];
     put_number(b"\n capacity row of ", length as u64);
-    put_number(b" entries ", day::wide(capacity) as u64);
+    put_number(b" entries ", u64::from(capacity));
     put(b":");
     run_memory(front(&space, length), flights, closing);
 }
 
 // Flights numbered from 1 on, due 1 at rate 1.
-fn number_flights(flights: &mut [u32]) {
-    let mut place: u32 = 0;
-    while place < 129 {
-        let at = day::wide(place) * WIDTH;
-        set(flights, at, place + 1);
-        set(flights, at + 1, 1);
-        set(flights, at + 2, 1);
-        set(flights, at + 3, 0);
-        set(flights, at + 4, 0);
-        set(flights, at + 5, 255);
-        set(flights, at + 6, 0);
-        place += 1;
-    }
-}
-
 fn run_129_flights(capacities: &[u32], closing: u32) {
-    let mut flights = flight_row();
-    number_flights(&mut flights);
+    let mut flights = [RUBBISH; LONGER_ROW];
+    for place in 0..MORE_FLIGHTS {
+        let flight = Flight {
+            number: place as u32 + 1,
+            due: 1,
+            rate: 1,
+            after: 0,
+            jump: 0,
+            limit: MISSING,
+            late: 0,
+        };
+        put_flight(&mut flights, place, flight);
+    }
     put(b"\n 129 flights:");
     run_memory(capacities, &flights, closing);
 }
 
 // A bad day comes before every row of another length, before a jump or a limit, and before a period that is none.
 fn run_all_wrong(capacities: &[u32], flights: &[u32], closing: u32) {
-    let mut space = flight_row();
+    let mut space = [RUBBISH; LONGER_ROW];
     let row = front_mut(&mut space, flights.len());
     copy(flights, row);
     set(row, 0, 0);
-    let zeros = due_row();
+    let zeros = [0; MORE_FLIGHTS];
     let count = longer(day::flight_count(flights));
     let lent = Lent {
         prices: longer(price_count(capacities, closing)),
@@ -231,46 +224,45 @@ fn run_all_wrong(capacities: &[u32], flights: &[u32], closing: u32) {
 // The columns that name the flight and its due period, at the ends of their ranges and past them. The second flight gets the first one's
 // number.
 fn run_names(capacities: &[u32], flights: &[u32], closing: u32, number: u32) {
-    run_changed(capacities, flights, closing, 0, 0);
-    run_changed(capacities, flights, closing, 0, 9999);
-    run_changed(capacities, flights, closing, 0, 10000);
+    for value in [0, 9999, 10000] {
+        run_changed(capacities, flights, closing, 0, value);
+    }
     run_changed(capacities, flights, closing, WIDTH, number);
-    run_changed(capacities, flights, closing, 1, 0);
-    run_changed(capacities, flights, closing, 1, 2);
-    run_changed(capacities, flights, closing, 1, 3);
+    for value in [0, 2, 3] {
+        run_changed(capacities, flights, closing, 1, value);
+    }
 }
 
 // The columns of the cost, late among them, and the limit.
 fn run_costs(capacities: &[u32], flights: &[u32], closing: u32) {
-    run_changed(capacities, flights, closing, 2, 0);
-    run_changed(capacities, flights, closing, 2, 10000);
-    run_changed(capacities, flights, closing, 2, 10001);
-    run_changed(capacities, flights, closing, 3, 96);
-    run_changed(capacities, flights, closing, 3, 97);
-    run_changed(capacities, flights, closing, 4, 1000000);
-    run_changed(capacities, flights, closing, 4, 1000001);
-    run_changed(capacities, flights, closing, 5, 96);
-    run_changed(capacities, flights, closing, 5, 97);
-    run_changed(capacities, flights, closing, 5, 254);
-    run_changed(capacities, flights, closing, 5, 256);
-    run_changed(capacities, flights, closing, 6, 255);
-    run_changed(capacities, flights, closing, 6, 256);
+    let changes = [
+        (2, 0),
+        (2, 10000),
+        (2, 10001),
+        (3, 96),
+        (3, 97),
+        (4, 1000000),
+        (4, 1000001),
+        (5, 96),
+        (5, 97),
+        (5, 254),
+        (5, 256),
+        (6, 255),
+        (6, 256),
+    ];
+    for (column, value) in changes {
+        run_changed(capacities, flights, closing, column, value);
+    }
 }
 
-// The day with another closing number.
-fn run_closing(capacities: &[u32], flights: &[u32], closing: u32) {
-    put_number(b"\n closing number ", day::wide(closing) as u64);
-    put(b":");
-    run_memory(capacities, flights, closing);
-}
-
-// None may land in the closing period, as many as a line can say, everyone, and numbers that no day has.
+// The day with other closing numbers: none may land in the closing period, as many as a line can say, everyone, and numbers that no day
+// has.
 fn run_closings(capacities: &[u32], flights: &[u32]) {
-    run_closing(capacities, flights, 0);
-    run_closing(capacities, flights, 255);
-    run_closing(capacities, flights, 256);
-    run_closing(capacities, flights, 257);
-    run_closing(capacities, flights, 4294967295);
+    for closing in [0, 255, 256, 257, u32::MAX] {
+        put_number(b"\n closing number ", u64::from(closing));
+        put(b":");
+        run_memory(capacities, flights, closing);
+    }
 }
 
 // For a day of two periods.
@@ -281,11 +273,9 @@ pub fn run_values(capacities: &[u32], flights: &[u32], closing: u32) {
     run_costs(capacities, flights, closing);
     run_resized(capacities, flights, closing, shorter(flights.len()));
     run_resized(capacities, flights, closing, longer(flights.len()));
-    run_periods(flights, closing, 2, 255);
-    run_periods(flights, closing, 2, 256);
-    run_periods(flights, closing, 0, 1);
-    run_periods(flights, closing, 96, 1);
-    run_periods(flights, closing, 97, 1);
+    for (length, capacity) in [(2, 255), (2, 256), (0, 1), (96, 1), (97, 1)] {
+        run_periods(flights, closing, length, capacity);
+    }
     run_129_flights(capacities, closing);
     run_closings(capacities, flights);
     run_all_wrong(capacities, flights, closing);

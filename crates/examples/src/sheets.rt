@@ -2,59 +2,64 @@
 use crate::back::read_back;
 use crate::forecasts::run_forecasts;
 use crate::growing::run_growths;
+use crate::input::Kind;
 use crate::plans::run_day;
 use crate::refused::{run_lengths, run_values};
-use crate::rows::{behind_row, expect_row_kept, flight_row, front, front_mut, rubbish_row};
+use crate::rows::{LONGER_ROW, MORE_PERIODS, RUBBISH, behind, expect_kept, front, front_mut};
 use crate::show::{put_number, put_reading};
 use day::{FLIGHT_ROW, FLIGHTS, PERIODS, WIDTH};
 use desk::ReadingCode;
 
 // Past the day the rows are as they were; of a sheet that was refused, all of them.
-fn expect_kept(code: ReadingCode, capacities: &[u32], flights: &[u32]) {
-    let number = code.number;
+fn expect_rest_kept(code: ReadingCode, capacities: &[u32], flights: &[u32]) {
     let periods = code.first as usize;
     let count = code.second as usize;
-    if number != 0 {
-        expect_row_kept(capacities);
-        expect_row_kept(flights);
+    if code.number != 0 {
+        expect_kept(capacities, RUBBISH);
+        expect_kept(flights, RUBBISH);
         return;
     }
-    expect_row_kept(behind_row(capacities, periods));
+    expect_kept(behind(capacities, periods), RUBBISH);
     if count <= FLIGHTS {
-        expect_row_kept(behind_row(flights, count * WIDTH));
+        expect_kept(behind(flights, count * WIDTH), RUBBISH);
     }
 }
 
 // ` rows periods flights: number,first,second closing number`
 fn read_into(sheet: &[u8], periods: usize, entries: usize) {
-    let mut capacity_space = rubbish_row();
-    let mut flight_space = flight_row();
+    let mut capacity_space = [RUBBISH; MORE_PERIODS];
+    let mut flight_space = [RUBBISH; LONGER_ROW];
     let capacities = front_mut(&mut capacity_space, periods);
     let flights = front_mut(&mut flight_space, entries);
     let code = desk::hold_desk_read_sheet(sheet, capacities, flights);
     put_number(b"\n rows ", periods as u64);
     put_number(b" ", entries as u64);
     put_reading(b": ", code);
-    expect_kept(code, capacities, flights);
+    expect_rest_kept(code, capacities, flights);
 }
 
 // The lengths that are asked for, then others.
 pub fn run_reader(sheet: &[u8]) {
-    read_into(sheet, PERIODS, FLIGHT_ROW);
-    read_into(sheet, PERIODS - 1, FLIGHT_ROW);
-    read_into(sheet, PERIODS + 1, FLIGHT_ROW);
-    read_into(sheet, 0, FLIGHT_ROW);
-    read_into(sheet, PERIODS, FLIGHT_ROW - 1);
-    read_into(sheet, PERIODS, FLIGHT_ROW + 1);
-    read_into(sheet, PERIODS, 0);
-    read_into(sheet, PERIODS - 1, FLIGHT_ROW - 1);
-    read_into(sheet, PERIODS + 1, FLIGHT_ROW + 1);
-    read_into(sheet, 0, 0);
+    let lengths = [
+        (PERIODS, FLIGHT_ROW),
+        (PERIODS - 1, FLIGHT_ROW),
+        (PERIODS + 1, FLIGHT_ROW),
+        (0, FLIGHT_ROW),
+        (PERIODS, FLIGHT_ROW - 1),
+        (PERIODS, FLIGHT_ROW + 1),
+        (PERIODS, 0),
+        (PERIODS - 1, FLIGHT_ROW - 1),
+        (PERIODS + 1, FLIGHT_ROW + 1),
+        (0, 0),
+    ];
+    for (periods, entries) in lengths {
+        read_into(sheet, periods, entries);
+    }
 }
 
 // What the example's kind asks for a day that was read; the text is for the kind `text`.
 fn run_read(
-    kind: u8,
+    kind: Kind,
     capacities: &[u32],
     flights: &[u32],
     closing: u32,
@@ -62,19 +67,19 @@ fn run_read(
     text: &[u8],
 ) {
     match kind {
-        b'd' => run_day(capacities, flights, closing, sheet),
-        b'l' => run_lengths(capacities, flights, closing),
-        b'v' => run_values(capacities, flights, closing),
-        b'o' => run_forecasts(capacities, flights, closing),
-        b'g' => run_growths(capacities, flights, closing),
-        b't' => read_back(
+        Kind::Day => run_day(capacities, flights, closing, sheet),
+        Kind::Lengths => run_lengths(capacities, flights, closing),
+        Kind::Values => run_values(capacities, flights, closing),
+        Kind::Odds => run_forecasts(capacities, flights, closing),
+        Kind::Growth => run_growths(capacities, flights, closing),
+        Kind::Text => read_back(
             capacities,
             flights,
             closing,
             text,
             day::flight_count(flights),
         ),
-        _ => (),
+        Kind::Factors | Kind::Program | Kind::Read | Kind::Unfit => (),
     }
 }
 
@@ -84,27 +89,24 @@ fn closing_of(code: ReadingCode) -> u32 {
     if closing <= 256 { closing as u32 } else { 257 }
 }
 
-pub fn run_sheet(kind: u8, sheet: &[u8], text: &[u8]) {
-    let mut capacity_space = rubbish_row();
-    let mut flight_space = flight_row();
+pub fn run_sheet(kind: Kind, sheet: &[u8], text: &[u8]) {
+    let mut capacity_space = [RUBBISH; MORE_PERIODS];
+    let mut flight_space = [RUBBISH; LONGER_ROW];
     let capacities = front_mut(&mut capacity_space, PERIODS);
     let flights = front_mut(&mut flight_space, FLIGHT_ROW);
     let code = desk::hold_desk_read_sheet(sheet, capacities, flights);
     put_reading(b" read ", code);
-    expect_kept(code, capacities, flights);
-    let number = code.number;
+    expect_rest_kept(code, capacities, flights);
     let periods = code.first as usize;
     let count = code.second as usize;
-    if number == 0 {
-        if count <= FLIGHTS {
-            run_read(
-                kind,
-                front(capacities, periods),
-                front(flights, count * WIDTH),
-                closing_of(code),
-                sheet,
-                text,
-            );
-        }
+    if code.number == 0 && count <= FLIGHTS {
+        run_read(
+            kind,
+            front(capacities, periods),
+            front(flights, count * WIDTH),
+            closing_of(code),
+            sheet,
+            text,
+        );
     }
 }

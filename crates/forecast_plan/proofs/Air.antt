@@ -1,19 +1,15 @@
 -- The row of periods in the air by weight: how one forecast's part comes to it, and how all of them do.
 -- Assumes nothing.
-use mathlib.Core.Path.{◌≡◌, refl, ap, sym, subst, ◌∙◌}
-use mathlib.Core.Logic.{inl, inr}
+use mathlib.Core.Path.{◌≡◌, refl, ap, sym, ◌∙◌}
 use mathlib.Core.List.{List}
 use Prim.Native.Nat.{ℕ, ◌+◌, ◌-◌, ◌*◌, ◌≤◌, ◌<◌}
 use native.Mathlib.Nat.{mul-le-mul}
 use native.Mathlib.Omega.{arith}
 use native.Mathlib.Numerals.{add-one}
-use lib.ListN.{length, set, take, drop, length-set}
+use lib.ListN.{length, take, drop}
 use Rattle.assignment.specs.Sum.{sum}
 use Rattle.assignment.specs.Rows.{el}
-use Rattle.assignment.specs.Moves.{Moved}
-use Rattle.assignment.proofs.Rows.{set_moved}
 use Rattle.assignment.proofs.Sums.{sum_most}
-use Rattle.assignment.proofs.Tests.{eq?}
 use Rattle.forecast_plan.specs.Forecast.{forecast_at, first_room}
 use Rattle.forecast_plan.specs.Loop.{Adding, waits_of, airborne, Weighed}
 use Rattle.forecast_plan.proofs.Landing.{room_closing, room_from, room_to, room_same}
@@ -22,13 +18,6 @@ use Rattle.forecast_plan.proofs.Parts.{parted_days, parted_part, part_size, part
 -- ---- one forecast
 
 module _ {capacities waits : List ℕ} {weight due : ℕ} {air₀ air : List ℕ} {j : ℕ} (a : Adding capacities waits weight due air₀ air j) where
-  -- what the period before asks for
-  pub adding_there : {lands : ℕ} → lands ≡ first_room (el waits) capacities j → due < j
-      → (1 ≤ j - 1) × (j - 1 ≤ length capacities) × (j - 1 < length waits) × (lands ≡ first_room (el waits) capacities (j - 1 + 1))
-  adding_there e l =
-      let same : j - 1 + 1 ≡ j = omega arith in
-      (omega (arith, a.from), omega (arith, a.upto), omega (arith, a.upto, a.waited, a.periods), rw same e)
-
   module _ {lands : ℕ} (e : lands ≡ first_room (el waits) capacities (j - 1)) (l : due < j) where
     pub adding_lands : j - 1 ≤ lands
     adding_lands = omega (arith, e, room_from (el waits) capacities (j - 1))
@@ -39,29 +28,6 @@ module _ {capacities waits : List ℕ} {weight due : ℕ} {air₀ air : List ℕ
 
     pub adding_low : el air (j - 1) ≤ 768000
     adding_low = omega (arith, a.others (j - 1) (omega arith), a.low (j - 1) (omega arith) (omega (arith, a.upto)))
-
-    pub adding_next : Adding capacities waits weight due air₀ (set air (j - 1) (el air (j - 1) + weight * (lands - (j - 1)))) (j - 1)
-    adding_next = record {
-      periods = a.periods;
-      waited = a.waited;
-      sizes = length-set air (j - 1) _ ∙ a.sizes;
-      odds = a.odds;
-      low = a.low;
-      from = a.from;
-      downto = omega arith;
-      upto = omega (arith, a.upto);
-      added = λ q from to. elim (eq? q (j - 1)) [
-        | inl is ↦ rw is (m.here ∙ rw (a.others (j - 1) (omega arith), e))
-        | inr other ↦ m.others q other ∙ a.added q (omega arith) to
-      ];
-      others = λ q b. m.others q (λ is. omega arith) ∙ a.others q (omega arith);
-    }
-      where
-        m : Moved (el air) (el (set air (j - 1) (el air (j - 1) + weight * (lands - (j - 1))))) (j - 1) (el air (j - 1) + weight * (lands - (j - 1)))
-        m = set_moved air (j - 1) (el air (j - 1) + weight * (lands - (j - 1))) (omega (arith, a.upto, a.sizes, a.periods))
-
-  pub adding_end : j ≤ due → Adding capacities waits weight due air₀ air due
-  adding_end l = subst (λ k. Adding capacities waits weight due air₀ air k) (omega (arith, a.downto)) a
 
 -- ---- all forecasts
 
@@ -76,9 +42,6 @@ module _ {p : ℕ} {weights rows waits : List ℕ} {due : ℕ} {air : List ℕ} 
             let days = parted_days w.parted {s = t} (omega (arith, w.upto)) in
             omega (arith, mul-le-mul {n₁ = el weights t} {m₁ = first_room (waits_of waits t) (forecast_at p rows t) q - q} {n₂ = 1000} {m₂ = 96} (w.odds t) (omega (arith, days, w.from, w.parted.periods, room_to (waits_of waits t) (forecast_at p rows t) q (omega (arith, days)))))),
       )
-
-  pub weighed_all : length weights ≤ s → Weighed p weights rows waits due air (length weights)
-  weighed_all l = subst (λ n. Weighed p weights rows waits due air n) (omega (arith, w.upto)) w
 
 -- the next forecast
 module _ {p : ℕ} {weights rows waits : List ℕ} {due : ℕ} {air : List ℕ} {s : ℕ} (w : Weighed p weights rows waits due air s) (l : s < length weights) where

@@ -1,5 +1,6 @@
 -- What the call comes to, a law for each of its ways, and that the plan's numbers fit where nothing is refused.
 -- Assumes nothing.
+use Rattle.std.proofs.Common.{Ok, Err}
 use mathlib.Core.Path.{◌≡◌, refl, sym, ◌∙◌}
 use mathlib.Core.Logic.{◌≢◌}
 use mathlib.Core.Bool.{true, false, ◌&&◌}
@@ -12,7 +13,7 @@ use lib.Dec.{eqb}
 use borrow.Author.Tests.{lt-ltb, eq-eqb, ne_eqb, eqb-true}
 use Rattle.assignment.proofs.Tests.{and_true}
 use Rattle.answers.specs.Answers.{outcome}
-use Rattle.answers.specs.declared.Answer.TheVariants.{Planned, BadDay, BadLength, BadForecasts, BadTerms}
+use Rattle.answers.specs.declared.Refusal.TheVariants.{BadDay, BadLength, BadForecasts, BadTerms}
 use Rattle.day.specs.Day.{Day, day, unlimited, P, N, valid, inside, capacities_fit}
 use Rattle.day.proofs.Valid.{valid_means, inside_means}
 use Rattle.forecast_plan.specs.Forecast.{Forecasts, forecast_holds, expected_total}
@@ -22,19 +23,6 @@ use Rattle.forecast_plan.specs.Loop.{Fit}
 -- ---- the tests
 
 module _ (flights : List ℕ) (count factor : ℕ) where
-  pub has_jump : no_jumps flights ≡ false → terms_fit flights count factor ≡ false
-  unfolding terms_fit
-  has_jump e = rw e
-
-  module _ (none : no_jumps flights ≡ true) where
-    pub bad_factor : inside 1 10 factor ≡ false → terms_fit flights count factor ≡ false
-    unfolding terms_fit
-    bad_factor e = rw (none, e)
-
-    pub terms_count : inside 1 10 factor ≡ true → terms_fit flights count factor ≡ inside 1 8 count
-    unfolding terms_fit
-    terms_count e = rw (none, e)
-
   pub terms_to : terms_fit flights count factor ≡ true → (factor ≤ 10) × (count ≤ 8)
   unfolding terms_fit
   terms_to e =
@@ -42,14 +30,6 @@ module _ (flights : List ℕ) (count factor : ℕ) where
       ((inside_means 1 10 factor (and_true {a = no_jumps flights} {b = inside 1 10 factor} both.0).1).1, (inside_means 1 8 count both.1).1)
 
 module _ (weights rows : List ℕ) where
-  pub bad_sum : {t : ℕ} → t ≡ all_weights weights → t ≢ 1000 → forecasts_fit weights rows ≡ false
-  unfolding forecasts_fit
-  bad_sum e o = rw (ne_eqb (all_weights weights) 1000 (λ z. o (e ∙ z)))
-
-  pub sum_fits : {t : ℕ} → t ≡ all_weights weights → t ≡ 1000 → forecasts_fit weights rows ≡ capacities_fit rows
-  unfolding forecasts_fit
-  sum_fits e o = rw (eq-eqb (all_weights weights) 1000 (sym e ∙ o))
-
   pub adds_up : forecasts_fit weights rows ≡ true → all_weights weights ≡ 1000
   unfolding forecasts_fit
   adds_up e = eqb-true (all_weights weights) 1000 (and_true {a = eqb (all_weights weights) 1000} {b = capacities_fit rows} e).0
@@ -57,12 +37,12 @@ module _ (weights rows : List ℕ) where
 -- ---- the ways of the call
 
 module _ (d : Day) (f : Forecasts) (h : List ℕ) where
-  pub bad_day : valid d ≡ false → forecast_plan d f h ≡ outcome BadDay h
+  pub bad_day : valid d ≡ false → forecast_plan d f h ≡ outcome (Err BadDay) h
   unfolding forecast_plan
   bad_day e = rw e
 
   -- a valid day's closing number is 256, or there is a line
-  pub has_line_lem : valid d ≡ true → d.closing ≢ unlimited → forecast_plan d f h ≡ outcome BadTerms h
+  pub has_line_lem : valid d ≡ true → d.closing ≢ unlimited → forecast_plan d f h ≡ outcome (Err BadTerms) h
   unfolding forecast_plan
   has_line_lem v e = rw (v, lt-ltb d.closing unlimited (omega (arith, e, (valid_means v).closing_to)))
 
@@ -73,7 +53,7 @@ module _ (caps flights : List ℕ) {closing : ℕ} (f : Forecasts) (h : List ℕ
 
   -- the count and the air factor as the program widens them
   module _ {n k : ℕ} (n-is : n ≡ f.count) (k-is : k ≡ f.air_factor) where
-    pub bad_terms : terms_fit flights n k ≡ false → forecast_plan (day caps flights closing) f h ≡ outcome BadTerms h
+    pub bad_terms : terms_fit flights n k ≡ false → forecast_plan (day caps flights closing) f h ≡ outcome (Err BadTerms) h
     unfolding forecast_plan
     bad_terms e = rw (no_line, open_day, sym n-is, sym k-is, e)
 
@@ -84,23 +64,23 @@ module _ (caps flights : List ℕ) {closing : ℕ} (f : Forecasts) (h : List ℕ
 
 module _ (d : Day) (f : Forecasts) (h : List ℕ) where
   module _ {n : ℕ} (size : n ≡ N d) where
-    pub bad_holds : length h ≢ n → rows_plan d f h ≡ outcome (BadLength n) h
+    pub bad_holds : length h ≢ n → rows_plan d f h ≡ outcome (Err (BadLength n)) h
     unfolding rows_plan
     bad_holds o = rw (size, ne_eqb (length h) (N d) (λ e. o (e ∙ sym size)))
 
     module _ (each : length h ≡ n) where
-      pub bad_weights : length f.weights ≢ f.count → rows_plan d f h ≡ outcome (BadLength f.count) h
+      pub bad_weights : length f.weights ≢ f.count → rows_plan d f h ≡ outcome (Err (BadLength f.count)) h
       unfolding rows_plan
       bad_weights o = rw (eq-eqb (length h) (N d) (each ∙ size), ne_eqb (length f.weights) f.count o)
 
       module _ (w : length f.weights ≡ f.count) where
-        pub bad_rows : length f.rows ≢ f.count * P d → rows_plan d f h ≡ outcome (BadLength (f.count * P d)) h
+        pub bad_rows : length f.rows ≢ f.count * P d → rows_plan d f h ≡ outcome (Err (BadLength (f.count * P d))) h
         unfolding rows_plan
         bad_rows o =
             rw (eq-eqb (length h) (N d) (each ∙ size), eq-eqb (length f.weights) f.count w, ne_eqb (length f.rows) (f.count * P d) o)
 
         module _ (r : length f.rows ≡ f.count * P d) where
-          pub bad_forecasts : forecasts_fit f.weights f.rows ≡ false → rows_plan d f h ≡ outcome BadForecasts h
+          pub bad_forecasts : forecasts_fit f.weights f.rows ≡ false → rows_plan d f h ≡ outcome (Err BadForecasts) h
           unfolding rows_plan
           bad_forecasts e =
               rw (eq-eqb (length h) (N d) (each ∙ size), eq-eqb (length f.weights) f.count w, eq-eqb (length f.rows) (f.count * P d) r, e)
@@ -109,7 +89,7 @@ module _ (d : Day) (f : Forecasts) (h : List ℕ) where
           pub planned : forecasts_fit f.weights f.rows ≡ true → {x : List ℕ} {t : ℕ}
               → x ≡ forecast_holds d (record { count = length f.weights; air_factor = f.air_factor; weights = f.weights; rows = f.rows })
               → t ≡ expected_total d (record { count = length f.weights; air_factor = f.air_factor; weights = f.weights; rows = f.rows }) (forecast_holds d (record { count = length f.weights; air_factor = f.air_factor; weights = f.weights; rows = f.rows }))
-              → rows_plan d f h ≡ outcome (Planned t) x
+              → rows_plan d f h ≡ outcome (Ok t) x
           unfolding rows_plan
           planned e x-is t-is =
               rw (eq-eqb (length h) (N d) (each ∙ size), eq-eqb (length f.weights) f.count w, eq-eqb (length f.rows) (f.count * P d) r, e, t-is, x-is, w)

@@ -5,17 +5,12 @@ use mathlib.Core.Bool.{Bool, true, false, cond}
 use mathlib.Core.List.{List}
 use Prim.Native.Nat.{ℕ, suc, ◌+◌, ◌-◌, ◌≤◌, ◌<◌}
 use native.Mathlib.Omega.{arith}
-use lib.ListN.{length, get_or}
+use lib.ListN.{length}
 use lib.Dec.{ltb}
 use Rattle.day.specs.Day.{of_period}
 use Rattle.day.specs.Plan.{first_of}
-use Rattle.day.proofs.Costs.{period_in}
 use Rattle.day.proofs.Tests.{first_le, first_same}
 use Rattle.forecast_plan.specs.Forecast.{first_room}
-
--- a capacity, as the program reads it
-pub capacity_here : (capacities : List ℕ) {j c : ℕ} → 1 ≤ j → c ≡ get_or capacities (j - 1) 0 → c ≡ of_period capacities j
-capacity_here capacities {j} some e = e ∙ sym (period_in capacities j (λ z. omega arith))
 
 module _ (waits : ℕ → ℕ) (capacities : List ℕ) where
   -- "else in the closing period"

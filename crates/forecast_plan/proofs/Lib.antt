@@ -12,5 +12,5 @@ pub mod Parts
 pub mod Refreshing
 pub mod Holding
 pub mod Placing
-pub mod Tests
+pub mod Weights
 pub mod Calls

@@ -1,6 +1,7 @@
 -- What the forecast plan says, in document 02's words: each flight "takes the hold of least expected cost given those before it, smallest on
 -- a tie, within its limit". No row but the plan's is so, and its total fits.
 -- Assumes nothing.
+use Rattle.std.proofs.Common.{Result, Ok}
 use mathlib.Core.Path.{◌≡◌, refl, ap, sym, ◌∙◌}
 use mathlib.Core.Logic.{◌⊎◌, inl, inr}
 use mathlib.Core.Bool.{Bool, true, false}
@@ -11,8 +12,7 @@ use lib.ListN.{length}
 use Rattle.assignment.proofs.Sums.{sum_most}
 use Rattle.assignment.proofs.Tests.{eq?}
 use Rattle.answers.specs.Answers.{code_of, outcome}
-use Rattle.answers.specs.declared.Answer.{Answer}
-use Rattle.answers.specs.declared.Answer.TheVariants.{Planned}
+use Rattle.answers.specs.declared.Refusal.{Refusal}
 use Rattle.day.specs.Day.{Day, P, N, due, Window, hold, land, valid, day, unlimited}
 use Rattle.day.specs.Valid.{Valid}
 use Rattle.forecast_plan.specs.Forecast.{Forecasts, expected, forecast_holds, expected_total}
@@ -53,10 +53,10 @@ unfolding expected_total
 fit_total {d} {f} fit = omega (arith, fit.good.flights_to, sum_most (N d) 9600000000 _ (λ i l. expected_most fit (forecast_holds d f) i l _ (each_least d f i l).within))
 
 -- the number of a planned answer is 0, and that of no refusal is
-numbered : {a : Answer} {t : ℕ} → a ≡ Planned t → (code_of a).number ≡ 0
+numbered : {a : Result ℕ Refusal} {t : ℕ} → a ≡ Ok t → (code_of a).number ≡ 0
 numbered e = ap (λ b. (code_of b).number) e
 
-same_total : {t u : ℕ} → Planned t ≡ Planned u → t ≡ u
+same_total : {t u : ℕ} → ◌≡◌ {A = Result ℕ Refusal} (Ok t) (Ok u) → t ≡ u
 same_total e = cc
 
 either : (b : Bool) → (b ≡ true) ⊎ (b ≡ false)
@@ -64,7 +64,7 @@ either true = inl refl
 either false = inr refl
 
 -- "The total is answered in thousandths", and no answered total is greater than this
-pub total_most : (d : Day) (f : Forecasts) (holds : List ℕ) (t : ℕ) → (forecast_plan d f holds).answer ≡ Planned t → t ≤ 1228800000000
+pub total_most : (d : Day) (f : Forecasts) (holds : List ℕ) (t : ℕ) → (forecast_plan d f holds).answer ≡ Ok t → t ≤ 1228800000000
 total_most d f holds t e = elim (either (valid d)) [
   | inr bad ↦ absurd (omega (arith, numbered (way (bad_day d f holds bad))))
   | inl good ↦ elim (eq? d.closing unlimited) [
@@ -97,5 +97,5 @@ total_most d f holds t e = elim (either (valid d)) [
     u : Day
     u = day d.capacities d.flights unlimited
 
-    way : {a : Answer} {x : List ℕ} → forecast_plan d f holds ≡ outcome a x → a ≡ Planned t
+    way : {a : Result ℕ Refusal} {x : List ℕ} → forecast_plan d f holds ≡ outcome a x → a ≡ Ok t
     way is = ap (λ o. o.answer) (sym is) ∙ e

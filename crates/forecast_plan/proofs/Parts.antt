@@ -23,9 +23,6 @@ module _ (p n : ℕ) (rows : List ℕ) (whole : length rows ≡ n * p) (s : ℕ)
 
 -- the parts of the forecasts, and of the row in which who waits is kept
 module _ {p n : ℕ} {rows waits : List ℕ} (r : Parted p n rows waits) {s : ℕ} (l : s < n) where
-  pub parted_rows : s * p + p ≤ length rows
-  parted_rows = part_in p n rows r.whole s l
-
   pub parted_days : length (forecast_at p rows s) ≡ p
   parted_days = part_length p n rows r.whole s l
 

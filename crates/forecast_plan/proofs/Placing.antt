@@ -14,10 +14,10 @@ use Rattle.assignment.specs.Moves.{Moved}
 use Rattle.assignment.proofs.Rows.{set_moved, blank_at}
 use Rattle.assignment.proofs.Sums.{sum_ext, sum_most, sum_member, count_suc, count_zero, count_le}
 use Rattle.assignment.proofs.Tests.{eq?, lt?, gate_eq, gate_ne}
-use Rattle.day.specs.Day.{Day, P, N, width, most_flights, period_row, due, rate, flight_at, last_of, hold, land}
+use Rattle.day.specs.Day.{Day, P, N, most_flights, period_row, due, rate, flight_at, last_of, hold, land}
 use Rattle.day.specs.declared.Flight.{Flight}
 use Rattle.day.proofs.Costs.{due_latest}
-use Rattle.day.proofs.Flights.{there, due_read}
+use Rattle.day.proofs.Flights.{due_read}
 use Rattle.forecast_plan.specs.declared.Chosen.{Chosen}
 use Rattle.forecast_plan.specs.Forecast.{Forecasts, weight, forecast, held, waiting, first_room, lands, expected, longest, forecast_holds, expected_total}
 use Rattle.forecast_plan.specs.Loop.{Counts, Turns, waits_of, airborne, weighed, Chooses, Ready, Fit, Placed}
@@ -51,9 +51,6 @@ counts_held held_to n x size most counted = record {
 module _ {d : Day} {f : Forecasts} {holds held_to waits : List ℕ} {total i : ℕ} (p : Placed d f holds held_to waits total i) (l : i < length holds) where
   in_table : i < N d
   in_table = omega (arith, p.each)
-
-  pub placed_flight : (i + 1) * width ≤ length d.flights
-  placed_flight = there d.flights i in_table
 
   module _ {x : Flight} (x-is : x ≡ flight_at d.flights i) where
     pub placed_ready : Ready x f.air_factor (P d) f.weights f.rows waits

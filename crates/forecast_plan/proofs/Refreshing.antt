@@ -11,9 +11,8 @@ use Rattle.assignment.specs.Rows.{el}
 use Rattle.assignment.proofs.Tests.{eq?}
 use Rattle.day.specs.Day.{period_row}
 use Rattle.forecast_plan.specs.Forecast.{forecast_at}
-use Rattle.forecast_plan.specs.Loop.{Parted, Counts, Known, Behind, Turn, waits_of, Turns}
+use Rattle.forecast_plan.specs.Loop.{Parted, Counts, Known, Behind, Turn, waits_of}
 use Rattle.forecast_plan.proofs.Landing.{room_same}
-use Rattle.forecast_plan.proofs.Turns.{none_behind}
 use Rattle.forecast_plan.proofs.Parts.{parted_days, parted_waits, parted_part, part_size, part_at, put_here, put_others}
 
 -- those of the first s forecasts are known to the end, the others before `from`
@@ -40,28 +39,7 @@ module _ {held_to : ℕ → ℕ} {capacities : List ℕ} {waits other : ℕ → 
   }
 
 module _ {p n : ℕ} {rows held_to waits : List ℕ} {from : ℕ} where
-  pub refreshed_none : Turns p n rows held_to waits from → 1 ≤ from → from ≤ p + 1 → 1 ≤ p → Refreshed p n rows held_to waits from 0
-  refreshed_none t first last some = record {
-    some = some;
-    first = first;
-    last = last;
-    parted = t.parted;
-    counts = t.counts;
-    upto = omega arith;
-    done = λ s b. absurd (omega arith);
-    others = λ s b l. t.known s l;
-    behind = λ s b l. t.behind s l;
-  }
-
   module _ {s : ℕ} (r : Refreshed p n rows held_to waits from s) where
-    pub refreshed_all : n ≤ s → Turns p n rows held_to waits (p + 1)
-    refreshed_all l = record {
-      parted = r.parted;
-      counts = r.counts;
-      known = λ t b. r.done t (omega arith);
-      behind = λ t b. none_behind (parted_days r.parted b);
-    }
-
     module _ (l : s < n) {capacities : List ℕ} (is : capacities ≡ forecast_at p rows s) where
       days : length capacities ≡ p
       days = ap length is ∙ parted_days r.parted l

@@ -1,9 +1,9 @@
 -- What the forecast plan answers, by cases in document 02's order of refusals, "tested in the order 6, 13, 7, 12", and the hold row after it.
 -- Assumes nothing.
-use Rattle.std.specs.Prelude.{Bool, cond, not, ◌&&◌, List, ℕ, ◌*◌, length, get_or, eqb}
+use Rattle.std.specs.Prelude.{Bool, cond, not, ◌&&◌, List, ℕ, ◌*◌, length, get_or, eqb, Ok, Err}
 use Rattle.assignment.specs.Sum.{sum}
 use Rattle.answers.specs.Answers.{Outcome, outcome}
-use Rattle.answers.specs.declared.Answer.TheVariants.{Planned, BadDay, BadLength, BadForecasts, BadTerms}
+use Rattle.answers.specs.declared.Refusal.TheVariants.{BadDay, BadLength, BadForecasts, BadTerms}
 use Rattle.day.specs.Day.{Day, P, N, jump_of, flight_count, all, inside, capacities_fit, has_line, valid}
 use Rattle.forecast_plan.specs.Forecast.{Forecasts, forecast_holds, expected_total}
 
@@ -28,16 +28,16 @@ forecasts_fit weights rows = eqb (all_weights weights) 1000 && capacities_fit ro
 -- 7 "tests hold, weight, forecast row"; then 12; else the plan
 unfoldable pub rows_plan : Day → Forecasts → List ℕ → Outcome
 rows_plan d f holds =
-    cond (not (eqb (length holds) (N d))) (outcome (BadLength (N d)) holds)
-    (cond (not (eqb (length f.weights) f.count)) (outcome (BadLength f.count) holds)
-    (cond (not (eqb (length f.rows) (f.count * P d))) (outcome (BadLength (f.count * P d)) holds)
-    (cond (not (forecasts_fit f.weights f.rows)) (outcome BadForecasts holds)
-    (outcome (Planned (expected_total d f (forecast_holds d f))) (forecast_holds d f)))))
+    cond (not (eqb (length holds) (N d))) (outcome (Err (BadLength (N d))) holds)
+    (cond (not (eqb (length f.weights) f.count)) (outcome (Err (BadLength f.count)) holds)
+    (cond (not (eqb (length f.rows) (f.count * P d))) (outcome (Err (BadLength (f.count * P d))) holds)
+    (cond (not (forecasts_fit f.weights f.rows)) (outcome (Err BadForecasts) holds)
+    (outcome (Ok (expected_total d f (forecast_holds d f))) (forecast_holds d f)))))
 
 -- the forecast plan: refusals leave the row as it was; "a day with the line gets 13" (#108)
 unfoldable pub forecast_plan : Day → Forecasts → List ℕ → Outcome
 forecast_plan d f holds =
-    cond (not (valid d)) (outcome BadDay holds)
-    (cond (has_line d.closing) (outcome BadTerms holds)
-    (cond (not (terms_fit d.flights f.count f.air_factor)) (outcome BadTerms holds)
+    cond (not (valid d)) (outcome (Err BadDay) holds)
+    (cond (has_line d.closing) (outcome (Err BadTerms) holds)
+    (cond (not (terms_fit d.flights f.count f.air_factor)) (outcome (Err BadTerms) holds)
     (rows_plan d f holds)))

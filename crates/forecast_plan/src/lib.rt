@@ -9,10 +9,10 @@ ghost use Rattle.forecast_plan.specs.Forecast.{forecasts, forecast_at, left_over
 ghost use Rattle.forecast_plan.specs.Calls.{no_jumps, terms_fit, all_weights, forecasts_fit, rows_plan, forecast_plan};
 ghost use Rattle.forecast_plan.specs.Loop.{Stays, Behind, Turn, Turns, Adding, airborne, Weighed, weighed, Low, Chooses, Ready, odds, Fit, Placed};
 
-use answers::Answer;
+use answers::Refusal;
 use day::{
     Flight, PERIOD_ROW, UNLIMITED, capacities_fit, flight_at, flight_count, is_inside, is_valid,
-    last_of, wide,
+    last_of,
 };
 
 // The most forecasts, and a row that has a part for each.
@@ -28,16 +28,6 @@ const ALL_WEIGHTS: usize = 1000;
 struct Chosen {
     hold: usize,
     cost: usize,
-}
-
-// A number less another, never below 0.
-fn less(x: usize, y: usize) -> usize
-    ensures { result ≡ x - y }
-{
-    if x < y {
-        return 0;
-    }
-    x - y
 }
 
 // Who waits in period j for a place under a forecast: those held to it, and those left over from the period before. The row `waits` has
@@ -69,8 +59,7 @@ fn left_over(held: &[usize], forecast: &[u32], waits: &mut [usize], from: usize,
         return 0;
     }
     let here = waiting(held, forecast, waits, from, j);
-    let capacity = wide(forecast[j - 1]);
-    less(here, capacity)
+    here.saturating_sub(forecast[j - 1] as usize)
 }
 
 // The capacities of forecast s.
@@ -82,22 +71,12 @@ fn forecast_at(rows: &[u32], periods: usize, s: usize) -> &[u32]
     &rows[first..first + periods]
 }
 
-// The smaller of two numbers.
-fn smaller(x: usize, y: usize) -> usize
-    ensures { result ≡ min x y }
-{
-    if x < y {
-        return x;
-    }
-    y
-}
-
 // Fewer wait in period j than can land.
 fn has_room(forecast: &[u32], waits: &[usize], j: usize) -> bool
     requires { (1 ≤ j) × (j ≤ length forecast.now) × (j < length waits.now) }
     ensures { result ≡ ltb (el waits.now j) (of_period forecast.now j) }
 {
-    waits[j] < wide(forecast[j - 1])
+    waits[j] < forecast[j - 1] as usize
 }
 
 // The first period from q on in which fewer wait than can land, else the closing period: a flight held to q lands there.
@@ -105,14 +84,13 @@ fn first_room(forecast: &[u32], waits: &[usize], q: usize) -> usize
     requires { (1 ≤ q) × (q ≤ length forecast.now + 1) × (length forecast.now < length waits.now) }
     ensures { result ≡ first_room (el waits.now) forecast.now q }
 {
-    let mut k = q;
-    while k <= forecast.len() {
+    let closing = forecast.len() + 1;
+    for k in q..closing {
         if has_room(forecast, waits, k) {
             return k;
         }
-        k += 1;
     }
-    k
+    closing
 }
 
 // Brings the row of one forecast up to date after one flight more was held to period `from`. That flight waits with the others up to
@@ -122,7 +100,7 @@ fn refresh_one(held: &[usize], forecast: &[u32], waits: &mut [usize], from: usiz
     ensures { Turn held.now forecast.now waits.new (length forecast.now + 1) }
 {
     let lands = first_room(forecast, waits, from);
-    waiting(held, forecast, waits, from, smaller(lands, forecast.len()));
+    waiting(held, forecast, waits, from, lands.min(forecast.len()));
 }
 
 // The same for all forecasts.
@@ -137,12 +115,10 @@ fn refresh(
     requires { Turns periods count rows.now held.now waits.old from × (1 ≤ from) × (from ≤ periods + 1) × (1 ≤ periods) }
     ensures { Turns periods count rows.now held.now waits.new (periods + 1) }
 {
-    let mut s = 0;
-    while s < count {
+    for s in 0..count {
         let forecast = forecast_at(rows, periods, s);
         let place = s * PERIOD_ROW;
         refresh_one(held, forecast, &mut waits[place..place + PERIOD_ROW], from);
-        s += 1;
     }
 }
 
@@ -163,12 +139,11 @@ fn add_air(forecast: &[u32], waits: &[usize], weight: usize, due: usize, air: &m
     requires { Adding forecast.now waits.now weight due air.old air.old (length forecast.now + 1) }
     ensures { Adding forecast.now waits.now weight due air.old air.new due }
 {
-    let mut j = forecast.len() + 1;
-    let mut lands = forecast.len() + 1;
-    while due < j {
-        j -= 1;
+    let closing = forecast.len() + 1;
+    let mut lands = closing;
+    for j in (due..closing).rev() {
         lands = lands_at(forecast, waits, j, lands);
-        air[j] = air[j] + weight * (lands - j);
+        air[j] += weight * (lands - j);
     }
 }
 
@@ -184,59 +159,45 @@ fn weigh_air(
     requires { Weighed periods weights.now rows.now waits.now due air.old 0 }
     ensures { Weighed periods weights.now rows.now waits.now due air.new (length weights.now) }
 {
-    let mut s = 0;
-    while s < weights.len() {
+    for (s, weight) in weights.iter().enumerate() {
         let forecast = forecast_at(rows, periods, s);
         let place = s * PERIOD_ROW;
         add_air(
             forecast,
             &waits[place..place + PERIOD_ROW],
-            wide(weights[s]),
+            *weight as usize,
             due,
             air,
         );
-        s += 1;
     }
 }
 
 // What a hold is expected to cost a flight. The weights add up to 1,000, so that the ground is paid 1,000 times.
+#[tactic(auto, unfolding(crate::specs::Loop::weighed))]
 fn cost_in(f: Flight, factor: usize, air: &[usize], hold: usize) -> usize
     requires { (f.rate ≤ 10000) × (factor ≤ 10) × (f.due + hold < length air.now) × (hold < period_row) × (el air.now (f.due + hold) ≤ 768000) }
     ensures { result ≡ weighed f factor (el air.now) hold }
 {
-    let rate = wide(f.rate);
-    let held_to = wide(f.due) + hold;
+    let rate = f.rate as usize;
+    let held_to = f.due as usize + hold;
     ALL_WEIGHTS * rate * hold + factor * rate * air[held_to]
 }
 
-// The cheaper of two holds; of equal ones the first.
-fn cheaper(best: Chosen, next: Chosen) -> Chosen
-    ensures { result ≡ cond (ltb next.cost best.cost) next best }
-{
-    if next.cost < best.cost {
-        return next;
-    }
-    best
-}
-
-// The hold of least expected cost that takes a flight to period `last` at most.
+// The hold of least expected cost that takes a flight to period `last` at most; of equal ones the shortest.
 fn least_hold(f: Flight, factor: usize, air: &[usize], last: usize) -> Chosen
     requires { Low f factor last air.now }
     ensures { Chooses (last - f.due) (weighed f factor (el air.now)) result }
 {
-    let longest = last - wide(f.due);
-    let mut hold = 0;
+    let longest = last - f.due as usize;
     let mut best = Chosen {
-        hold,
-        cost: cost_in(f, factor, air, hold),
+        hold: 0,
+        cost: cost_in(f, factor, air, 0),
     };
-    while hold < longest {
-        hold += 1;
-        let next = Chosen {
-            hold,
-            cost: cost_in(f, factor, air, hold),
-        };
-        best = cheaper(best, next);
+    for hold in 1..longest + 1 {
+        let cost = cost_in(f, factor, air, hold);
+        if cost < best.cost {
+            best = Chosen { hold, cost };
+        }
     }
     best
 }
@@ -253,18 +214,10 @@ fn hold_of(
     requires { Ready f factor periods weights.now rows.now waits.now }
     ensures { Chooses (last_of periods f - f.due) (weighed f factor (airborne periods weights.now rows.now waits.now (length weights.now))) result }
 {
-    let due = wide(f.due);
+    let due = f.due as usize;
     let mut air = [0; PERIOD_ROW];
     weigh_air(periods, weights, rows, waits, due, &mut air);
     least_hold(f, factor, &air, last_of(periods, f))
-}
-
-// One flight more is held to a period.
-fn count_in(held: &mut [usize], period: usize)
-    requires { (period < length held.old) × (el held.old period ≤ most_flights) }
-    ensures { held.new ≡ set held.old period (el held.old period + 1) }
-{
-    held[period] = held[period] + 1;
 }
 
 // Holds the flights one after another and sums what they are expected to cost, with rows in which those held to each period are counted
@@ -285,17 +238,14 @@ fn hold_all(
 {
     let periods = capacities.len();
     let mut total = 0;
-    let mut i = 0;
-    while i < holds.len() {
+    for i in 0..holds.len() {
         let f = flight_at(flights, i);
         let chosen = hold_of(f, factor, periods, weights, rows, waits);
-        let hold = chosen.hold;
-        let held_to = wide(f.due) + hold;
-        count_in(held, held_to);
+        let held_to = f.due as usize + chosen.hold;
+        held[held_to] += 1;
         refresh(periods, weights.len(), rows, held, waits, held_to);
-        holds[i] = hold as u32;
+        holds[i] = chosen.hold as u32;
         total += chosen.cost;
-        i += 1;
     }
     total
 }
@@ -321,31 +271,19 @@ fn hold_flights(
 }
 
 // No flight has a jump.
+#[tactic(auto, unfolding(day::specs::Day::flight_count))]
 fn no_jumps(flights: &[u32]) -> bool
     ensures { result ≡ no_jumps flights.now }
 {
-    let n = flight_count(flights);
-    let mut i = 0;
-    while i < n {
-        if 0 < flight_at(flights, i).jump {
-            return false;
-        }
-        i += 1;
-    }
-    true
+    (0..flight_count(flights)).all(|i| flight_at(flights, i).jump == 0)
 }
 
 // Refusal 13 is given where this says no.
+#[tactic(auto, unfolding(crate::specs::Calls::terms_fit))]
 fn terms_fit(flights: &[u32], count: usize, factor: usize) -> bool
     ensures { result ≡ terms_fit flights.now count factor }
 {
-    if !no_jumps(flights) {
-        return false;
-    }
-    if !is_inside(1, 10, factor) {
-        return false;
-    }
-    is_inside(1, FORECASTS, count)
+    no_jumps(flights) && is_inside(1, 10, factor) && is_inside(1, FORECASTS, count)
 }
 
 // What the weights add up to. They are of 32 bits, and their sum may be more.
@@ -353,27 +291,20 @@ fn weight_sum(weights: &[u32]) -> usize
     requires { length weights.now ≤ 8 }
     ensures { result ≡ all_weights weights.now }
 {
-    let mut sum = 0;
-    let mut s = 0;
-    while s < weights.len() {
-        sum += wide(weights[s]);
-        s += 1;
-    }
-    sum
+    weights.iter().map(|weight| *weight as usize).sum()
 }
 
 // Refusal 12 is given where this says no.
+#[tactic(auto, unfolding(crate::specs::Calls::forecasts_fit))]
 fn forecasts_fit(weights: &[u32], rows: &[u32]) -> bool
     requires { length weights.now ≤ 8 }
     ensures { result ≡ forecasts_fit weights.now rows.now }
 {
-    if weight_sum(weights) != ALL_WEIGHTS {
-        return false;
-    }
-    capacities_fit(rows)
+    weight_sum(weights) == ALL_WEIGHTS && capacities_fit(rows)
 }
 
 // The plan for a day and terms that fit, if its rows do: refusals 7 and 12.
+#[tactic(auto, unfolding(crate::specs::Calls::rows_plan))]
 fn plan_rows(
     capacities: &[u32],
     flights: &[u32],
@@ -382,33 +313,32 @@ fn plan_rows(
     weights: &[u32],
     rows: &[u32],
     holds: &mut [u32],
-) -> Answer
+) -> Result<usize, Refusal>
     requires { (valid (lent capacities flights unlimited) ≡ true) × (terms_fit flights.now count factor ≡ true) }
     ensures value { result ≡ (rows_plan (lent capacities.entry flights.entry unlimited) (forecasts count factor weights.entry rows.entry) holds.old).answer }
     ensures holds_after { holds.new ≡ (rows_plan (lent capacities.entry flights.entry unlimited) (forecasts count factor weights.entry rows.entry) holds.old).holds }
 {
     let n = flight_count(flights);
     if holds.len() != n {
-        return Answer::BadLength { needed: n };
+        return Err(Refusal::BadLength { needed: n });
     }
     if weights.len() != count {
-        return Answer::BadLength { needed: count };
+        return Err(Refusal::BadLength { needed: count });
     }
     let entries = count * capacities.len();
     if rows.len() != entries {
-        return Answer::BadLength { needed: entries };
+        return Err(Refusal::BadLength { needed: entries });
     }
     if !forecasts_fit(weights, rows) {
-        return Answer::BadForecasts;
+        return Err(Refusal::BadForecasts);
     }
-    Answer::Planned {
-        total: hold_flights(capacities, flights, factor, weights, rows, holds),
-    }
+    Ok(hold_flights(capacities, flights, factor, weights, rows, holds))
 }
 
 // Fills the hold row with the forecast plan and answers its expected total, in thousandths. Refusals, in this order: 6, a bad day; 13, a
 // closing line, a jump, or a count or an air factor out of range; 7, a row of another length, the hold row first, then the weights, then the
 // forecasts; 12, weights that do not add up to 1,000, or a capacity out of range. They leave the row as it was.
+#[tactic(auto, unfolding(crate::specs::Calls::forecast_plan))]
 pub fn forecast_plan(
     capacities: &[u32],
     flights: &[u32],
@@ -418,20 +348,20 @@ pub fn forecast_plan(
     weights: &[u32],
     rows: &[u32],
     holds: &mut [u32],
-) -> Answer
+) -> Result<usize, Refusal>
     ensures value { result ≡ (forecast_plan (lent capacities.entry flights.entry closing) (forecasts count factor weights.entry rows.entry) holds.old).answer }
     ensures holds_after { holds.new ≡ (forecast_plan (lent capacities.entry flights.entry closing) (forecasts count factor weights.entry rows.entry) holds.old).holds }
 {
     if !is_valid(capacities, flights, closing) {
-        return Answer::BadDay;
+        return Err(Refusal::BadDay);
     }
     if closing != UNLIMITED {
-        return Answer::BadTerms;
+        return Err(Refusal::BadTerms);
     }
-    let forecast_count = wide(count);
-    let air_factor = wide(factor);
+    let forecast_count = count as usize;
+    let air_factor = factor as usize;
     if !terms_fit(flights, forecast_count, air_factor) {
-        return Answer::BadTerms;
+        return Err(Refusal::BadTerms);
     }
     plan_rows(
         capacities,

@@ -1,87 +1,59 @@
 -- The full plan's refusals in their order, and its two outcomes.
 -- Assumes nothing.
+use Rattle.std.proofs.Common.{Result, Ok, Err}
 use mathlib.Core.Path.{◌≡◌, refl, sym, ap, ◌∙◌}
 use mathlib.Core.Logic.{inl, inr}
 use mathlib.Core.Bool.{true, false}
-use mathlib.Core.List.{List, [], ◌∷◌, ◌++◌, append-nil}
-use Prim.Native.Nat.{ℕ, ◌+◌, ◌-◌, ◌≤◌, ◌<◌}
+use mathlib.Core.List.{List, append-nil}
+use Prim.Native.Nat.{ℕ, ◌+◌, ◌-◌, ◌≤◌}
 use native.Mathlib.Omega.{arith}
-use lib.ListN.{length, set, replicate, length-append}
-use lib.Seq.{set-append_seam, length-take-le}
+use lib.ListN.{length}
+use lib.Seq.{length-take-le}
 use lib.Dec.{leb}
 use borrow.Author.Tests.{eq-eqb, ne_eqb}
 use Rattle.assignment.specs.Sum.{gate}
 use Rattle.assignment.proofs.Tests.{lt?}
 use Rattle.assignment.proofs.Sums.{sum_ext}
-use Rattle.answers.specs.declared.Answer.{Answer}
-use Rattle.answers.specs.declared.Answer.TheVariants.{Planned, BadDay, BadLength, NoPlan}
+use Rattle.answers.specs.declared.Refusal.{Refusal}
+use Rattle.answers.specs.declared.Refusal.TheVariants.{BadDay, BadLength, NoPlan}
 use Rattle.day.specs.Day.{Day, day, unlimited, N, takes_of, counted, valid}
 use Rattle.day.specs.Plan.{must_land, room, Short, Picked}
-use Rattle.day.proofs.Costs.{takes_in, counted_line, counted_open, counted_from, counted_to}
+use Rattle.day.proofs.Costs.{takes_in, counted_line, counted_open, counted_from}
 use Rattle.day.proofs.Curfew.{open_valid, with_accepted, with_saves, with_smallest}
 use Rattle.day.proofs.Existence.{plan_exactly}
 use Rattle.day.proofs.Instance.{accepted_is_cheapest}
 use Rattle.day.proofs.Valid.{valid_means}
-use Rattle.insertion.specs.Insertion as insertion
 use Rattle.full_plan.specs.FullPlan.{BestPlan, Solved, plan, none, Refused, FullPlan}
 use Rattle.full_plan.specs.Inserted.{CanPlan, Made}
 
-refused : {a : Answer} {h p : List ℕ} → Refused a a h p h p
+refused : {a : Refusal} {h p : List ℕ} → Refused a (Err a) h p h p
 refused = record { refusal_is = refl; same_holds = refl; same_prices = refl }
 
 module _ (d : Day) (h p : List ℕ) where
-  pub bad_day : valid d ≡ false → FullPlan d BadDay h p h p
+  pub bad_day : valid d ≡ false → FullPlan d (Err BadDay) h p h p
   unfolding FullPlan
   bad_day e = rw e refused
 
   module _ (good : valid d ≡ true) {n : ℕ} (count : n ≡ N d) where
-    pub bad_holds : (length h ≡ n → ⊥) → FullPlan d (BadLength n) h p h p
+    pub bad_holds : (length h ≡ n → ⊥) → FullPlan d (Err (BadLength n)) h p h p
     unfolding FullPlan
     bad_holds e = rw (good, ne_eqb (length h) (N d) (λ f. e (f ∙ sym count)), count) refused
 
     module _ (holds : length h ≡ n) {m : ℕ} (priced : m ≡ counted d) where
-      pub bad_prices : (length p ≡ m → ⊥) → FullPlan d (BadLength m) h p h p
+      pub bad_prices : (length p ≡ m → ⊥) → FullPlan d (Err (BadLength m)) h p h p
       unfolding FullPlan
       bad_prices e = rw (good, eq-eqb (length h) (N d) (holds ∙ count), ne_eqb (length p) (counted d) (λ f. e (f ∙ sym priced)), priced) refused
 
       module _ (prices : length p ≡ m) where
-        pub solved : {a : Answer} {h' p' : List ℕ} → Solved d a h p h' p' → FullPlan d a h p h' p'
+        pub solved : {a : Result ℕ Refusal} {h' p' : List ℕ} → Solved d a h p h' p' → FullPlan d a h p h' p'
         unfolding FullPlan
         solved s = rw (good, eq-eqb (length h) (N d) (holds ∙ count), eq-eqb (length p) (counted d) (prices ∙ priced)) s
 
-        pub found_none : {a b : ℕ} → Picked d a b → FullPlan d (NoPlan a b) h p h p
+        pub found_none : {a b : ℕ} → Picked d a b → FullPlan d (Err (NoPlan a b)) h p h p
         found_none {a} {b} picked =
             solved (none (record { first = a; last = b; picked = picked; stretch_is = refl; same_holds = refl; same_prices = refl }))
 
 -- ---- the plan of the day without a closing line
-
--- what stands behind the front gets price 0
-set_behind : (front rest : List ℕ) (n : ℕ) → length front ≡ n → length rest ≡ 1 → set (front ++ rest) n 0 ≡ front ++ replicate 1 0
-set_behind front [] n e l = absurd (omega arith)
-set_behind front (y ∷ []) n e l = ap (λ i. set (front ++ (y ∷ [])) i 0) (sym e) ∙ set-append_seam front y [] 0
-set_behind front (y ∷ z ∷ rest) n e l = absurd (omega arith)
-
-no_entry : (rest : List ℕ) → length rest ≡ 0 → rest ≡ []
-no_entry [] l = refl
-no_entry (y ∷ rest) l = absurd (omega arith)
-
-module _ {c f h₀ h p front : List ℕ} (rest : List ℕ) {t : ℕ} (can : CanPlan c f h₀ p) (made : insertion.Planned (day c f unlimited) h front t)
-    (size : length rest ≡ length p - length c) where
-  front_size : length front ≡ length c
-  front_size = made.smallest.accepted.each ∙ counted_open (length c) unlimited (omega arith)
-
-  all_size : length (front ++ rest) ≡ length p
-  all_size = omega (arith, length-append front rest, front_size, size, can.from)
-
-  pub made_line : length c < length (front ++ rest) → Made c f t h p (set (front ++ rest) (length c) 0)
-  made_line l =
-      let one : length p - length c ≡ 1 = omega (arith, can.to, all_size) in
-      record { front = front; planned = made; behind = rw one (set_behind front rest (length c) front_size (size ∙ one)) }
-
-  pub made_open : length (front ++ rest) ≤ length c → Made c f t h p (front ++ rest)
-  made_open l =
-      let zero_more : length p - length c ≡ 0 = omega (arith, all_size) in
-      record { front = front; planned = made; behind = rw zero_more (ap (λ r. front ++ r) (no_entry rest (size ∙ zero_more))) }
 
 -- a stretch that is short without the line ends by P, and is as short with it
 short_with : (c f : List ℕ) (closing : ℕ) {a b : ℕ} → Short (day c f unlimited) a b → Short (day c f closing) a b
@@ -115,18 +87,17 @@ module _ (c f : List ℕ) (closing : ℕ) (h p : List ℕ) where
         prices_row = length-take-le (length c) p (omega (arith, counted_from (length c) closing));
       };
       from = omega (arith, counted_from (length c) closing);
-      to = omega (arith, counted_to (length c) closing);
     }
 
     -- with a line the prices are those without it and the added 0, else it is the same day
-    best_made : {t : ℕ} {h' p' : List ℕ} → Made c f t h' p p' → BestPlan d (Planned t) h' p'
+    best_made : {t : ℕ} {h' p' : List ℕ} → Made c f t h' p p' → BestPlan d (Ok t) h' p'
     best_made {t} {h'} {p'} made = elim (lt? closing unlimited) [
       | inl line ↦
           let one : length p - length c ≡ 1 = omega (arith, counted_line (length c) closing line) in
           let row = rw one at made.behind in
           let legal = ((plan_exactly (valid_means good)).1 clear).legal in
           rw row (record {
-            total_is = ap Planned made.planned.is_total;
+            total_is = ap Ok made.planned.is_total;
             cheapest = accepted_is_cheapest (valid_means good) (with_accepted c f closing line (valid_means good) made.planned.smallest made.planned.saves legal);
             smallest = with_smallest c f closing line (valid_means good) made.planned.smallest made.planned.saves legal;
             saves = with_saves c f closing line (valid_means good) made.planned.smallest made.planned.saves legal;
@@ -136,12 +107,12 @@ module _ (c f : List ℕ) (closing : ℕ) (h p : List ℕ) where
           let zero_more : length p - length c ≡ 0 = omega (arith, counted_open (length c) closing open_end) in
           let row : p' ≡ made.front = rw zero_more at made.behind ∙ append-nil made.front in
           rw (row, same) (record {
-            total_is = ap Planned made.planned.is_total;
+            total_is = ap Ok made.planned.is_total;
             cheapest = accepted_is_cheapest (open_valid (valid_means good)) made.planned.smallest.accepted;
             smallest = made.planned.smallest;
             saves = made.planned.saves;
           })
     ]
 
-    pub found_plan : {t : ℕ} {h' p' : List ℕ} → Made c f t h' p p' → FullPlan d (Planned t) h p h' p'
+    pub found_plan : {t : ℕ} {h' p' : List ℕ} → Made c f t h' p p' → FullPlan d (Ok t) h p h' p'
     found_plan made = solved d h p good count holds priced prices (plan (best_made made))

@@ -4,15 +4,13 @@
 ghost use Rattle.std.specs.Prelude.{◌≡◌, ◌^◌, ◌≤◌, ◌<◌};
 ghost use Rattle.growth.specs.Growth.{factor, HoldsFactors, further_cost, growth_cost, most_growth, most_growth_periods};
 
-use day::wide;
-
 // The greatest growth, in tenths, and the most periods of a day that has one.
 pub const GROWTH: usize = 40;
 
 pub const GROWTH_PERIODS: usize = 6;
 
 // A row of six factors for each growth.
-pub type FactorTable = [[u32; 6]; 41];
+pub type FactorTable = [[u32; GROWTH_PERIODS]; GROWTH + 1];
 
 // The factors (10 + a)^t × 10^(6−t): a row for each growth of a tenths, and in it t from 0 to 5. To check it by eye: each row begins with
 // 1000000, and each number is the one before it times (10 + a)/10.
@@ -72,7 +70,7 @@ fn factor(factors: &FactorTable, growth: usize, t: usize) -> usize
     requires { HoldsFactors factors.now × (growth ≤ most_growth) × (t < most_growth_periods) }
     ensures { result ≡ factor growth t }
 {
-    wide(factors[growth][t])
+    factors[growth][t] as usize
 }
 
 // What the t-th further period of hold costs a flight.
@@ -89,10 +87,8 @@ pub fn growth_cost(factors: &FactorTable, growth: usize, rate: usize, hold: usiz
     ensures { result ≡ growth_cost growth rate hold }
 {
     let mut sum = 0;
-    let mut t = 0;
-    while t < hold {
+    for t in 0..hold {
         sum += further_cost(factors, growth, rate, t);
-        t += 1;
     }
     sum
 }

@@ -1,16 +1,17 @@
 -- What the call comes to, a law for each of its ways.
 -- Assumes nothing.
+use Rattle.std.proofs.Common.{Ok, Err}
 use mathlib.Core.Path.{◌≡◌, sym, ◌∙◌}
 use mathlib.Core.Bool.{Bool, true, false}
 use mathlib.Core.List.{List}
 use Prim.Native.Nat.{ℕ}
-use Rattle.answers.specs.declared.Answer.{Answer}
-use Rattle.answers.specs.declared.Answer.TheVariants.{Planned, BadGrowth, NoPlan}
+use Rattle.std.specs.Prelude.{Ok, Err}
+use Rattle.answers.specs.declared.Refusal.{Refusal}
+use Rattle.answers.specs.declared.Refusal.TheVariants.{BadGrowth, NoPlan}
 use Rattle.answers.specs.Answers.{Outcome, outcome}
 use Rattle.day.specs.Day.{Day, P}
 use Rattle.day.specs.Plan.{Short, Picked}
 use Rattle.growth.specs.Growth.{growth_fits}
-use Rattle.quick_plan.specs.declared.QuickCheck.TheVariants.{Applies, Refused}
 use Rattle.quick_plan.specs.declared.NextCost.TheVariants.{Growing}
 use Rattle.quick_plan.specs.NextCost.{fits}
 use Rattle.quick_plan.specs.Calls.{quick_check}
@@ -23,42 +24,42 @@ use Rattle.growth_plan.specs.Growing.{growing, growing_quick, growing_total, gro
 use Rattle.growth_plan.specs.Loop.{CanSum}
 use Rattle.growth_plan.proofs.Sums.{can_sum}
 
-pub refused : (a : ℕ) (d : Day) (h : List ℕ) {answer : Answer} → quick_check d h ≡ Refused answer → growth_plan a d h ≡ outcome answer h
+pub refused : (a : ℕ) (d : Day) (h : List ℕ) {answer : Refusal} → quick_check d h ≡ Err answer → growth_plan a d h ≡ outcome (Err answer) h
 unfolding growth_plan
 refused a d h e = rw e
 
--- g is the growth as the program has it, and `within` what it found of it
-module _ (a : ℕ) (d : Day) (h : List ℕ) (e : quick_check d h ≡ Applies) {g : ℕ} (eg : g ≡ a) {within : Bool} (ew : within ≡ growth_fits g (P d)) where
-  pub bad_growth : within ≡ false → growth_plan a d h ≡ outcome BadGrowth h
+-- `within` is what the program found of the growth
+module _ (a : ℕ) (d : Day) (h : List ℕ) (e : quick_check d h ≡ Ok tt) {within : Bool} (ew : within ≡ growth_fits a (P d)) where
+  pub bad_growth : within ≡ false → growth_plan a d h ≡ outcome (Err BadGrowth) h
   unfolding growth_plan
-  bad_growth o = rw (e, ← eg, ← ew, o)
+  bad_growth o = rw (e, ← ew, o)
 
   module _ (o : within ≡ true) where
-    pub can_make : fits (Growing g) (P d) ≡ true
+    pub can_make : fits (Growing a) (P d) ≡ true
     unfolding fits
     can_make = sym ew ∙ o
 
     abbrev plan : Outcome
-    plan = outcome (Planned (growing_total g d.flights (growing_quick g d))) (growing_quick g d)
+    plan = outcome (Ok (growing_total a d.flights (growing_quick a d))) (growing_quick a d)
 
-    pub no_plan_lem : {first last : ℕ} → Picked d first last → growth_plan a d h ≡ outcome (NoPlan first last) h
+    pub no_plan_lem : {first last : ℕ} → Picked d first last → growth_plan a d h ≡ outcome (Err (NoPlan first last)) h
     unfolding growth_plan
-    no_plan_lem p = rw (e, ← eg, ← ew, o) (let w = can_plan d h e in found_short d w.good w.plain (growing g d) h plan p)
+    no_plan_lem p = rw (e, ← ew, o) (let w = can_plan d h e in found_short d w.good w.plain (growing a d) h plan p)
 
-    module _ {x : List ℕ} (made : x ≡ row_to (without_line d) (growing g d) (P d)) where
+    module _ {x : List ℕ} (made : x ≡ row_to (without_line d) (growing a d) (P d)) where
       -- the row made for all periods is the growing plan
-      made_plan : x ≡ growing_quick g d
-      made_plan = made_quick d (growing g d) (can_plan d h e).good made
+      made_plan : x ≡ growing_quick a d
+      made_plan = made_quick d (growing a d) (can_plan d h e).good made
 
-      pub can_add : CanSum g d.flights x
+      pub can_add : CanSum a d.flights x
       can_add =
           let good = (can_plan d h e).good in
-          let r = growth_within g (P d) (sym ew ∙ o) in
-          rw made_plan (can_sum g d (growing_quick g d) r.0 r.1 good (quick_length d (growing g d) good) (quick_to d (growing g d) good))
+          let r = growth_within a (P d) (sym ew ∙ o) in
+          rw made_plan (can_sum a d (growing_quick a d) r.0 r.1 good (quick_length d (growing a d) good) (quick_to d (growing a d) good))
 
-      pub planned : ((first last : ℕ) → Short d first last → ⊥) → {t : ℕ} → t ≡ growing_total g d.flights x
-          → growth_plan a d h ≡ outcome (Planned t) x
+      pub planned : ((first last : ℕ) → Short d first last → ⊥) → {t : ℕ} → t ≡ growing_total a d.flights x
+          → growth_plan a d h ≡ outcome (Ok t) x
       unfolding growth_plan
       planned none q =
           let w = can_plan d h e in
-          rw (e, ← eg, ← ew, o, q, made_plan) (none_short d w.good w.plain (growing g d) h plan none)
+          rw (e, ← ew, o, q, made_plan) (none_short d w.good w.plain (growing a d) h plan none)

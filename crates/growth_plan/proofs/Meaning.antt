@@ -1,6 +1,7 @@
 -- What the definitions say: the growing plan is a cheapest plan in millionths where there is one, without growth it is the quick plan, and no total is above
 -- 4,999,680,000,000,000.
 -- Assumes nothing.
+use Rattle.std.proofs.Common.{Ok}
 use mathlib.Core.Path.{◌≡◌}
 use mathlib.Core.Bool.{true}
 use mathlib.Core.List.{List}
@@ -8,7 +9,6 @@ use mathlib.Core.Logic.{◌↔◌}
 use Prim.Native.Nat.{ℕ, ◌+◌, ◌*◌, ◌≤◌, ◌<◌}
 use borrow.Author.Tests.{le-leb}
 use Rattle.answers.specs.Answers.{outcome}
-use Rattle.answers.specs.declared.Answer.TheVariants.{Planned}
 use Rattle.day.specs.Day.{Day, P, N, valid, total}
 use Rattle.day.specs.Plan.{HasPlan, Picked, first_jump_or_limit}
 use Rattle.growth.specs.Growth.{growth_fits}
@@ -42,8 +42,8 @@ module _ (a : ℕ) (d : Day) (v : valid d ≡ true) (plain : first_jump_or_limit
 
 -- At a = 0, on a day of at most 6 periods, the call is the quick plan's with a million times its total.
 pub zero_is_quick : (d : Day) (holds : List ℕ) → P d ≤ 6
-    → growth_plan 0 d holds ≡ on_quick (quick_check d holds) holds (if_room d (rates d) holds (outcome (Planned (total d (quick d) * 1000000)) (quick d)))
+    → growth_plan 0 d holds ≡ on_quick (quick_check d holds) holds (if_room d (rates d) holds (outcome (Ok (total d (quick d) * 1000000)) (quick d)))
 unfolding growth_plan growth_fits left_over
 zero_is_quick d holds short =
-    rw (le-leb (P d) 6 short) (same_outcome d holds _ (if_room d (rates d) holds (outcome (Planned (total d (quick d) * 1000000)) (quick d))) (λ can.
+    rw (le-leb (P d) 6 short) (same_outcome d holds _ (if_room d (rates d) holds (outcome (Ok (total d (quick d) * 1000000)) (quick d))) (λ can.
     rw (zero_holds d short, zero_total d short can.good can.plain (quick d) (quick_to d (rates d) can.good))))

@@ -54,10 +54,10 @@ module _ {a : ℕ} {flights h : List ℕ} {s i : ℕ} (so : Summed a flights h s
   pub summed_can : (a ≤ 40) × (rate_of flights i ≤ 10000) × (hold h i ≤ 6)
   summed_can = let o : i < flight_count flights = omega (arith, so.can.each) in (so.can.grows, so.can.rates i o, so.can.short i o)
 
-  module _ {rate x cost : ℕ} (er : rate ≡ rate_of flights i) (ex : x ≡ hold h i) (ec : cost ≡ growth_cost a rate x) where
+  module _ {rate cost : ℕ} (er : rate ≡ rate_of flights i) (ec : cost ≡ growth_cost a rate (hold h i)) where
     pub summed_next : Summed a flights h (s + cost) (i + 1)
     unfolding sum
-    summed_next = record { can = so.can; upto = omega (arith, so.can.each); costs = rw (add-one, so.costs, ec, er, ex) }
+    summed_next = record { can = so.can; upto = omega (arith, so.can.each); costs = rw (add-one, so.costs, ec, er) }
 
     pub summed_fits : s + cost ≤ 4999680000000000
     summed_fits = omega (arith, summed_next.costs, sum_low a flights h so.can (i + 1) (omega (arith, so.can.each)))

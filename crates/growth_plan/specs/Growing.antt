@@ -1,9 +1,9 @@
 -- The growing plan (#105): the quick plan that "lands the highest next costs", and what its call answers.
 -- Assumes nothing.
-use Rattle.std.specs.Prelude.{cond, not, List, ℕ, ◌≤◌}
+use Rattle.std.specs.Prelude.{cond, not, List, ℕ, ◌≤◌, Ok, Err}
 use Rattle.assignment.specs.Sum.{sum}
 use Rattle.answers.specs.Answers.{Outcome, outcome}
-use Rattle.answers.specs.declared.Answer.TheVariants.{Planned, BadGrowth}
+use Rattle.answers.specs.declared.Refusal.TheVariants.{BadGrowth}
 use Rattle.day.specs.Day.{Day, P, rate_of, hold, flight_count}
 use Rattle.day.specs.Plan.{Legal}
 use Rattle.growth.specs.Growth.{growth_fits, growth_cost}
@@ -33,5 +33,5 @@ pub record CheapestGrowing (a : ℕ) (d : Day) (holds : List ℕ) : Type 0 where
 unfoldable pub growth_plan : (a : ℕ) → Day → List ℕ → Outcome
 growth_plan a d holds =
     on_quick (quick_check d holds) holds
-    (cond (not (growth_fits a (P d))) (outcome BadGrowth holds)
-    (if_room d (growing a d) holds (outcome (Planned (growing_total a d.flights (growing_quick a d))) (growing_quick a d))))
+    (cond (not (growth_fits a (P d))) (outcome (Err BadGrowth) holds)
+    (if_room d (growing a d) holds (outcome (Ok (growing_total a d.flights (growing_quick a d))) (growing_quick a d))))

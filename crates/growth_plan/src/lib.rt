@@ -7,11 +7,11 @@ ghost use Rattle.growth.specs.Growth.{growth_fits};
 ghost use Rattle.growth_plan.specs.Growing.{growing_total, growth_plan};
 ghost use Rattle.growth_plan.specs.Loop.{CanSum};
 
-use answers::Answer;
-use day::{rate_of, wide};
+use answers::Refusal;
+use day::rate_of;
 use growth::{GROWTH, GROWTH_PERIODS, factor_table, growth_cost};
-use quick_plan::{NextCost, QuickCheck, check_quick, plan_to};
-use stretch::{ShortStretch, find_short};
+use quick_plan::{NextCost, check_quick, plan_to};
+use stretch::{Stretch, find_short};
 
 // What a row of holds costs, in millionths.
 fn total_in_millionths(growth: usize, flights: &[u32], holds: &[u32]) -> usize
@@ -20,15 +20,14 @@ fn total_in_millionths(growth: usize, flights: &[u32], holds: &[u32]) -> usize
 {
     let factors = factor_table();
     let mut sum = 0;
-    let mut i = 0;
-    while i < holds.len() {
-        sum += growth_cost(&factors, growth, rate_of(flights, i), wide(holds[i]));
-        i += 1;
+    for (i, hold) in holds.iter().enumerate() {
+        sum += growth_cost(&factors, growth, rate_of(flights, i), *hold as usize);
     }
     sum
 }
 
 // The growth and the number of periods are within their ranges.
+#[tactic(auto, unfolding(growth::specs::Growth::growth_fits))]
 fn growth_fits(growth: usize, periods: usize) -> bool
     ensures { result ≡ growth_fits growth periods }
 {
@@ -44,27 +43,24 @@ pub fn growth_plan(
     closing: u32,
     growth: u32,
     holds: &mut [u32],
-) -> Answer
+) -> Result<usize, Refusal>
     ensures value { result ≡ (growth_plan growth (lent capacities.entry flights.entry closing) holds.old).answer }
     ensures holds_after { holds.new ≡ (growth_plan growth (lent capacities.entry flights.entry closing) holds.old).holds }
 {
-    let found = check_quick(capacities, flights, closing, holds);
-    if let QuickCheck::Refused(refusal) = found {
-        return refusal;
+    check_quick(capacities, flights, closing, holds)?;
+    let growth = growth as usize;
+    if !growth_fits(growth, capacities.len()) {
+        return Err(Refusal::BadGrowth);
     }
-    let tenths = wide(growth);
-    if !growth_fits(tenths, capacities.len()) {
-        return Answer::BadGrowth;
+    if let Some(Stretch { first, last }) = find_short(capacities, flights, closing) {
+        return Err(Refusal::NoPlan { first, last });
     }
-    let short = find_short(capacities, flights, closing);
-    match short {
-        ShortStretch::Found { first, last } => Answer::NoPlan { first, last },
-        ShortStretch::NoneShort => {
-            let next = NextCost::Growing { growth: tenths };
-            plan_to(next, capacities, flights, holds, capacities.len());
-            Answer::Planned {
-                total: total_in_millionths(tenths, flights, holds),
-            }
-        }
-    }
+    plan_to(
+        NextCost::Growing { growth },
+        capacities,
+        flights,
+        holds,
+        capacities.len(),
+    );
+    Ok(total_in_millionths(growth, flights, holds))
 }

@@ -3,7 +3,7 @@
 use mathlib.Core.Path.{◌≡◌, refl, sym, ap, ◌∙◌}
 use mathlib.Core.Logic.{◌⊎◌, inl, inr, ◌≢◌}
 use mathlib.Core.List.{List}
-use Prim.Native.Nat.{ℕ, ◌+◌, ◌-◌, ◌≤◌, ◌<◌}
+use Prim.Native.Nat.{ℕ, zero, suc, ◌+◌, ◌-◌, ◌≤◌, ◌<◌}
 use native.Mathlib.Omega.{arith}
 use lib.ListN.{length, replicate, length-replicate, get_or-replicate, get_or-eq_default}
 use Rattle.assignment.specs.Sum.{sum}
@@ -25,9 +25,9 @@ use Rattle.day.proofs.Valid.{valid_flights}
 use Rattle.day.proofs.Instance.{cost_le, window_in, in_window, total_instance}
 use Rattle.day.proofs.Prices.{sound_saves, sound_smallest}
 use Rattle.closed_prices.specs.ClosedPrices.{paid, Sets, CanPrice, Priced}
-use Rattle.due_order.specs.DueOrder.{DueOrder, CanOrder}
+use Rattle.due_order.specs.DueOrder.{DueOrder}
 use Rattle.path.specs.Path.{far, away, dear, room_in, chain_row, begun, landing}
-use Rattle.insertion.specs.Insertion.{Placed, Kept, Inserted, cost_of_placed, Cleared, CanInsert, Planned}
+use Rattle.insertion.specs.Insertion.{Placed, Kept, Inserted, cost_of_placed, CanInsert, Planned}
 use Rattle.insertion.proofs.Inserting.{placed_total}
 
 -- n flights are placed at the cost that was added up
@@ -43,6 +43,10 @@ blank m k = elim (lt? k m) [
   | inr l ↦ get_or-eq_default (replicate m 0) 0 {n = k} (omega (arith, length-replicate {A = ℕ} m 0))
 ]
 
+cleared : (m k : ℕ) → of_period (replicate m 0) k ≡ 0
+cleared m zero = refl
+cleared m (suc k) = blank m k
+
 blank_far : (m k : ℕ) → away (replicate m far) k ≡ far
 blank_far m k = elim (lt? k m) [
   | inl l ↦ get_or-replicate {A = ℕ} m k far far l
@@ -54,13 +58,10 @@ unfolding A.total sum
 none_placed d x e = rw e
 
 module _ {d : Day} {holds prices : List ℕ} (c : CanInsert d holds prices) where
-  pub building_order : CanOrder (P d) d.flights (replicate most_flights 0)
-  building_order = record { valid = valid_flights c.valid; row = omega (arith, c.valid.flights_to, length-replicate {A = ℕ} most_flights 0) }
-
   pub building_start : d.closing ≡ unlimited → {places prices₀ : List ℕ} → length places ≡ length (replicate {A = ℕ} most_flights 0)
-      → DueOrder d.flights places → length prices₀ ≡ length prices → Cleared prices₀
+      → DueOrder d.flights places → prices₀ ≡ replicate (length prices) 0
       → Building d places holds prices₀ (replicate period_row 0) (replicate chain_row 0) (replicate period_row far) (replicate period_row 0) 0 0
-  building_start no_line {places} row o same none = record {
+  building_start no_line {places} row o none = record {
     places_row = row ∙ length-replicate {A = ℕ} most_flights 0;
     placed = record {
       table = record { valid = c.valid; row = o.row; permuted = o.permuted };
@@ -69,8 +70,8 @@ module _ {d : Day} {holds prices : List ℕ} (c : CanInsert d holds prices) wher
       none_short = c.none_short;
       upto = omega arith;
       holds_row = c.holds_row;
-      prices_row = same ∙ c.prices_row;
-      sound = sound_start refl none;
+      prices_row = ap length none ∙ length-replicate {A = ℕ} (length prices) 0 ∙ c.prices_row;
+      sound = sound_start refl (λ k. rw none (cleared (length prices) k));
     };
     kept = record {
       loads_row = length-replicate {A = ℕ} period_row 0;
@@ -84,16 +85,9 @@ module _ {d : Day} {holds prices : List ℕ} (c : CanInsert d holds prices) wher
   }
 
 module _ {d : Day} {places holds prices loads links dist via : List ℕ} {cost n : ℕ} (s : Building d places holds prices loads links dist via cost n) where
-  pub building_more : n < length holds → n < N d
-  building_more l = omega (arith, s.placed.holds_row)
-
   module _ {places₂ holds₂ prices₂ : List ℕ} {added : ℕ} (a : Inserted d places places₂ holds holds₂ prices₂ n added) where
     pub building_small : (cost + added ≤ 250880000) × (n < most_flights)
     building_small = omega (arith, s.cost_is, a.adds, placed_total a.placed, a.placed.upto, s.placed.table.valid.flights_to)
-
-    pub building_next : {loads₂ links₂ dist₂ via₂ : List ℕ} → length places₂ ≡ length places → Kept d places₂ holds₂ loads₂ links₂ dist₂ via₂ (n + 1)
-        → Building d places₂ holds₂ prices₂ loads₂ links₂ dist₂ via₂ (cost + added) (n + 1)
-    building_next same kept = record { places_row = same ∙ s.places_row; placed = a.placed; kept = kept; cost_is = omega (arith, s.cost_is, a.adds) }
 
   module _ (end : length holds ≤ n) where
     all_placed : n ≡ N d

@@ -3,7 +3,7 @@
 use mathlib.Core.Path.{◌≡◌, refl, sym, ap, ◌∙◌}
 use mathlib.Core.Logic.{◌⊎◌, inl, inr, ◌≢◌}
 use mathlib.Core.List.{List}
-use Prim.Native.Nat.{ℕ, suc, ◌+◌, ◌-◌, ◌*◌, ◌≤◌, ◌<◌}
+use Prim.Native.Nat.{ℕ, suc, ◌+◌, ◌-◌, ◌≤◌, ◌<◌}
 use native.Mathlib.Omega.{arith}
 use lib.ListN.{get_or, length, set, length-set}
 use Rattle.assignment.specs.Sum.{count}
@@ -23,13 +23,12 @@ use Rattle.assignment.proofs.Closed.{open_cost, shut_cost, opened_short, lands_o
 use Rattle.assignment.proofs.Permuted.{permuted_short, reordered_sound, reordered_total}
 use Rattle.assignment.proofs.Restricted.{Rising, until_near, restrict, widen, widen_short}
 use Rattle.assignment.proofs.Rows.{set_moved}
-use Rattle.day.specs.Day.{Day, width, P, N, most_flights, period_row, of_period, unlimited, takes_of, takes, due, cost, last_of, last}
+use Rattle.day.specs.Day.{Day, P, N, most_flights, period_row, of_period, unlimited, takes_of, takes, due, cost, last_of, last}
 use Rattle.day.specs.Instance.{instance, last_to}
 use Rattle.day.proofs.Costs.{takes_closing, counted_from, due_latest, cost_grows}
 use Rattle.day.proofs.Instance.{cost_le, instance_short}
 use Rattle.path.specs.Path.{far, away, dear, begun, scope, landing, Table, Scene, Searched, CanSearchSome, SearchedAll}
 use Rattle.path.proofs.Rows.{as_read}
-use Rattle.path.proofs.Expanding.{stands}
 use Rattle.insertion.specs.Insertion.{Placed, Kept, cost_of_placed, Added, CanFind, FirstRoom, Linked, CanWalk, Arrived, Walked, CanForget, Forgotten, CanRaise, Raised, Inserted}
 use Rattle.insertion.proofs.Steps.{added_chained, added_loads}
 
@@ -96,9 +95,6 @@ module _ {d : Day} {places holds prices : List ℕ} {n : ℕ} (s : Placed d plac
     insert_room = omega (arith, s.table.row, s.table.valid.flights_to)
 
     module _ {i : ℕ} (i-is : i ≡ get_or places n 0) where
-      pub insert_stands : (i + 1) * width ≤ length d.flights
-      insert_stands = stands s.table i (omega (arith, in_table s.table n l))
-
       module _ {first : ℕ} (first-is : first ≡ due d i) where
         first_at : first ≡ due d (get_or places n 0)
         first_at = rw i-is at first-is

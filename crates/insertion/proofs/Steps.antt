@@ -1,14 +1,20 @@
--- What `add_place` does, and the loops of `first_with_room`, `walk`, `forget`, `raise` and `clear`.
+-- What `add_place` does, and the loops of `first_with_room`, `walk` and `raise`.
 -- Assumes nothing.
 use mathlib.Core.Path.{◌≡◌, refl, sym, ap, ◌∙◌}
-use mathlib.Core.Logic.{◌⊎◌, inl, inr, ◌≢◌}
+use mathlib.Core.Logic.{inl, inr, ◌≢◌}
 use mathlib.Core.List.{List}
 use Prim.Native.Nat.{ℕ, zero, suc, ◌+◌, ◌-◌, ◌*◌, ◌≤◌, ◌<◌}
 use native.Mathlib.Omega.{arith}
 use mathlib.Core.Bool.{cond}
 use lib.Dec.{eqb}
 use borrow.Author.Tests.{eq-eqb, ne_eqb}
-use lib.ListN.{get_or, length, set, length-set}
+use lib.ListN.{get_or, length, set, length-set, take, drop, replicate}
+use borrow.Rule.Slice.PartMut.{put_mid}
+use Rattle.std.proofs.Common.{rules}
+use Rattle.std.proofs.lemmas.List.{places}
+use Rattle.std.proofs.lemmas.Grind.{common_steps}
+use Rattle.std.specs.List.{swap}
+use Rattle.std.proofs.lemmas.List.Edits.{swapped_from_swap, length-swap}
 use Rattle.assignment.specs.Sum.{gate, count}
 use Rattle.assignment.specs.Assignment.{Instance}
 use Rattle.assignment.specs.Rows.{el}
@@ -23,11 +29,9 @@ use Rattle.assignment.proofs.Chains.{chained_add}
 use Rattle.assignment.proofs.Insertion.{going_step}
 use Rattle.assignment.proofs.Permuted.{permuted_other, permuted_same, swapped}
 use Rattle.assignment.proofs.Rows.{set_moved}
-use Rattle.day.specs.Day.{most_flights, period_row, width, column, flight_count, of_period, unlimited, takes_of, hold}
-use Rattle.day.proofs.Costs.{period_out, period_moved}
+use Rattle.day.specs.Day.{most_flights, period_row, width, column, flight_count, of_period, hold}
 use Rattle.path.specs.Path.{far, away, landing, Chained}
-use Rattle.path.proofs.Rows.{away_moved, as_read}
-use Rattle.insertion.specs.Insertion.{EachOnce, home, Added, CanFind, FirstRoom, Hop, Linked, CanWalk, Walked, CanForget, Forgotten, CanRaise, Raised, Cleared}
+use Rattle.insertion.specs.Insertion.{EachOnce, home, Added, Hop, Linked, CanWalk, Walked, CanForget, Forgotten}
 
 -- ---- add_place
 
@@ -79,42 +83,6 @@ module _ {x y : ℕ → ℕ} {loads loads₂ links links₂ : List ℕ} {n k : �
             ap (λ z. gate (eqb z j) 1) here,
           )
 
--- ---- first_with_room
-
--- the periods before k are full
-pub record Passing (capacities loads : List ℕ) (first k : ℕ) : Type 0 where
-  pub can : CanFind capacities loads first
-  pub from : first ≤ k
-  pub to : k ≤ length capacities + 1
-  pub full : (j : ℕ) → first ≤ j → j < k → takes_of capacities unlimited j ≤ el loads j
-
-pub passing_start : {capacities loads : List ℕ} {first : ℕ} → CanFind capacities loads first → Passing capacities loads first first
-passing_start c = record { can = c; from = omega arith; to = c.to; full = λ j a b. absurd (omega arith) }
-
-module _ {capacities loads : List ℕ} {first k : ℕ} (s : Passing capacities loads first k) where
-  pub passing_room : (k < length loads) × (k < period_row)
-  passing_room = omega (arith, s.can.few, s.can.rows, s.to)
-
-  module _ {r : ℕ} (e : r ≡ takes_of capacities unlimited k) where
-    pub passing_found : get_or loads k 0 < r → FirstRoom capacities loads first k
-    passing_found less = record { from = s.from; to = s.to; full = s.full; free = omega arith }
-
-    module _ (more : r ≤ get_or loads k 0) where
-      -- the closing period has room
-      pub passing_in : k ≤ length capacities
-      passing_in = elim (eq? k (length capacities + 1)) [
-        | inl closing ↦ absurd (omega (arith, s.can.closing, ap (takes_of capacities unlimited) closing, ap (el loads) closing))
-        | inr other ↦ omega (arith, s.to)
-      ]
-
-      pub passing_next : Passing capacities loads first (k + 1)
-      passing_next = record {
-        can = s.can;
-        from = omega (arith, s.from);
-        to = omega (arith, passing_in);
-        full = λ j a b. elim (eq? j k) [ inl f ↦ rw f (omega arith) | inr f ↦ s.full j a (omega arith) ];
-      }
-
 -- ---- walk
 
 -- the flight at place `who` is held until k: it lands there, and the others where they did
@@ -128,17 +96,6 @@ module _ {flights places : List ℕ} (holds : List ℕ) {who i k : ℕ} (t : Eac
 
   held_other : (s : ℕ) → s < flight_count flights → s ≢ who → landing flights places (set holds i (k - column 1 flights i)) s ≡ landing flights places holds s
   held_other s b e = omega (arith, (set_moved holds i (k - column 1 flights i) in_row).others (el places s) (λ f. permuted_other t.permuted s who b l e (f ∙ i-is)))
-
--- two entries change places
-swap_moved : (row : List ℕ) (a b : ℕ) → a < length row → b < length row → a ≢ b → Swapped (el row) (el (set (set row a (el row b)) b (el row a))) a b
-swap_moved row a b in-a in_b apart =
-    let v = set_moved row a (el row b) in-a in
-    let w = set_moved (set row a (el row b)) b (el row a) (omega (arith, length-set row a (el row b))) in
-    record {
-      here = w.others a apart ∙ v.here;
-      there = w.here;
-      others = λ s e f. w.others s f ∙ v.others s e;
-    }
 
 put_swapped : (f : ℕ → ℕ) (a b : ℕ) → a ≢ b → Swapped f (put (put f a (f b)) b (f a)) a b
 put_swapped f a b apart =
@@ -201,9 +158,6 @@ module _ {flights places holds via : List ℕ} {n target : ℕ} (c : CanWalk fli
     arith,
     hops_same (suc most) most (landing flights places holds (el via at)) h.in_day h.some (omega (arith, h.lower)) (omega (arith, h.lower)) (omega (arith, h.lower)),
   ))
-
-  pub walk_in : target < length via
-  walk_in = omega (arith, c.within, c.vias)
 
   placed_home : (s : ℕ) → s ≢ n → home flights places holds n target s ≡ landing flights places holds s
   placed_home s e = (put_moved (landing flights places holds) n target).others s e
@@ -296,8 +250,8 @@ module _ {flights places₀ places holds₀ holds via : List ℕ} {n target at p
           let to : left ≡ landing flights places₀ holds₀ (el via at) = left_at ∙ home_is ∙ ap (landing flights places₀ holds₀) s.is in
           rw to (hops_less s.can period_row at (omega (arith, s.can.latest)) s.below (λ new. e (s.is ∙ new)) hop)
 
-      swaps : Swapped (el places) (el (set (set places place (el places from)) from (el places place))) place from
-      swaps = swap_moved places place from walking_places.0 walking_room.0 apart
+      swaps : Swapped (el places) (el (swap places place from)) place from
+      swaps = let e = swapped_from_swap places (swap places place from) place from 0 walking_places.0 walking_room.0 refl in record { here = e.0; there = e.1; others = e.2 }
 
       abbrev σ₂ : ℕ → ℕ
       σ₂ = put (put s.σ place (s.σ from)) from (s.σ place)
@@ -308,7 +262,7 @@ module _ {flights places₀ places holds₀ holds via : List ℕ} {n target at p
       goes : Moved s.x (put s.x from at) from at
       goes = put_moved s.x from at
 
-      moved₂ : (o : ℕ) → o < suc n → el (set (set places place (el places from)) from (el places place)) o ≡ el places₀ (σ₂ o)
+      moved₂ : (o : ℕ) → o < suc n → el (swap places place from) o ≡ el places₀ (σ₂ o)
       moved₂ o b = elim (eq? o place) [
         | inl f ↦ rw f (swaps.here ∙ s.moved from walking_room.2 ∙ ap (el places₀) (sym turns.here))
         | inr f ↦ elim (eq? o from) [
@@ -318,7 +272,7 @@ module _ {flights places₀ places holds₀ holds via : List ℕ} {n target at p
       ]
 
       at_home₂ : (o : ℕ) → o < suc n → o ≢ from
-          → landing flights (set (set places place (el places from)) from (el places place)) (set holds i (at - column 1 flights i)) o ≡ home flights places₀ holds₀ n target o
+          → landing flights (swap places place from) (set holds i (at - column 1 flights i)) o ≡ home flights places₀ holds₀ n target o
       at_home₂ o b f = elim (eq? o place) [
         | inl g ↦ rw g (ap (λ z. column 1 flights z + hold (set holds i (at - column 1 flights i)) z) swaps.here
             ∙ held_here holds s.once walking_room.3 row i-is (due_by_lem walking_room.2 walking_stays i-is) ∙ sym s.here)
@@ -339,16 +293,16 @@ module _ {flights places₀ places holds₀ holds via : List ℕ} {n target at p
           (λ f. omega (arith, low, ap (λ z. el s.can.turn (home flights places₀ holds₀ n target z)) f, ap (el s.can.turn) left_at))
           ∙ s.still o b (omega (arith, low, walking_less))
 
-      pub walking_step : Walking flights places₀ (set (set places place (el places from)) from (el places place)) holds₀ (set holds i (at - column 1 flights i)) via n target left from (get_or via left 0)
+      pub walking_step : Walking flights places₀ (swap places place from) holds₀ (set holds i (at - column 1 flights i)) via n target left from (get_or via left 0)
       walking_step = record {
         can = s.can;
         once = record {
           whole = s.once.whole;
           few = s.once.few;
-          row = omega (arith, s.once.row, length-set (set places place (el places from)) from (el places place), length-set places place (el places from));
+          row = omega (arith, s.once.row, length-swap places place from);
           permuted = swapped s.once.permuted walking_places.2 walking_room.3 apart swaps;
         };
-        same_p = length-set (set places place (el places from)) from (el places place) ∙ length-set places place (el places from) ∙ s.same_p;
+        same_p = length-swap places place from ∙ s.same_p;
         same_h = length-set holds i (at - column 1 flights i) ∙ s.same_h;
         in_day = walking_left.1;
         some = rw (left_at, home_is, s.is) hop.some;
@@ -407,141 +361,31 @@ module _ {flights places₀ places holds₀ holds via : List ℕ} {n target at p
 
 -- ---- forget
 
--- the periods from first on and before k are far again
-pub record Forgetting (dist₀ dist : List ℕ) (first target k : ℕ) : Type 0 where
-  pub can : CanForget dist₀ first target
-  pub same : length dist ≡ length dist₀
-  pub done : (j : ℕ) → first ≤ j → j < k → away dist j ≡ far
-  pub outside : (j : ℕ) → (j < first) ⊎ (target < j) → away dist j ≡ far
+pub forgotten : {dist row : List ℕ} (first target : ℕ) → CanForget dist first target → first ≤ target → row ≡ replicate (length (take ((target + 1) - first) (drop first dist))) far
+    → Forgotten (put_mid first ((target + 1) - first) dist row)
+forgotten {dist} {row} first target can from is = record {
+  all_far = λ j. elim (lt? j first) [
+    | inl a ↦ before j a ∙ can.outside j (inl a)
+    | inr a ↦ elim (lt? target j) [ inl b ↦ behind j b ∙ can.outside j (inr b) | inr b ↦ within j a b ]
+  ];
+}
+  where
+    rows : row ≡ replicate ((target + 1) - first) far
+    rows = let e : length (take ((target + 1) - first) (drop first dist)) ≡ (target + 1) - first = grind (arith, common_steps, can.within, can.dists) in rw e at is
 
-pub forgetting_start : {dist : List ℕ} {first target : ℕ} → CanForget dist first target → Forgetting dist dist first target first
-forgetting_start c = record { can = c; same = refl; done = λ j a b. absurd (omega arith); outside = c.outside }
+    before : (j : ℕ) → j < first → away (put_mid first ((target + 1) - first) dist row) j ≡ away dist j
+    before j a = let l : first ≤ length dist = omega (arith, can.dists, can.within) in search (rules, places)
 
-module _ {dist₀ dist : List ℕ} {first target k : ℕ} (s : Forgetting dist₀ dist first target k) where
-  module _ (l : k ≤ target) where
-    pub forgetting_room : (k < length dist) × (k < period_row)
-    forgetting_room = omega (arith, s.same, s.can.dists, s.can.within)
+    within : (j : ℕ) → first ≤ j → j ≤ target → away (put_mid first ((target + 1) - first) dist row) j ≡ far
+    within j a b = let l : first ≤ length dist = omega (arith, can.dists, can.within) in rw rows (search (rules, places))
 
-    pub forgetting_next : Forgetting dist₀ (set dist k far) first target (k + 1)
-    forgetting_next =
-        let v = away_moved dist k far forgetting_room.0 in
-        record {
-          can = s.can;
-          same = length-set dist k far ∙ s.same;
-          done = λ j a b. elim (eq? j k) [ inl e ↦ rw e v.here | inr e ↦ v.others j e ∙ s.done j a (omega arith) ];
-          outside = λ j out. elim (eq? j k) [ inl e ↦ rw e v.here | inr e ↦ v.others j e ∙ s.outside j out ];
-        }
-
-  pub forgetting_end : target < k → Forgotten dist
-  forgetting_end l = record {
-    all_far = λ j. elim (lt? j first) [
-      | inl a ↦ s.outside j (inl a)
-      | inr a ↦ elim (lt? j k) [ inl b ↦ s.done j a b | inr b ↦ s.outside j (inr (omega arith)) ]
-    ];
-  }
+    behind : (j : ℕ) → target < j → away (put_mid first ((target + 1) - first) dist row) j ≡ away dist j
+    behind j a = let l : first ≤ length dist = omega (arith, can.dists, can.within) in rw rows (search (rules, places))
 
 -- ---- raise
 
 -- the periods before k have their new prices
-pub record Raising (prices₀ prices dist : List ℕ) (first target goal k : ℕ) : Type 0 where
-  pub can : CanRaise prices₀ dist first target
-  pub same : length prices ≡ length prices₀
-  pub goal_is : goal ≡ away dist target
-  pub from : first ≤ k
-  pub done : (j : ℕ) → first ≤ j → j < k → of_period prices j ≡ of_period prices₀ j + (goal - away dist j)
+pub record Raising (prices₀ prices dist : List ℕ) (first target k : ℕ) : Type 0 where
+  pub done : (j : ℕ) → first ≤ j → j < k → of_period prices j ≡ of_period prices₀ j + (away dist target - away dist j)
   pub before : (j : ℕ) → j < first → of_period prices j ≡ of_period prices₀ j
   pub left : (j : ℕ) → k ≤ j → of_period prices j ≡ of_period prices₀ j
-
-module _ {prices dist : List ℕ} {first target : ℕ} (c : CanRaise prices dist first target) where
-  pub raise_room : (target < length dist) × (target < period_row)
-  raise_room = omega (arith, c.to, c.few, c.dists)
-
-  pub raising_start : Raising prices prices dist first target (get_or dist target 0) first
-  raising_start = record {
-    can = c;
-    same = refl;
-    goal_is = as_read dist target raise_room.0;
-    from = omega arith;
-    done = λ j a b. absurd (omega arith);
-    before = λ j _. refl;
-    left = λ j _. refl;
-  }
-
-module _ {prices₀ prices dist : List ℕ} {first target goal k : ℕ} (s : Raising prices₀ prices dist first target goal k) where
-  module _ (l : k < target) where
-    pub raising_room : (k < length dist) × (k - 1 < length prices) × (k < period_row) × (1 ≤ k)
-    raising_room = omega (arith, s.same, s.from, s.can.from, s.can.to, s.can.few, s.can.dists)
-
-    read : get_or dist k 0 ≡ away dist k
-    read = as_read dist k raising_room.0
-
-    pub raising_small : {q : ℕ} → q ≡ of_period prices k → q + (goal - get_or dist k 0) ≤ 4294967295
-    raising_small e = omega (arith, read, s.left k (omega arith), s.can.low k, s.goal_is)
-
-    pub raising_keep : goal ≤ get_or dist k 0 → Raising prices₀ prices dist first target goal (k + 1)
-    raising_keep h = record {
-      can = s.can;
-      same = s.same;
-      goal_is = s.goal_is;
-      from = omega (arith, s.from);
-      done = λ j a b. elim (eq? j k) [ inl e ↦ rw e (omega (arith, read, s.left k (omega arith))) | inr e ↦ s.done j a (omega arith) ];
-      before = s.before;
-      left = λ j b. s.left j (omega arith);
-    }
-
-    pub raising_up : {q : ℕ} → q ≡ of_period prices k
-        → Raising prices₀ (set prices (k - 1) (q + (goal - get_or dist k 0))) dist first target goal (k + 1)
-    raising_up {q} e =
-        let v = period_moved prices k (q + (goal - get_or dist k 0)) raising_room.3 (omega (arith, raising_room)) in
-        record {
-          can = s.can;
-          same = length-set prices (k - 1) (q + (goal - get_or dist k 0)) ∙ s.same;
-          goal_is = s.goal_is;
-          from = omega (arith, s.from);
-          done = λ j a b. elim (eq? j k) [
-            | inl f ↦ rw f (omega (arith, v.here, read, s.left k (omega arith)))
-            | inr f ↦ v.others j f ∙ s.done j a (omega arith)
-          ];
-          before = λ j a. v.others j (omega (arith, s.from)) ∙ s.before j a;
-          left = λ j b. v.others j (omega arith) ∙ s.left j (omega arith);
-        }
-
-  pub raising_end : target ≤ k → Raised prices₀ prices dist target
-  raising_end l = record {
-    rise = λ j. elim (lt? j first) [
-      | inl a ↦ omega (arith, s.before j a, s.can.before j a)
-      | inr a ↦ elim (lt? j k) [
-        | inl b ↦ omega (arith, s.done j a b, s.goal_is)
-        | inr b ↦ elim (eq? j target) [
-          | inl e ↦ rw e (omega (arith, rw e at (s.left j b)))
-          | inr e ↦ omega (arith, s.left j b, s.can.behind j (omega arith))
-        ]
-      ]
-    ];
-  }
-
--- ---- clear
-
--- the entries before `at` are 0
-pub record Clearing (prices₀ prices : List ℕ) (at : ℕ) : Type 0 where
-  pub same : length prices ≡ length prices₀
-  pub done : (j : ℕ) → j < at → el prices j ≡ 0
-
-pub clearing_start : (prices : List ℕ) → Clearing prices prices 0
-clearing_start prices = record { same = refl; done = λ j l. absurd (omega arith) }
-
-module _ {prices₀ prices : List ℕ} {at : ℕ} (s : Clearing prices₀ prices at) where
-  pub clearing_next : at < length prices → Clearing prices₀ (set prices at 0) (at + 1)
-  clearing_next l =
-      let v = set_moved prices at 0 l in
-      record {
-        same = length-set prices at 0 ∙ s.same;
-        done = λ j b. elim (eq? j at) [ inl e ↦ rw e v.here | inr e ↦ v.others j e ∙ s.done j (omega arith) ];
-      }
-
-  pub clearing_end : length prices ≤ at → Cleared prices
-  clearing_end l zero = refl
-  clearing_end l (suc k) = elim (lt? k (length prices)) [
-    | inl b ↦ s.done k (omega arith)
-    | inr b ↦ period_out prices (suc k) (omega arith)
-  ]

@@ -146,9 +146,6 @@ pub record Raised (prices prices₂ dist : List ℕ) (target : ℕ) : Type 0 whe
 
 -- ---- one flight after the other
 
-abbrev pub Cleared : List ℕ → Type 0
-Cleared prices = (k : ℕ) → of_period prices k ≡ 0
-
 pub record Inserted (d : Day) (places places₂ holds holds₂ prices₂ : List ℕ) (n added : ℕ) : Type 0 where
   pub placed : Placed d places₂ holds₂ prices₂ (n + 1)
   pub adds : cost_of_placed d places₂ holds₂ (n + 1) ≡ cost_of_placed d places holds n + added

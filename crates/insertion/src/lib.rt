@@ -9,10 +9,10 @@
 ghost use Rattle.std.specs.Prelude.{◌≡◌, ◌+◌, ◌-◌, ◌*◌, ◌<◌, ◌≤◌, length, set};
 ghost use Rattle.day.specs.Day.{lent, unlimited, most_flights, period_row, width, N, due_of};
 ghost use Rattle.assignment.specs.Rows.{el};
-ghost use Rattle.insertion.specs.Insertion.{Added, CanFind, FirstRoom, CanWalk, Walked, CanRaise, Raised, CanForget, Forgotten, Placed, Kept, Inserted, Cleared, CanInsert, Planned};
+ghost use Rattle.insertion.specs.Insertion.{Added, CanFind, FirstRoom, CanWalk, Walked, CanRaise, Raised, CanForget, Forgotten, Placed, Kept, Inserted, CanInsert, Planned};
 
 use closed_prices::price_closed;
-use day::{FLIGHTS, PERIOD_ROW, UNLIMITED, capacity_of, due_of, land_of, of_period, wide};
+use day::{FLIGHTS, PERIOD_ROW, UNLIMITED, capacity_of, due_of, land_of};
 use due_order::order_flights;
 use path::{CHAIN_ROW, FAR, find_path};
 
@@ -21,7 +21,7 @@ fn add_place(loads: &mut [usize], links: &mut [usize], n: usize, k: usize)
     requires { (k < length loads.old) × (period_row + n < length links.old) × (k < period_row) × (n < most_flights) × (el loads.old k ≤ most_flights) }
     ensures { Added loads.old loads.new links.old links.new n k }
 {
-    loads[k] = loads[k] + 1;
+    loads[k] += 1;
     links[PERIOD_ROW + n] = links[k];
     links[k] = n + 1;
 }
@@ -31,13 +31,10 @@ fn first_with_room(capacities: &[u32], loads: &[usize], first: usize) -> usize
     requires { CanFind capacities.now loads.now first }
     ensures { FirstRoom capacities.now loads.now first result }
 {
-    let mut k = first;
-    loop {
-        if loads[k] < capacity_of(capacities, UNLIMITED, k) {
-            return k;
-        }
-        k += 1;
-    }
+    let closing = capacities.len() + 1;
+    (first..closing)
+        .find(|k| loads[*k] < capacity_of(capacities, UNLIMITED, *k))
+        .unwrap_or(closing)
 }
 
 // Holds the flight at table place i until period k.
@@ -45,18 +42,7 @@ fn hold_until(flights: &[u32], holds: &mut [u32], i: usize, k: usize)
     requires { (i < length holds.old) × ((i + 1) * width ≤ length flights.now) × (due_of flights.now i ≤ k) × (i < most_flights) × (k < period_row) }
     ensures { holds.new ≡ set holds.old i (k - due_of flights.now i) }
 {
-    let hold = k - due_of(flights, i);
-    holds[i] = hold as u32;
-}
-
-// What stands at a and b changes places.
-fn swap(places: &mut [u32], a: usize, b: usize)
-    requires { (a < length places.old) × (b < length places.old) × (a < most_flights) × (b < most_flights) }
-    ensures { places.new ≡ set (set places.old a (el places.old b)) b (el places.old a) }
-{
-    let mine = places[a];
-    places[a] = places[b];
-    places[b] = mine;
+    holds[i] = (k - due_of(flights, i)) as u32;
 }
 
 // From the target back along `via`: each flight moves on to the place behind it, and the new flight, which starts at place n in the target,
@@ -76,15 +62,15 @@ fn walk(
     let mut place = n;
     let mut from = via[at];
     while from != n {
-        let i = wide(places[from]);
+        let i = places[from] as usize;
         let left = land_of(flights, holds, i);
         hold_until(flights, holds, i, at);
-        swap(places, place, from);
+        places.swap(place, from);
         place = from;
         at = left;
         from = via[at];
     }
-    hold_until(flights, holds, wide(places[place]), at);
+    hold_until(flights, holds, places[place] as usize, at);
 }
 
 // Raises each price by what its period is nearer than the target.
@@ -93,27 +79,18 @@ fn raise(prices: &mut [u32], dist: &[usize], first: usize, target: usize)
     ensures { Raised prices.old prices.new dist.now target }
 {
     let goal = dist[target];
-    let mut k = first;
-    while k < target {
-        let at = k;
-        k += 1;
-        if dist[at] < goal {
-            let price = of_period(prices, at) + (goal - dist[at]);
-            prices[at - 1] = price as u32;
-        }
+    for k in first..target {
+        prices[k - 1] += goal.saturating_sub(dist[k]) as u32;
     }
 }
 
 // All is far again: a search touches no period but those from first to the target.
 fn forget(dist: &mut [usize], first: usize, target: usize)
-    requires { CanForget dist.old first target }
+    requires can { CanForget dist.old first target }
+    requires from { first ≤ target }
     ensures { Forgotten dist.new }
 {
-    let mut k = first;
-    while k <= target {
-        dist[k] = FAR;
-        k += 1;
-    }
+    dist[first..=target].fill(FAR);
 }
 
 // Takes the flight at place n into the plan of those before it; what that adds to the cost.
@@ -135,7 +112,7 @@ fn insert(
     ensures inserted { Inserted (lent capacities.entry flights.entry unlimited) places.old places.new holds.old holds.new prices.new n result }
     ensures kept { Kept (lent capacities.entry flights.entry unlimited) places.new holds.new loads.new links.new dist.new via.new (n + 1) }
 {
-    let first = due_of(flights, wide(places[n]));
+    let first = due_of(flights, places[n] as usize);
     let target = first_with_room(capacities, loads, first);
     find_path(
         capacities, flights, places, links, prices, dist, via, n, target,
@@ -146,17 +123,6 @@ fn insert(
     forget(dist, first, target);
     add_place(loads, links, n, target);
     added
-}
-
-// No price yet.
-fn clear(prices: &mut [u32])
-    ensures { Cleared prices.new }
-{
-    let mut at = 0;
-    while at < prices.len() {
-        prices[at] = 0;
-        at += 1;
-    }
 }
 
 // Plans all flights of a day without a closing line that has no short stretch; the total. Whatever the two rows have, they are filled.
@@ -171,14 +137,13 @@ pub fn insert_all(
 {
     let mut places = [0; FLIGHTS];
     order_flights(capacities.len(), flights, &mut places);
-    clear(prices);
+    prices.fill(0);
     let mut loads = [0; PERIOD_ROW];
     let mut links = [0; CHAIN_ROW];
     let mut dist = [FAR; PERIOD_ROW];
     let mut via = [0; PERIOD_ROW];
     let mut total = 0;
-    let mut n = 0;
-    while n < holds.len() {
+    for n in 0..holds.len() {
         let added = insert(
             capacities,
             flights,
@@ -192,7 +157,6 @@ pub fn insert_all(
             n,
         );
         total += added;
-        n += 1;
     }
     price_closed(capacities, flights, holds, prices);
     total

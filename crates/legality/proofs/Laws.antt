@@ -10,6 +10,7 @@ use native.Mathlib.Numerals.{add-one}
 use native.Mathlib.Omega.{arith}
 use lib.ListN.{length, get_or, set, length-set, replicate}
 use lib.Seq.{get_or-set_same, get_or-set_other}
+use Rattle.std.specs.Prelude.{Some, None, Ok, Err}
 use lib.Dec.{ltb}
 use borrow.Author.Tests.{ltb-false, le-ltb, lt-leb, le-leb, eq-eqb, ne_eqb}
 use Rattle.assignment.specs.Sum.{gate, sum, count}
@@ -23,10 +24,9 @@ use Rattle.day.proofs.Costs.{takes_closing, counted_from, uncounted, cost_most}
 use Rattle.day.proofs.Tests.{first_at, first_none}
 use Rattle.day.specs.Valid.{Valid}
 use Rattle.day.proofs.Valid.{valid_means}
-use Rattle.answers.specs.declared.Answer.TheVariants.{BadDay, BadLength, NotLegal}
-use Rattle.legality.specs.declared.PlanCheck.TheVariants.{Legal, Refused}
+use Rattle.answers.specs.declared.Refusal.TheVariants.{BadDay, BadLength, NotLegal}
 use Rattle.legality.specs.Check.{plan_check, walked}
-use Rattle.legality.specs.Loop.{Walked, CanSum, Summed}
+use Rattle.legality.specs.Loop.{Walked, FirstBreak, CanSum, Summed}
 
 pub or_false : (a b : Bool) → (a || b) ≡ false → (a ≡ false) × (b ≡ false)
 or_false false b e = (refl, e)
@@ -54,9 +54,9 @@ module _ {d : Day} {h loads : List ℕ} {i : ℕ} (s : Walked d h loads i) where
   walk_place l = omega (arith, v.whole, s.each)
 
   module _ {k : ℕ} (l : i < length h) (at-k : k ≡ land d h i) where
-    pub walk_long : too_long d i k ≡ true → i ≡ first_break d h
+    pub walk_long : too_long d i k ≡ true → FirstBreak d h (Some i)
     unfolding first_break breaks
-    walk_long e = sym (first_at (N d) (breaks d h) i (omega (arith, s.each)) s.none (rw (← at-k, e)))
+    walk_long e = (omega (arith, s.each), sym (first_at (N d) (breaks d h) i (omega (arith, s.each)) s.none (rw (← at-k, e))))
 
     module _ (short : too_long d i k ≡ false) where
       pub walk_by : k ≤ P d + 1
@@ -71,9 +71,9 @@ module _ {d : Day} {h loads : List ℕ} {i : ℕ} (s : Walked d h loads i) where
       here : get_or loads k 0 + 1 ≡ count (suc i) (land d h) (land d h i)
       here = rw (← at-k) (omega (arith, s.counted k walk_in, count_suc i (land d h) k, gate_eq (land d h i) k 1 (sym at-k)))
 
-      pub walk_over : over_capacity d.capacities d.closing k (get_or loads k 0 + 1) ≡ true → i ≡ first_break d h
+      pub walk_over : over_capacity d.capacities d.closing k (get_or loads k 0 + 1) ≡ true → FirstBreak d h (Some i)
       unfolding first_break breaks
-      walk_over e = sym (first_at (N d) (breaks d h) i (omega (arith, s.each)) s.none (rw (← here, ← at-k, short, e)))
+      walk_over e = (omega (arith, s.each), sym (first_at (N d) (breaks d h) i (omega (arith, s.each)) s.none (rw (← here, ← at-k, short, e))))
 
       pub walk_next : over_capacity d.capacities d.closing k (get_or loads k 0 + 1) ≡ false → Walked d h (set loads k (get_or loads k 0 + 1)) (i + 1)
       unfolding breaks
@@ -110,11 +110,9 @@ module _ {d : Day} {h loads : List ℕ} {i : ℕ} (s : Walked d h loads i) where
             | inr other ↦ s.none j (omega arith)
           ]
 
-  pub walk_end : length h ≤ i → i ≡ first_break d h
+  pub walk_end : length h ≤ i → FirstBreak d h None
   unfolding first_break
-  walk_end l =
-      let e : i ≡ N d = omega (arith, s.each, s.upto) in
-      e ∙ sym (first_none (N d) (breaks d h) (λ j b. s.none j (omega arith)))
+  walk_end l = first_none (N d) (breaks d h) (λ j b. s.none j (omega (arith, s.each)))
 
 -- a landing by the closing period is over capacity exactly where the period takes fewer; a closing period without a line takes more than
 -- there are flights
@@ -143,9 +141,6 @@ can_sum d good each =
     record { each = each; whole = v.whole; few = v.flights_to; rates = λ i l. (v.flight i l).rate_to; jumps = λ i l. (v.flight i l).jump_to }
 
 module _ {f h : List ℕ} {s i : ℕ} (m : Summed f h s i) where
-  pub sum_place : i < length h → (i + 1) * width ≤ length f
-  sum_place l = omega (arith, m.can.whole, m.can.each)
-
   pub sum_fits : s ≤ 5497558266880000
   sum_fits = omega (arith, m.most, m.upto, m.can.few)
 
@@ -189,20 +184,20 @@ sum_start can = record { can = can; upto = omega arith; costs = refl; most = ome
 -- ---- the order of the refusals
 
 module _ (d : Day) (h : List ℕ) where
-  pub check_bad_day : valid d ≡ false → Refused BadDay ≡ plan_check d h
+  pub check_bad_day : valid d ≡ false → Err BadDay ≡ plan_check d h
   unfolding plan_check
   check_bad_day e = rw e
 
   module _ (good : valid d ≡ true) {n : ℕ} (flights : n ≡ N d) where
-    pub check_bad_length : (length h ≡ n → ⊥) → Refused (BadLength n) ≡ plan_check d h
+    pub check_bad_length : (length h ≡ n → ⊥) → Err (BadLength n) ≡ plan_check d h
     unfolding plan_check
     check_bad_length e = rw (good, ne_eqb (length h) (N d) (λ f. e (f ∙ sym flights)), flights)
 
-    module _ (each : length h ≡ n) {place : ℕ} (at : place ≡ first_break d h) where
-      pub check_not_legal : (place ≡ n → ⊥) → Refused (NotLegal place) ≡ plan_check d h
+    module _ (each : length h ≡ n) where
+      pub check_not_legal : {place : ℕ} → FirstBreak d h (Some place) → Err (NotLegal place) ≡ plan_check d h
       unfolding plan_check walked
-      check_not_legal e = rw (good, eq-eqb (length h) (N d) (each ∙ flights), ne_eqb (first_break d h) (N d) (λ f. e (at ∙ f ∙ sym flights)), at)
+      check_not_legal b = rw (good, eq-eqb (length h) (N d) (each ∙ flights), ne_eqb (first_break d h) (N d) (λ f. omega (arith, b, f)), b.1)
 
-      pub check_legal : place ≡ n → {t : ℕ} → t ≡ total d h → Legal t ≡ plan_check d h
+      pub check_legal : FirstBreak d h None → {t : ℕ} → t ≡ total d h → Ok t ≡ plan_check d h
       unfolding plan_check walked
-      check_legal e f = rw (good, eq-eqb (length h) (N d) (each ∙ flights), eq-eqb (first_break d h) (N d) (sym at ∙ e ∙ flights), f)
+      check_legal e f = rw (good, eq-eqb (length h) (N d) (each ∙ flights), eq-eqb (first_break d h) (N d) e, f)

@@ -1,9 +1,9 @@
 -- The states of the loops over a hold row. Only inner contracts cite them.
 -- Assumes nothing.
-use Rattle.std.specs.Prelude.{◌≡◌, true, false, List, ℕ, ◌*◌, ◌≤◌, ◌<◌, length, get_or}
+use Rattle.std.specs.Prelude.{◌≡◌, true, false, List, ℕ, ◌*◌, ◌≤◌, ◌<◌, length, get_or, Option, Some, None}
 use Rattle.assignment.specs.Sum.{sum, count}
 use Rattle.day.specs.Day.{Day, N, most_flights, period_row, width, flight_count, flight_at, hold_cost, land, hold, valid, jump_of, rate_of}
-use Rattle.day.specs.Plan.{breaks}
+use Rattle.day.specs.Plan.{breaks, first_break}
 
 -- the flights before table place i break nothing, and their landings are counted
 pub record Walked (d : Day) (holds loads : List ℕ) (i : ℕ) : Type 0 where
@@ -13,6 +13,11 @@ pub record Walked (d : Day) (holds loads : List ℕ) (i : ℕ) : Type 0 where
   pub sizes : length loads ≡ period_row
   pub counted : (k : ℕ) → k < period_row → get_or loads k 0 ≡ count i (land d holds) k
   pub none : (j : ℕ) → j < i → breaks d holds j ≡ false
+
+-- the first flight that breaks the row, if one does
+abbrev pub FirstBreak : Day → List ℕ → Option ℕ → Type 0
+FirstBreak d holds (Some i) = (i < N d) × (i ≡ first_break d holds)
+FirstBreak d holds None = first_break d holds ≡ N d
 
 -- a hold for each flight, and numbers so low that the sum of the costs fits 64 bits, whatever the holds
 pub record CanSum (flights holds : List ℕ) : Type 0 where

@@ -3,32 +3,21 @@
 
 ghost use Rattle.std.specs.Prelude.{◌≡◌, true, ◌+◌, ◌*◌, ◌<◌, ◌≤◌, length};
 ghost use Rattle.day.specs.Day.{lent, most_periods, most_flights, width, N, total_of, valid};
-ghost use Rattle.day.specs.Plan.{too_long_of, over_capacity, first_break};
+ghost use Rattle.day.specs.Plan.{too_long_of, over_capacity};
 ghost use Rattle.legality.specs.Check.{plan_check};
-ghost use Rattle.legality.specs.Loop.{Walked, CanSum};
+ghost use Rattle.legality.specs.Loop.{Walked, FirstBreak, CanSum};
 
-use answers::Answer;
+use answers::Refusal;
 use day::{
-    Flight, PERIOD_ROW, capacity_of, cost_of, flight_at, flight_count, is_valid, land_of,
-    latest_of, wide,
+    Flight, PERIOD_ROW, capacity_of, cost_of, flight_at, flight_count, is_valid, land_of, latest_of,
 };
-
-// What is found of a day and a hold row: the total of a legal plan, or the refusal.
-#[derive(Clone, Copy)]
-pub enum PlanCheck {
-    Legal { total: usize },
-    Refused(Answer),
-}
 
 // A landing of a flight in period k is after the closing period or over its limit, on a day of so many periods.
 pub fn is_too_long(periods: usize, f: Flight, k: usize) -> bool
     requires { periods ≤ most_periods }
     ensures { result ≡ too_long_of periods f k }
 {
-    if periods + 1 < k {
-        return true;
-    }
-    latest_of(periods, f) < k
+    periods + 1 < k || latest_of(periods, f) < k
 }
 
 // The m-th landing in period k is over its capacity. No day has the landings that would fill a closing period without a line.
@@ -39,38 +28,36 @@ fn is_over(capacities: &[u32], closing: u32, k: usize, m: usize) -> bool
     capacity_of(capacities, closing, k) < m
 }
 
-// The walk of refusal 10, with a row in which landings are counted by period on the way.
+// The walk of refusal 10, with a row in which landings are counted by period on the way: the first flight that breaks the hold row.
 fn walk(
     capacities: &[u32],
     flights: &[u32],
     closing: u32,
     holds: &[u32],
     loads: &mut [usize],
-) -> usize
+) -> Option<usize>
     requires { Walked (lent capacities flights closing) holds.now loads.old 0 }
-    ensures { result ≡ first_break (lent capacities.entry flights.entry closing) holds.now }
+    ensures { FirstBreak (lent capacities.entry flights.entry closing) holds.now result }
 {
-    let mut place = 0;
-    while place < holds.len() {
+    for place in 0..holds.len() {
         let k = land_of(flights, holds, place);
         if is_too_long(capacities.len(), flight_at(flights, place), k) {
-            return place;
+            return Some(place);
         }
         let load = loads[k] + 1;
         if is_over(capacities, closing, k, load) {
-            return place;
+            return Some(place);
         }
         loads[k] = load;
-        place += 1;
     }
-    place
+    None
 }
 
-// The first flight that breaks a row of N holds, or N.
-fn first_break(capacities: &[u32], flights: &[u32], closing: u32, holds: &[u32]) -> usize
+// The first flight that breaks a row of N holds.
+fn first_break(capacities: &[u32], flights: &[u32], closing: u32, holds: &[u32]) -> Option<usize>
     requires valid_day { valid (lent capacities flights closing) ≡ true }
     requires holds_len { length holds.now ≡ N (lent capacities flights closing) }
-    ensures { result ≡ first_break (lent capacities.entry flights.entry closing) holds.now }
+    ensures { FirstBreak (lent capacities.entry flights.entry closing) holds.now result }
 {
     let mut loads = [0; PERIOD_ROW];
     walk(capacities, flights, closing, holds, &mut loads)
@@ -82,30 +69,30 @@ pub fn total_of(flights: &[u32], holds: &[u32]) -> usize
     ensures { result ≡ total_of flights.now holds.now }
 {
     let mut sum = 0;
-    let mut i = 0;
-    while i < holds.len() {
-        sum += cost_of(flights, i, wide(holds[i]));
-        i += 1;
+    for (i, hold) in holds.iter().enumerate() {
+        sum += cost_of(flights, i, *hold as usize);
     }
     sum
 }
 
-// What is found of a day and a hold row, whatever they hold.
-pub fn check_plan(capacities: &[u32], flights: &[u32], closing: u32, holds: &[u32]) -> PlanCheck
+// The total of a legal plan, or the refusal, for a day and a hold row of any content and length.
+pub fn check_plan(
+    capacities: &[u32],
+    flights: &[u32],
+    closing: u32,
+    holds: &[u32],
+) -> Result<usize, Refusal>
     ensures { result ≡ plan_check (lent capacities.entry flights.entry closing) holds.now }
 {
     if !is_valid(capacities, flights, closing) {
-        return PlanCheck::Refused(Answer::BadDay);
+        return Err(Refusal::BadDay);
     }
     let n = flight_count(flights);
     if holds.len() != n {
-        return PlanCheck::Refused(Answer::BadLength { needed: n });
+        return Err(Refusal::BadLength { needed: n });
     }
-    let place = first_break(capacities, flights, closing, holds);
-    if place != n {
-        return PlanCheck::Refused(Answer::NotLegal { place });
+    if let Some(place) = first_break(capacities, flights, closing, holds) {
+        return Err(Refusal::NotLegal { place });
     }
-    PlanCheck::Legal {
-        total: total_of(flights, holds),
-    }
+    Ok(total_of(flights, holds))
 }

@@ -285,9 +285,6 @@ pub record ExpandingAll (flights places links prices list dist₀ dist via₀ vi
       → Expanding (day capacities flights closing) x places links prices list n left target dist₀ dist via₀ via k from next
 
 module _ {flights places links prices list dist via : List ℕ} {left target k : ℕ} (c : CanExpandSome flights places links prices list dist via left target k) where
-  pub expand_room : (k < length dist) × (k < length links) × (k < period_row)
-  expand_room = start_room c.can
-
   pub expanding_start : {q : ℕ} → q ≡ of_period prices k
       → ExpandingAll flights places links prices list dist dist via via left target k (get_or dist k 0) q (get_or links k 0)
   expanding_start e = record { some = c; price_is = e; each = λ capacities closing x n can. starting can }
@@ -297,9 +294,6 @@ module _ {flights places links prices list dist₀ dist via₀ via : List ℕ} {
   -- with the day and the plan that there are
   abbrev one : Expanding (day s.some.capacities flights s.some.closing) s.some.x places links prices list s.some.n left target dist₀ dist via₀ via k from next
   one = s.each s.some.capacities s.some.closing s.some.x s.some.n s.some.can
-
-  pub expanding_sizes : (length dist ≡ length dist₀) × (length via ≡ length via₀)
-  expanding_sizes = (one.same_d, one.same_v)
 
   pub expanding_end : next ≤ 0 → ExpandedAll flights places links prices list dist₀ dist via₀ via left target k
   expanding_end l capacities closing x n can = ending (s.each capacities closing x n can) l
@@ -367,9 +361,6 @@ unfolding none_yet
 turns = length-replicate {A = ℕ} period_row 0
 
 module _ {d : Day} {x : ℕ → ℕ} {places links prices dist via : List ℕ} {n target : ℕ} (c : CanSearch d x places links prices dist via n target) where
-  first_room_lem : (n < length places) × (n < most_flights)
-  first_room_lem = omega (arith, c.ready.upto, c.ready.table.row, c.ready.table.valid.flights_to)
-
   in_day : el places n < N d
   in_day = c.ready.table.permuted.below n c.ready.upto
 
@@ -433,9 +424,6 @@ module _ {d : Day} {x : ℕ → ℕ} {places links prices dist via : List ℕ} {
                   | inr w ↦ absurd (omega (arith, w.to))
                 ]
               ]
-
-          first_near : CanNear dist₁ list all target 0
-          first_near = search_near begun c.ready.scene (lined_first dist₁).listed.shape (λ y _. omega arith)
 
           beginning : {list₂ queue₂ : List ℕ} {left : ℕ} → length list₂ ≡ length list → length queue₂ ≡ length queue
               → NextLevel dist₁ list list₂ queue queue₂ all left 0 target
@@ -579,13 +567,7 @@ module _ {d : Day} {places links prices dist via : List ℕ} {n target : ℕ} (c
   other_plan : (x : ℕ → ℕ) → Ready d x places links prices n target → CanSearch d x places links prices dist via n target
   other_plan x ready = record { ready = ready; dists = c.can.dists; vias = c.can.vias; all_far = c.can.all_far }
 
-  pub find_room : (n < length places) × (n < most_flights)
-  find_room = first_room_lem c.can
-
   module _ {i : ℕ} (i-is : i ≡ get_or places n 0) where
-    pub find_stands : (i + 1) * width ≤ length d.flights
-    find_stands = stands c.can.ready.table i (rw i-is (in_day c.can))
-
     module _ {f : Flight} {first : ℕ} (f_is : f ≡ flight_at d.flights i) (first-is : first ≡ f.due) where
       pub find_list : {list₀ : List ℕ} → length list₀ ≡ period_row → CanList list₀ first target
       find_list = can_list c.can i-is f_is first-is
@@ -596,9 +578,6 @@ module _ {d : Day} {places links prices dist via : List ℕ} {n target : ℕ} (c
 
         module _ {dist₁ via₁ : List ℕ} (same_d : length dist₁ ≡ length dist) (same_v : length via₁ ≡ length via)
             (o : Offers f (record { who = n; from = 0; base = 0 }) prices list dist dist₁ via via₁ all target) where
-          pub find_near : CanNear dist₁ list all target 0 × ((length queue ≡ period_row) × (0 + all < period_row))
-          find_near = (first_near c.can i-is f_is first-is queue row queue_row h same_d same_v o, (queue_row, omega (arith, h.short)))
-
           pub finding_start : {list₂ queue₂ : List ℕ} {left : ℕ} → length list₂ ≡ length list → length queue₂ ≡ length queue
               → NextLevel dist₁ list list₂ queue queue₂ all left 0 target
               → FindingAll d places links prices list₂ queue₂ dist₁ via₁ n all left target 0
@@ -613,23 +592,11 @@ module _ {d : Day} {places links prices list queue dist via : List ℕ} {n all l
   abbrev plan : Finding d s.x places links prices list queue dist via n all left target t
   plan = s.each s.x s.ready
 
-  pub finding_whole : left ≤ all
-  finding_whole = plan.whole
-
-  pub finding_sizes : (period_row ≡ length list) × (period_row ≡ length queue) × (length dist ≡ period_row) × (length via ≡ period_row)
-  finding_sizes = (sym plan.lined.listed.shape.row, sym plan.lined.row, plan.so_far.rows.dists, plan.so_far.rows.vias)
-
   pub finding_end : {dist₀ via₀ : List ℕ} → all - left ≤ t → SearchedAll d places links prices dist₀ dist via₀ via n target
   finding_end e x can = found (s.each x can.ready) e
 
   module _ (l : t < all - left) where
-    pub finding_place : t < period_row
-    finding_place = (reached plan l refl).2
-
     module _ {k : ℕ} (k-is : k ≡ get_or queue t 0) where
-      pub finding_in : (k < period_row) × (k < target)
-      finding_in = omega (arith, (reached plan l k-is).1, (reached plan l k-is).0)
-
       pub finding_expand : CanExpandSome d.flights places links prices list dist via left target k
       finding_expand = record { capacities = d.capacities; closing = d.closing; x = s.x; n = n; can = next_expand plan l k-is }
 
@@ -637,9 +604,6 @@ module _ {d : Day} {places links prices list queue dist via : List ℕ} {n all l
         each_plan : (x : ℕ → ℕ) (ready : Ready d x places links prices n target)
             → Expanded (scope d places n target) x (of_period prices) target dist dist₂ via via₂ k
         each_plan x ready = h d.capacities d.closing x n (next_expand (s.each x ready) l k-is)
-
-        pub finding_level : (k < length dist₂) × (target < length dist₂) × (target < period_row)
-        finding_level = level_room plan l k-is (each_plan s.x s.ready)
 
         pub finding_stop : {dist₀ via₀ : List ℕ} → get_or dist₂ target 0 ≤ get_or dist₂ k 0 → SearchedAll d places links prices dist₀ dist₂ via₀ via₂ n target
         finding_stop e x can = stopped (s.each x can.ready) l k-is (each_plan x can.ready) e

@@ -84,18 +84,6 @@ pub record Filling (capacities list₀ list : List ℕ) (first target left k : �
   pub some : (y : ℕ) → y < left → 0 < of_period capacities (el list y)
   pub all : (j : ℕ) → first ≤ j → j < k → 0 < of_period capacities j → At list left j
 
-pub filling_start : {capacities list : List ℕ} {first target : ℕ} → CanList list first target → Filling capacities list list first target 0 first
-filling_start c = record {
-  can = c;
-  same = refl;
-  from = omega arith;
-  to = c.before;
-  low = λ y l. absurd (omega arith);
-  rising = λ y z a l. absurd (omega arith);
-  some = λ y l. absurd (omega arith);
-  all = λ j a b _. absurd (omega arith);
-}
-
 module _ {capacities list₀ list : List ℕ} {first target left k : ℕ} (s : Filling capacities list₀ list first target left k) where
   pub filling_room : (left < length list) × (left < period_row)
   filling_room = omega (arith, s.from, s.to, s.same, s.can.row, s.can.within)
@@ -205,26 +193,6 @@ pub record Levelling (dist list₀ list queue₀ queue : List ℕ) (at left targ
 module _ {dist list queue : List ℕ} {at left target queued : ℕ} (c : CanLevel dist list queue at left target queued) where
   pub level_room : (at < length list) × (el list at < length dist) × (at < period_row) × (el list at < period_row)
   level_room = omega (arith, c.shape.row, c.shape.short, c.before, c.dists, c.within, list_to c.shape at (omega (arith, c.before)))
-
-  pub levelling_start : Levelling dist list list queue queue at left target queued (get_or dist (el list at) 0) at queued at
-  levelling_start = record {
-    can = c;
-    level_is = as_read dist (el list at) level_room.1;
-    same_l = refl;
-    same_q = refl;
-    upto = omega (arith, c.before);
-    from = omega arith;
-    counts = refl;
-    room = omega arith;
-    more = λ b. absurd (omega arith);
-    rest = λ y _. refl;
-    rising = λ y x a b. c.shape.rising y x a (omega (arith, c.before));
-    stays = λ y b. record { place = y; to = b; is = refl };
-    goes = λ y a b. absurd (omega arith);
-    apart = λ y x a b e. absurd (omega arith);
-    out = λ y x a b. absurd (omega arith);
-    all = λ j p. inl p;
-  }
 
 module _ {dist list₀ list queue₀ queue : List ℕ} {at left target queued level kept end z : ℕ}
     (s : Levelling dist list₀ list queue₀ queue at left target queued level kept end z) where
@@ -389,60 +357,7 @@ module _ {dist list₀ list queue₀ queue : List ℕ} {at left target queued le
       whole : {j : ℕ} → At list₀ z j → At list₀ left j
       whole p = record { place = p.place; to = omega (arith, p.to, s.upto); is = p.is }
 
--- ---- take_out
-
--- the places before z have what is to stand there
-pub record Taking (list₀ list : List ℕ) (at left z : ℕ) : Type 0 where
-  pub row : length list₀ ≡ period_row
-  pub same : length list ≡ length list₀
-  pub small : left < period_row
-  pub lower : at ≤ z
-  pub upper : z ≤ left
-  pub before : (y : ℕ) → y < at → el list y ≡ el list₀ y
-  pub done : (y : ℕ) → at ≤ y → y < z → el list y ≡ el list₀ (y + 1)
-  pub rest : (y : ℕ) → z ≤ y → el list y ≡ el list₀ y
-
-pub taking_start : {list : List ℕ} {at left : ℕ} → (length list ≡ period_row) × (at < left) × (left < period_row) → Taking list list at left at
-taking_start c = record {
-  row = c.0;
-  same = refl;
-  small = c.2;
-  lower = omega arith;
-  upper = omega (arith, c.1);
-  before = λ y _. refl;
-  done = λ y a b. absurd (omega arith);
-  rest = λ y _. refl;
-}
-
-module _ {list₀ list : List ℕ} {at left z : ℕ} (s : Taking list₀ list at left z) where
-  pub taking_end : left ≤ z → Removed list₀ list at left
-  taking_end l = record { before = s.before; behind = λ y a b. s.done y a (omega arith) }
-
-  module _ (l : z < left) where
-    pub taking_room : (z < length list) × (z + 1 < length list) × (z + 1 < period_row)
-    taking_room = omega (arith, s.row, s.same, s.small)
-
-    pub taking_next : Taking list₀ (set list z (el list (z + 1))) at left (z + 1)
-    taking_next =
-        let v = set_moved list z (el list (z + 1)) taking_room.0 in
-        record {
-          row = s.row;
-          same = length-set list z (el list (z + 1)) ∙ s.same;
-          small = s.small;
-          lower = omega (arith, s.lower);
-          upper = omega arith;
-          before = λ y b. v.others y (omega (arith, s.lower)) ∙ s.before y b;
-          done = λ y a b. elim (eq? y z) [
-            | inl e ↦ rw e (v.here ∙ s.rest (z + 1) (omega arith))
-            | inr e ↦ v.others y e ∙ s.done y a (omega arith)
-          ];
-          rest = λ y b. v.others y (omega arith) ∙ s.rest y (omega arith);
-        }
-
 -- ---- take_nearest
-
-pub near_room : {dist list : List ℕ} {left target level at : ℕ} → CanNear dist list left target level → at < left → (el list at < length dist) × (el list at < period_row)
-near_room {at = at} c l = omega (arith, c.dists, c.within, list_to c.shape at (omega arith))
 
 -- one period goes
 module _ {list list₂ : List ℕ} (queue : List ℕ) {at left target queued k : ℕ} (shape : InList list left target) (b : at < left) (k-is : k ≡ el list at)
@@ -494,28 +409,6 @@ module _ {list list₂ : List ℕ} (queue : List ℕ) {at left target queued k :
       | inr e ↦ inl (still j p e)
     ];
   }
-
--- the target is the nearest: all stays
-pub level_none : {dist list queue : List ℕ} {left target level queued at : ℕ} → CanNear dist list left target level → NearestIn dist list left at → left ≤ at
-    → NextLevel dist list list queue queue left left queued target
-level_none {dist} {list} {left = left} {target} {at = at} c h e =
-    let same : at ≡ left = omega (arith, h.to) in
-    record {
-      level = away dist (el list at);
-      levelled = record {
-        short = omega arith;
-        ends = refl;
-        rising = λ y x a b. c.shape.rising y x a (omega arith);
-        stays = λ y b. record { place = y; to = b; is = refl };
-        goes = λ y a b. absurd (omega arith);
-        apart = λ y x a b d. absurd (omega arith);
-        out = λ y x a b. absurd (omega arith);
-        all = λ j p. inl p;
-      };
-      least = h.least;
-      more = λ b. absurd (omega arith);
-      none = λ _. omega (arith, ap (λ z. away dist (el list z)) same, ap (away dist) c.shape.ends);
-    }
 
 pub level_some : {dist list list₂ queue queue₂ : List ℕ} {left left₂ target level queued at : ℕ} → CanNear dist list left target level → NearestIn dist list left at
     → at < left → (left₂ < left) × Levelled dist list list₂ queue queue₂ left left₂ queued (away dist (el list at))

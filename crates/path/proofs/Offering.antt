@@ -11,12 +11,12 @@ use Rattle.assignment.specs.Search.{Took, Kept}
 use Rattle.assignment.proofs.Tests.{lt?, eq?}
 use Rattle.assignment.proofs.Rows.{set_moved}
 use Rattle.day.specs.declared.Flight.{Flight}
-use Rattle.day.specs.Day.{most_periods, period_row, of_period, hold_cost, latest_of}
+use Rattle.day.specs.Day.{period_row, of_period, hold_cost, latest_of}
 use Rattle.day.proofs.Costs.{hold_rises, period_in}
 use Rattle.path.specs.declared.Origin.{Origin}
-use Rattle.path.specs.Path.{far, away, dearest, pays, offers_to, Nearer, FirstFrom, CanOffer, Offers}
+use Rattle.path.specs.Path.{away, dearest, pays, offers_to, Nearer, FirstFrom, CanOffer, Offers}
 use Rattle.path.proofs.Rows.{away_moved, as_read}
-use Rattle.path.proofs.Listing.{list_to, list_before, list_apart}
+use Rattle.path.proofs.Listing.{list_to, list_apart, list_before}
 
 module _ (f : Flight) (o : Origin) (prices : List ℕ) (target : ℕ) (dist₀ dist via₀ via : List ℕ) where
   -- what an offer to period k comes to
@@ -39,18 +39,13 @@ pub record Offering (f : Flight) (o : Origin) (prices list dist₀ dist via₀ v
   pub rest : (j : ℕ) → ((y : ℕ) → y < z → el list y ≢ j) → (away dist j ≡ away dist₀ j) × (el via j ≡ el via₀ j)
 
 module _ {f : Flight} {o : Origin} {prices list dist via : List ℕ} {left target : ℕ} (c : CanOffer f o prices list dist via left target) where
-  pub offer_room : (target < length dist) × (target < period_row) × (get_or dist target 0 + o.base ≤ far + dearest) × (1 ≤ target) × (target - 1 ≤ most_periods)
-  offer_room =
-      let b : target < length dist = omega (arith, c.within, c.dists) in
-      (b, c.within, omega (arith, as_read dist target b, c.most, c.base_low), omega (arith, c.from_due, c.by_target), omega (arith, c.within))
-
-  pub offering_start : {due last z : ℕ} → due ≡ f.due → last ≡ latest_of (target - 1) f → FirstFrom list left due z
-      → Offering f o prices list dist dist via via left target due last (get_or dist target 0 + o.base) z
-  offering_start {due} {z = z} e g h = record {
+  pub offering_start : {last z : ℕ} → last ≡ latest_of (target - 1) f → FirstFrom list left f.due z
+      → Offering f o prices list dist dist via via left target f.due last (get_or dist target 0 + o.base) z
+  offering_start {z = z} g h = record {
     can = c;
-    due_is = e;
+    due_is = refl;
     last_is = g;
-    goal_is = ap (λ z. z + o.base) (as_read dist target offer_room.0);
+    goal_is = ap (λ z. z + o.base) (as_read dist target (omega (arith, c.within, c.dists)));
     upto = h.to;
     later = later;
     same_d = refl;
@@ -59,7 +54,7 @@ module _ {f : Flight} {o : Origin} {prices list dist via : List ℕ} {left targe
     rest = λ j _. (refl, refl);
   }
     where
-      later : (y : ℕ) → z ≤ y → y ≤ left → due ≤ el list y
+      later : (y : ℕ) → z ≤ y → y ≤ left → f.due ≤ el list y
       later y a b = elim (eq? y left) [
         | inl last ↦ omega (arith, ap (el list) last, c.shape.ends, c.by_target)
         | inr less ↦ elim (eq? y z) [
@@ -70,9 +65,6 @@ module _ {f : Flight} {o : Origin} {prices list dist via : List ℕ} {left targe
 
 module _ {f : Flight} {o : Origin} {prices list dist₀ dist via₀ via : List ℕ} {left target due last goal z : ℕ}
     (s : Offering f o prices list dist₀ dist via₀ via left target due last goal z) where
-  pub offering_place : (z < length list) × (z < period_row)
-  offering_place = omega (arith, s.upto, s.can.shape.row, s.can.shape.short)
-
   -- what stands at place z or behind it is as it was
   as_was : (y : ℕ) → z ≤ y → y ≤ left → (away dist (el list y) ≡ away dist₀ (el list y)) × (el via (el list y) ≡ el via₀ (el list y))
   as_was y a b = s.rest (el list y) (λ x c. list_apart s.can.shape x y (omega arith) b (omega arith))
@@ -201,7 +193,7 @@ module _ {f : Flight} {o : Origin} {prices list dist₀ dist via₀ via : List �
             offering_last e = record { listed = λ y l. up_to y (omega arith); others = λ j a. behind j (λ y b. a y (omega arith)) }
 
       -- a period before the target has its price in the row
-      pub offering_price : z < left → (1 ≤ at) × (at - 1 < length prices) × (at - 1 < period_row)
+      pub offering_price : z < left → (1 ≤ at) × (at - 1 < length prices)
       offering_price b =
           let less : at < target = rw at-is (list_before s.can.shape z b) in
           omega (arith, due_by_lem, s.can.from_due, s.can.prices_row, s.can.within)
@@ -215,33 +207,3 @@ module _ {f : Flight} {o : Origin} {prices list dist₀ dist via₀ via : List �
 
     pub target_free : 0 ≡ of_period prices target
     target_free = sym s.can.free
-
--- ---- first_from
-
--- the periods before place z are before `due`
-pub record Seeking (list : List ℕ) (left due z : ℕ) : Type 0 where
-  pub rows : (length list ≡ period_row) × (left < period_row)
-  pub to : z ≤ left
-  pub before : (y : ℕ) → y < z → el list y < due
-
-pub seeking_start : {list : List ℕ} {left due : ℕ} → (length list ≡ period_row) × (left < period_row) → Seeking list left due 0
-seeking_start c = record { rows = c; to = omega arith; before = λ y l. absurd (omega arith) }
-
-module _ {list : List ℕ} {left due z : ℕ} (s : Seeking list left due z) where
-  pub seeking_end : left ≤ z → FirstFrom list left due z
-  seeking_end l = record { to = s.to; before = s.before; there = λ b. absurd (omega arith) }
-
-  module _ (l : z < left) where
-    pub seeking_room : (z < length list) × (z < period_row)
-    seeking_room = omega (arith, s.rows)
-
-    module _ {at : ℕ} (at-is : at ≡ get_or list z 0) where
-      pub seeking_found : due ≤ at → FirstFrom list left due z
-      seeking_found b = record { to = s.to; before = s.before; there = λ _. omega (arith, at-is) }
-
-      pub seeking_next : at < due → Seeking list left due (z + 1)
-      seeking_next b = record {
-        rows = s.rows;
-        to = omega arith;
-        before = λ y c. elim (eq? y z) [ inl e ↦ rw e (omega (arith, at-is)) | inr e ↦ s.before y (omega arith) ];
-      }

@@ -5,13 +5,20 @@ use mathlib.Core.Logic.{inl, inr}
 use mathlib.Core.List.{List}
 use Prim.Native.Nat.{ℕ, ◌+◌, ◌≤◌, ◌<◌}
 use native.Mathlib.Omega.{arith}
-use lib.ListN.{get_or, length}
+use lib.ListN.{get_or, length, take}
+use lib.Seq.{get_or-take, length-take-le}
 use Rattle.assignment.specs.Rows.{el}
 use Rattle.assignment.proofs.Tests.{eq?}
 use Rattle.day.specs.Day.{period_row}
 use Rattle.path.specs.Path.{away, CanNear, NearestIn}
 use Rattle.path.proofs.Rows.{as_read}
 use Rattle.path.proofs.Listing.{list_to}
+
+-- what stands at an index of the part of the list before the target
+pub listed : {dist list : List ℕ} {left target level z : ℕ} → CanNear dist list left target level → z < length (take left list) → (get_or (take left list) z 0 ≡ el list z) × (z < left)
+listed {list = list} {left} {z = z} c l =
+    let b : z < left = omega (arith, length-take-le left list (omega (arith, c.shape.row, c.shape.short))) in
+    (get_or-take left list z 0 b, b)
 
 -- of the places before z, `at` has the nearest so far
 pub record Scan (dist list : List ℕ) (left target level best at z : ℕ) : Type 0 where
@@ -29,17 +36,6 @@ module _ {dist list : List ℕ} {left target level : ℕ} (c : CanNear dist list
 
   goal : get_or dist target 0 ≡ away dist (el list left)
   goal = rw c.shape.ends (as_read dist target scan_room)
-
-  pub scan_start : Scan dist list left target level (get_or dist target 0) left 0
-  scan_start = record {
-    can = c;
-    to = omega arith;
-    upper = omega arith;
-    is = goal;
-    most = omega (arith, goal);
-    nearer = λ l. absurd (omega arith);
-    least = λ y b. absurd (omega arith);
-  }
 
 module _ {dist list : List ℕ} {left target level best at z : ℕ} (s : Scan dist list left target level best at z) where
   module _ (l : z < left) where
@@ -81,10 +77,3 @@ module _ {dist list : List ℕ} {left target level best at z : ℕ} (s : Scan di
       nearer = λ _. omega (arith, same, s.most);
       least = λ y b. omega (arith, same, s.can.low y b);
     }
-
-  pub scan_end : left ≤ z → NearestIn dist list left at
-  scan_end l = record {
-    to = s.to;
-    nearer = λ b. omega (arith, s.is, s.nearer b);
-    least = λ y b. elim (eq? y left) [ inl e ↦ rw e (omega (arith, s.is, s.most)) | inr e ↦ omega (arith, s.is, s.least y (omega arith)) ];
-  }

@@ -6,7 +6,7 @@ ghost use Rattle.assignment.specs.Rows.{el};
 ghost use Rattle.day.specs.Day.{lent, unlimited, period_row};
 ghost use Rattle.path.specs.Path.{away, CanList, Filled, Removed, CanNear, NearestIn, CanLevel, Levelled, NextLevel, Nearer, FirstFrom, CanOffer, Offers, CanExpandSome, ExpandedAll, CanSearchSome, SearchedAll};
 
-use day::{FLIGHTS, Flight, PERIOD_ROW, flight_at, hold_cost, latest_of, of_period, wide};
+use day::{FLIGHTS, Flight, PERIOD_ROW, flight_at, hold_cost, latest_of, of_period};
 
 // A distance that no chain of moves has.
 pub const FAR: usize = 4611686018427387904;
@@ -22,25 +22,15 @@ struct Origin {
     base: usize,
 }
 
-// A period of the list or of the queue, which fits a byte.
-fn period(x: u8) -> usize
-    ensures { result ≡ x }
-{
-    x as usize
-}
-
 // Lists the open periods from first on, rising, and behind them the target; the target's place.
 fn list_periods(capacities: &[u32], list: &mut [u8], first: usize, target: usize) -> usize
     requires { CanList list.old first target }
     ensures { Filled capacities.now list.new first target result }
 {
     let mut left = 0;
-    let mut k = first;
-    while k < target {
-        let here = k;
-        k += 1;
-        if 0 < of_period(capacities, here) {
-            list[left] = here as u8;
+    for k in first..target {
+        if 0 < of_period(capacities, k) {
+            list[left] = k as u8;
             left += 1;
         }
     }
@@ -56,17 +46,14 @@ fn nearest(dist: &[usize], list: &[u8], left: usize, target: usize, level: usize
 {
     let mut best = dist[target];
     let mut at = left;
-    let mut z = 0;
-    while z < left {
-        let here = z;
-        z += 1;
-        let away = dist[period(list[here])];
+    for (z, k) in list[..left].iter().enumerate() {
+        let away = dist[*k as usize];
         if away < best {
             if away <= level {
-                return here;
+                return z;
             }
             best = away;
-            at = here;
+            at = z;
         }
     }
     at
@@ -77,11 +64,9 @@ fn take_out(list: &mut [u8], at: usize, left: usize)
     requires { (length list.old ≡ period_row) × (at < left) × (left < period_row) }
     ensures { Removed list.old list.new at left }
 {
-    let mut z = at;
-    while z < left {
-        let here = z;
-        z += 1;
-        list[here] = list[z];
+    // Kept: entry by entry, since with copy_within the full plan takes 3 % longer.
+    for z in at..left {
+        list[z] = list[z + 1];
     }
 }
 
@@ -99,14 +84,12 @@ fn take_level(
     requires { CanLevel dist.now list.old queue.old at left target queued }
     ensures { (result < left) × Levelled dist.now list.old list.new queue.old queue.new left result queued (away dist.now (el list.old at)) }
 {
-    let level = dist[period(list[at])];
+    let level = dist[list[at] as usize];
     let mut kept = at;
     let mut end = queued;
-    let mut z = at;
-    while z < left {
+    for z in at..left {
         let k = list[z];
-        z += 1;
-        if dist[period(k)] == level {
+        if dist[k as usize] == level {
             queue[end] = k;
             end += 1;
         } else {
@@ -138,7 +121,7 @@ fn take_nearest(
         return left;
     }
     let k = list[at];
-    if dist[period(k)] <= level {
+    if dist[k as usize] <= level {
         return take_level(dist, list, queue, at, left, target, queued);
     }
     queue[queued] = k;
@@ -162,14 +145,10 @@ fn first_from(list: &[u8], left: usize, due: usize) -> usize
     requires { (length list.now ≡ period_row) × (left < period_row) }
     ensures { FirstFrom list.now left due result }
 {
-    let mut z = 0;
-    while z < left {
-        if due <= period(list[z]) {
-            return z;
-        }
-        z += 1;
-    }
-    z
+    list[..left]
+        .iter()
+        .position(|k| due <= *k as usize)
+        .unwrap_or(left)
 }
 
 // A flight offers the periods of its window that stand in the list, up to the target, which stands last: from the distance of its origin to
@@ -188,13 +167,12 @@ fn offer(
     requires { CanOffer f o prices.now list.now dist.old via.old left target }
     ensures { Offers f o prices.now list.now dist.old dist.new via.old via.new left target }
 {
-    let due = wide(f.due);
+    let due = f.due as usize;
     let last = latest_of(target - 1, f);
     let goal = dist[target] + o.base;
-    let mut z = first_from(list, left, due);
-    while z < left {
-        let at = period(list[z]);
-        z += 1;
+    // Kept: by place, since over a slice of the list the full plan takes 7 % longer.
+    for z in first_from(list, left, due)..left {
+        let at = list[z] as usize;
         if last < at {
             return;
         }
@@ -202,7 +180,7 @@ fn offer(
         if goal <= reach {
             return;
         }
-        let price = wide(prices[at - 1]);
+        let price = prices[at - 1] as usize;
         bring_nearer(dist, via, at, reach + price - o.base, o.who);
     }
     if target <= last {
@@ -230,11 +208,12 @@ fn expand(
     let from = dist[k];
     let price = of_period(prices, k);
     let mut next = links[k];
+    // Kept: a while, since the chain is walked by its links and not by an index.
     while 0 < next {
         let who = next - 1;
         next = links[PERIOD_ROW + who];
-        let f = flight_at(flights, wide(places[who]));
-        let base = hold_cost(f, k - wide(f.due)) + price;
+        let f = flight_at(flights, places[who] as usize);
+        let base = hold_cost(f, k - f.due as usize) + price;
         let o = Origin { who, from, base };
         offer(f, o, prices, list, dist, via, left, target);
     }
@@ -259,8 +238,8 @@ pub fn find_path(
 {
     let mut list = [0u8; PERIOD_ROW];
     let mut queue = [0u8; PERIOD_ROW];
-    let f = flight_at(flights, wide(places[n]));
-    let all = list_periods(capacities, &mut list, wide(f.due), target);
+    let f = flight_at(flights, places[n] as usize);
+    let all = list_periods(capacities, &mut list, f.due as usize, target);
     let o = Origin {
         who: n,
         from: 0,
@@ -269,8 +248,9 @@ pub fn find_path(
     offer(f, o, prices, &list, dist, via, all, target);
     let mut left = take_nearest(dist, &mut list, &mut queue, all, target, 0, 0);
     let mut t = 0;
+    // Kept: a while, since the queue grows while it is read: no range has its end.
     while t < all - left {
-        let k = period(queue[t]);
+        let k = queue[t] as usize;
         t += 1;
         expand(
             flights, places, links, prices, &list, dist, via, left, target, k,

@@ -1,26 +1,31 @@
 -- What the steps of the code come to, a law for each way through a loop or a call.
 -- Assumes nothing.
+use Rattle.std.proofs.Common.{Ok, Err}
 use mathlib.Core.Path.{◌≡◌, refl, sym, ap, ◌∙◌}
+use mathlib.Core.Logic.{◌⊎◌, inl, inr}
 use mathlib.Core.Bool.{Bool, true, false}
 use mathlib.Core.List.{List}
 use Prim.Native.Nat.{ℕ, suc, ◌≤◌, ◌<◌, ◌+◌, ◌-◌, ◌*◌, ◌^◌, min}
 use native.Mathlib.Omega.{arith}
+use Rattle.std.specs.Prelude.{Option, Some, None}
 use lib.ListN.{length, take, length-take}
 use lib.Bits.{bit_or}
 use lib.Count.{ones}
 use borrow.Author.Tests.{lt-ltb, le-ltb, le-leb, lt-leb}
 use Rattle.assignment.specs.Sum.{gate}
 use Rattle.assignment.proofs.Sums.{sum_ext}
-use Rattle.answers.specs.declared.Answer.TheVariants.{Done, BadDay, JumpOrLimit, NoSuchPeriod}
+use Rattle.answers.specs.declared.Refusal.TheVariants.{BadDay, JumpOrLimit, NoSuchPeriod}
 use Rattle.day.specs.Day.{Day, P, N, width, valid, most_periods, most_flights}
 use Rattle.day.specs.Plan.{first_jump_or_limit}
 use Rattle.day.proofs.Valid.{valid_means}
 use Rattle.quick_plan.specs.Quick.{eligible, rates}
+use Rattle.quick_plan.specs.Calls.{place_if}
 use Rattle.quick_plan.specs.Loop.{without_line, waiting, row_to}
 use Rattle.day.proofs.Flights.{there}
+use Rattle.quick_plan.proofs.Places.{some_place, no_place}
 use Rattle.quick_plan.proofs.Rows.{row_eligible, row_to_length}
 use Rattle.quick_plan.proofs.Same.{eligible_any}
-use Rattle.period_card.specs.PeriodCard.{word, marks, size, card, refused, period_card}
+use Rattle.period_card.specs.PeriodCard.{word, marks, size, card, period_card}
 use Rattle.period_card.specs.declared.Marks.{Marks}
 use Rattle.period_card.specs.declared.Card.{Card}
 use Rattle.period_card.proofs.Words.{lo_on, hi_on, lo_past, hi_before, lo_off, hi_off, size_of, marks_ext}
@@ -80,13 +85,13 @@ module _ {d : Day} {h : List ℕ} {j i low high : ℕ} (s : Marked d h j i low h
 
 -- ---- the card
 
-pub part_length : (row : List ℕ) (n : ℕ) → n ≤ length row → length (take (n - 0) row) ≡ n
+pub part_length : (row : List ℕ) (n : ℕ) → n ≤ length row → length (take n row) ≡ n
 part_length row n l = simp length-take (omega arith)
 
 -- who waits after the periods before j is who is eligible in j
 pub card_is : (d : Day) {h : List ℕ} {j : ℕ} {s : Marks} → valid d ≡ true → 1 ≤ j → j ≤ P d → h ≡ row_to d (rates d) (j - 1)
     → s ≡ marks (waiting d h j) (length h)
-    → ◌≡◌ {A = Card} (record { answer = Done; low = s.low; high = s.high; size = ones s.low + ones s.high }) (card d j)
+    → ◌≡◌ {A = Card} (record { low = s.low; high = s.high; size = ones s.low + ones s.high }) (card d j)
 unfolding card
 card_is d {h = h} {j = j} v a b eh es =
     rw (es, eh, row_to_length d (rates d) v (j - 1) (omega arith), marks_ext (waiting d (row_to d (rates d) (j - 1)) j) (eligible d (rates d) j) (N d) who, size_of (eligible d (rates d) j) (N d))
@@ -113,24 +118,24 @@ pub few_flights : (d : Day) {n : ℕ} → valid d ≡ true → n ≡ N d → n �
 few_flights d v size = omega (arith, (valid_means v).flights_to)
 
 module _ (d : Day) (j : ℕ) where
-  pub bad_day : valid d ≡ false → period_card d j ≡ refused BadDay
+  pub bad_day : valid d ≡ false → period_card d j ≡ Err BadDay
   unfolding period_card
   bad_day e = rw e
 
-  module _ (v : valid d ≡ true) {n place : ℕ} (size : n ≡ N d) (e : place ≡ first_jump_or_limit d.flights) where
-    pub jump_or_limit_lem : place < n → period_card d j ≡ refused (JumpOrLimit place)
+  module _ (v : valid d ≡ true) {found : Option ℕ} (e : found ≡ place_if (N d) (first_jump_or_limit d.flights)) where
+    pub jump_or_limit_lem : {place : ℕ} → found ≡ Some place → period_card d j ≡ Err (JumpOrLimit place)
     unfolding period_card
-    jump_or_limit_lem l = rw (v, e, lt-ltb (first_jump_or_limit d.flights) (N d) (omega arith))
+    jump_or_limit_lem q = let w = some_place (sym e ∙ q) in rw (v, w.0, lt-ltb (first_jump_or_limit d.flights) (N d) w.1)
 
-    module _ (g : n ≤ place) where
-      pub no_period_0 : j ≡ 0 → period_card d j ≡ refused (NoSuchPeriod (P d))
-      unfolding period_card
-      no_period_0 q = rw (v, le-ltb (first_jump_or_limit d.flights) (N d) (omega arith), q)
+    module _ (none : found ≡ None) where
+      g : N d ≤ first_jump_or_limit d.flights
+      g = no_place (sym e ∙ none)
 
-      pub no_period_above : P d < j → period_card d j ≡ refused (NoSuchPeriod (P d))
+      pub no_period : (j ≡ 0) ⊎ (P d < j) → period_card d j ≡ Err (NoSuchPeriod (P d))
       unfolding period_card
-      no_period_above l = rw (v, le-ltb (first_jump_or_limit d.flights) (N d) (omega arith), le-leb 1 j (omega arith), lt-leb j (P d) l)
+      no_period (inl q) = rw (v, le-ltb (first_jump_or_limit d.flights) (N d) g, q)
+      no_period (inr l) = rw (v, le-ltb (first_jump_or_limit d.flights) (N d) g, le-leb 1 j (omega arith), lt-leb j (P d) l)
 
-      pub is_card : 1 ≤ j → j ≤ P d → period_card d j ≡ card d j
+      pub is_card : 1 ≤ j → j ≤ P d → period_card d j ≡ Ok (card d j)
       unfolding period_card
-      is_card a b = rw (v, le-ltb (first_jump_or_limit d.flights) (N d) (omega arith), le-leb 1 j a, le-leb j (P d) b)
+      is_card a b = rw (v, le-ltb (first_jump_or_limit d.flights) (N d) g, le-leb 1 j a, le-leb j (P d) b)

@@ -13,17 +13,17 @@ use lib.Dec.{lit<}
 use Rattle.answers.proofs.Decides.{true_false}
 use Rattle.text.specs.Digits.{ended}
 use Rattle.text.specs.Fixed.{starts_with}
-use Rattle.text.specs.Reading.{field}
+use Rattle.text.specs.declared.Number.{Number}
+use Rattle.text.specs.Reading.{some_number, field}
 use Rattle.text.specs.Standing.{Stands}
-use Rattle.text.specs.declared.Number.TheVariants.{Value, Bad}
 use Rattle.text.proofs.Fixed.{starts_with_lem, starts_is}
 use Rattle.text.proofs.Reading.{within, stand, join, parted, field_read, field_write, end_no_digit}
 use Rattle.day.specs.Day.{flight_count, total_of}
 use Rattle.plan_text.specs.PlanText.{plan_names, total_name, plan_line, plan_text}
 use Rattle.plan_text.proofs.Placing.{line_is, no_lines, length_total_name}
 use Rattle.plan_reader.specs.PlanReading.{LineEnds, WholeLines}
-use Rattle.plan_reader.specs.Loop.{front_lines, Diverges, CanEnd, EndRead}
-use Rattle.plan_reader.specs.declared.End.TheVariants.{Whole, Wrong}
+use Rattle.plan_reader.specs.Loop.{wrong_at, front_lines, Diverges, CanEnd, EndRead}
+use Rattle.std.specs.Prelude.{Ok, Some, None, Option}
 use Rattle.plan_reader.proofs.Ends.{OneLine, names_line, total_name_line, number_line, values_line, same_front, line_ends, line_more}
 use Rattle.plan_reader.proofs.Fronts.{front_next, text_end}
 
@@ -81,6 +81,10 @@ goes_past t s at w ends more = record {
 
 -- ---- the total's lines
 
+abbrev number_in : Option Number → ℕ
+number_in (Some p) = p.n
+number_in None = 0
+
 module _ {f s h : List ℕ} {at : ℕ} (c : CanEnd f s h at) where
   abbrev n : ℕ
   n = flight_count f
@@ -98,7 +102,7 @@ module _ {f s h : List ℕ} {at : ℕ} (c : CanEnd f s h at) where
   pub end_inside : at ≤ length s
   end_inside = front_inside c.stands
 
-  pub end_no_name : starts_with (drop at s) total_name ≡ false → EndRead f s h (Wrong at)
+  pub end_no_name : starts_with (drop at s) total_name ≡ false → EndRead f s h (wrong_at at)
   end_no_name e = (
     goes_wrong (plan_text f h) s (front_lines f h n) total_name (ended 10 (total_of f h)) at by_name total_name_line c.stands (inr (front_ends f h n c.stands))
         (λ next w. let q = starts_with_lem total_name (drop next s) in let y : starts_with (drop at s) total_name ≡ true = rw w.text q in true_false (sym y ∙ e)),
@@ -116,22 +120,22 @@ module _ {f s h : List ℕ} {at : ℕ} (c : CanEnd f s h at) where
     pub number_inside : at + 6 ≤ length s
     number_inside = front_inside front
 
-    wrong_number : ((next : ℕ) → Stands (ended 10 (total_of f h)) s (at + 6) next → ⊥) → EndRead f s h (Wrong (at + 6))
+    wrong_number : ((next : ℕ) → Stands (ended 10 (total_of f h)) s (at + 6) next → ⊥) → EndRead f s h (wrong_at (at + 6))
     wrong_number other = (
       goes_wrong (plan_text f h) s (front_lines f h n ++ total_name) (ended 10 (total_of f h)) [] (at + 6) by_number (number_line (total_of f h)) front
           (inr (line_ends total_name_line name_stands end_inside)) other,
       omega (arith, here),
     )
 
-    total_read : (next : ℕ) → Stands (ended 10 (total_of f h)) s (at + 6) next → field 9 10 s (at + 6) ≡ Value (total_of f h) next
+    total_read : (next : ℕ) → Stands (ended 10 (total_of f h)) s (at + 6) next → field 9 10 s (at + 6) ≡ some_number (total_of f h) next
     total_read next w = field_write end_no_digit (record { short = c.short; stands = w })
 
-    pub end_no_number : field 9 10 s (at + 6) ≡ Bad → EndRead f s h (Wrong (at + 6))
+    pub end_no_number : field 9 10 s (at + 6) ≡ None → EndRead f s h (wrong_at (at + 6))
     end_no_number e = wrong_number (λ next w. let q = sym e ∙ total_read next w in let z : ◌≡◌ {A = ℕ} 0 1 = cc in omega (arith, z))
 
-    module _ {v next : ℕ} (e : field 9 10 s (at + 6) ≡ Value v next) where
-      pub end_other : {t : ℕ} → t ≡ total_of f h → (v ≡ t → ⊥) → EndRead f s h (Wrong (at + 6))
-      end_other is differ = wrong_number (λ x w. let q : Value v next ≡ Value (total_of f h) x = sym e ∙ total_read x w in let y : v ≡ total_of f h = cc in differ (y ∙ sym is))
+    module _ {v next : ℕ} (e : field 9 10 s (at + 6) ≡ some_number v next) where
+      pub end_other : {t : ℕ} → t ≡ total_of f h → (v ≡ t → ⊥) → EndRead f s h (wrong_at (at + 6))
+      end_other is differ = wrong_number (λ x w. let q : some_number v next ≡ some_number (total_of f h) x = sym e ∙ total_read x w in differ (ap number_in q ∙ sym is))
 
       module _ {t : ℕ} (is : t ≡ total_of f h) (same : v ≡ t) where
         all : Stands (plan_text f h) s 0 next
@@ -141,13 +145,13 @@ module _ {f s h : List ℕ} {at : ℕ} (c : CanEnd f s h at) where
             let p = join front (rw y at w) in
             rw (← (rw append-nil at by_number)) at p
 
-        pub end_past : (next ≡ length s → ⊥) → EndRead f s h (Wrong next)
+        pub end_past : (next ≡ length s → ⊥) → EndRead f s h (wrong_at next)
         end_past more = (
           goes_past (plan_text f h) s next all (line_ends (number_line v) (field_read (lit< tt) e).stands number_inside) more,
           omega (arith, here, (field_read (lit< tt) e).stands.place),
         )
 
-        pub end_whole : next ≡ length s → EndRead f s h (Whole t)
+        pub end_whole : next ≡ length s → EndRead f s h (Ok t)
         end_whole stop = (
           all.text ∙ rw (drop_of_length-le s {i = next} (omega arith), append-nil),
           is,

@@ -1,6 +1,7 @@
 -- What the contract of reading a plan text comes to: which line is named, that answer and row follow from the day and the text, which texts
 -- are accepted, and that text to holds and holds to text undo each other.
 -- Assumes nothing.
+use Rattle.std.proofs.Common.{Result, Ok, Err}
 use mathlib.Core.Path.{◌≡◌, refl, sym, ap, ◌∙◌}
 use mathlib.Core.Logic.{inl, inr, ◌↔◌}
 use mathlib.Core.Bool.{Bool, true, false, cond}
@@ -12,8 +13,8 @@ use lib.Seq.{take-take, take-length}
 use lib.Dec.{eqb}
 use borrow.Author.Tests.{eq-eqb}
 use Rattle.assignment.proofs.Tests.{lt?}
-use Rattle.answers.specs.declared.Answer.{Answer}
-use Rattle.answers.specs.declared.Answer.TheVariants.{Planned, BadDay, BadLength, BadPlanText}
+use Rattle.answers.specs.declared.Refusal.{Refusal}
+use Rattle.answers.specs.declared.Refusal.TheVariants.{BadDay, BadLength, BadPlanText}
 use Rattle.text.specs.Fixed.{starts_with}
 use Rattle.text.specs.Writing.{text_answer, text_after}
 use Rattle.text.proofs.Fixed.{starts_with_lem}
@@ -77,25 +78,25 @@ not_ended whole before none = record { whole = whole; before = before; beyond = 
 
 -- ---- one answer and one row
 
-planned_not_refused : {t k : ℕ} → Planned t ≡ BadPlanText k → ⊥
+planned_not_refused : {t k : ℕ} → ◌≡◌ {A = Result ℕ Refusal} (Ok t) (Err (BadPlanText k)) → ⊥
 planned_not_refused e = let z : ◌≡◌ {A = ℕ} 0 1 = cc in omega (arith, z)
 
-same_reading : {d : Day} {text : List ℕ} {a b : Answer} {h₀ g h : List ℕ} → TextRead d text a h₀ g → TextRead d text b h₀ h → (a ≡ b) × (g ≡ h)
+same_reading : {d : Day} {text : List ℕ} {a b : Result ℕ Refusal} {h₀ g h : List ℕ} → TextRead d text a h₀ g → TextRead d text b h₀ h → (a ≡ b) × (g ≡ h)
 same_reading {d} {text} {a} {b} {h₀} {g} {h} (accepted x) (accepted y) =
     let e : g ≡ h = one_text d g h x.legal y.legal (sym x.text_is ∙ y.text_is) in
-    (x.total_is ∙ (ap (λ (k : List ℕ). Planned (total d k)) e ∙ sym y.total_is), e)
+    (x.total_is ∙ (ap (λ (k : List ℕ). Ok (total d k)) e ∙ sym y.total_is), e)
 same_reading (accepted x) (refused y) = absurd (y.other _ x.legal x.text_is)
 same_reading (refused x) (accepted y) = absurd (x.other _ y.legal y.text_is)
 same_reading (refused x) (refused y) =
-    (x.line_is ∙ (ap BadPlanText (one_line x.first_wrong y.first_wrong) ∙ sym y.line_is), x.same_holds ∙ sym y.same_holds)
+    (x.line_is ∙ (ap (λ (k : ℕ). Err (BadPlanText k)) (one_line x.first_wrong y.first_wrong) ∙ sym y.line_is), x.same_holds ∙ sym y.same_holds)
 
 -- the answer and the row after the call follow from the day, the text and the row before it
-pub one_outcome : (d : Day) (text h₀ : List ℕ) (a b : Answer) (g h : List ℕ) → ReadPlan d text a h₀ g → ReadPlan d text b h₀ h → (a ≡ b) × (g ≡ h)
+pub one_outcome : (d : Day) (text h₀ : List ℕ) (a b : Result ℕ Refusal) (g h : List ℕ) → ReadPlan d text a h₀ g → ReadPlan d text b h₀ h → (a ≡ b) × (g ≡ h)
 unfolding ReadPlan
 one_outcome d text h₀ a b g h = go (valid d) (eqb (length h₀) (N d))
   where
-    kept : (refusal answer : Answer) (row : List ℕ) → Type 0
-    kept refusal answer row = (answer ≡ refusal) × (row ≡ h₀)
+    kept : (refusal : Refusal) (answer : Result ℕ Refusal) (row : List ℕ) → Type 0
+    kept refusal answer row = (answer ≡ Err refusal) × (row ≡ h₀)
 
     go : (good each : Bool) → cond good (cond each (TextRead d text a h₀ g) (kept (BadLength (N d)) a g)) (kept BadDay a g)
         → cond good (cond each (TextRead d text b h₀ h) (kept (BadLength (N d)) b h)) (kept BadDay b h) → (a ≡ b) × (g ≡ h)
@@ -111,11 +112,11 @@ pub record IsPlanText (d : Day) (text : List ℕ) : Type 0 where
   pub legal : Legal d plan
   pub text_is : text ≡ plan_text d.flights plan
 
-pub record IsAccepted (answer : Answer) : Type 0 where
+pub record IsAccepted (answer : Result ℕ Refusal) : Type 0 where
   pub total : ℕ
-  pub is : answer ≡ Planned total
+  pub is : answer ≡ Ok total
 
-module _ (d : Day) (text : List ℕ) (a : Answer) (h₀ h : List ℕ) (good : valid d ≡ true) (each : length h₀ ≡ N d) (call : ReadPlan d text a h₀ h) where
+module _ (d : Day) (text : List ℕ) (a : Result ℕ Refusal) (h₀ h : List ℕ) (good : valid d ≡ true) (each : length h₀ ≡ N d) (call : ReadPlan d text a h₀ h) where
   read : TextRead d text a h₀ h
   unfolding ReadPlan
   read = rw (good, eq-eqb (length h₀) (N d) each) at call
@@ -147,11 +148,11 @@ module _ (d : Day) (text : List ℕ) (a : Answer) (h₀ h : List ℕ) (good : va
       go (refused x) = absurd (planned_not_refused (sym i.is ∙ x.line_is))
 
   -- the text that the writer makes of a legal plan is read as that plan, with its total
-  pub written_then_read : (plan : List ℕ) → Legal d plan → text ≡ plan_text d.flights plan → (a ≡ Planned (total d plan)) × (h ≡ plan)
+  pub written_then_read : (plan : List ℕ) → Legal d plan → text ≡ plan_text d.flights plan → (a ≡ Ok (total d plan)) × (h ≡ plan)
   written_then_read plan legal e = go read
     where
-      go : TextRead d text a h₀ h → (a ≡ Planned (total d plan)) × (h ≡ plan)
+      go : TextRead d text a h₀ h → (a ≡ Ok (total d plan)) × (h ≡ plan)
       go (accepted x) =
           let q : h ≡ plan = one_text d h plan x.legal legal (sym x.text_is ∙ e) in
-          (x.total_is ∙ ap (λ (k : List ℕ). Planned (total d k)) q, q)
+          (x.total_is ∙ ap (λ (k : List ℕ). Ok (total d k)) q, q)
       go (refused x) = absurd (x.other plan legal e)

@@ -1,7 +1,7 @@
 -- The reader's laws: how the flights' lines are read one after another, where no legal plan's text goes on, and which line is then the
 -- first wrong one.
 -- Assumes nothing.
-use Prim.Native.Nat.{ℕ, ◌≤◌, ◌<◌, ◌+◌, ◌-◌, ◌*◌}
+use Prim.Native.Nat.{ℕ, ◌≤◌, ◌<◌, ◌+◌, ◌*◌}
 use native.Mathlib.Omega.{arith}
 use mathlib.Core.Path.{◌≡◌, refl, sym, ap, ◌∙◌}
 use mathlib.Core.Logic.{inl, inr}
@@ -15,7 +15,6 @@ use Rattle.answers.proofs.Decides.{true_false}
 use Rattle.text.specs.Digits.{ended}
 use Rattle.text.specs.Fixed.{starts_with}
 use Rattle.text.specs.Standing.{Stands}
-use Rattle.text.specs.declared.Number.TheVariants.{Value, Bad}
 use Rattle.text.proofs.Digits.{count_le}
 use Rattle.text.proofs.Fixed.{starts_with_lem}
 use Rattle.text.proofs.Reading.{stand, join, parted}
@@ -28,16 +27,15 @@ use Rattle.legality.proofs.Laws.{can_sum}
 use Rattle.plan_text.specs.PlanText.{plan_names, total_name, plan_line, plan_lines, plan_text}
 use Rattle.plan_text.proofs.OneText.{same_line}
 use Rattle.plan_text.proofs.Placing.{line_is, no_lines, length_plan_names}
-use Rattle.completion.specs.declared.Most.{Most}
-use Rattle.completion.specs.declared.Most.TheVariants.{Flights, NoPlan}
 use Rattle.completion.specs.Rest.{Completed}
 use Rattle.completion.specs.Loop.{Partial, Landed, MostCompleted}
 use Rattle.completion.proofs.Completion.{left_length, breaks_same, legal_unbroken, partial_set, partial_legal}
 use Rattle.plan_reader.specs.PlanReading.{LineEnds, PlanBegins, FirstWrongLine}
-use Rattle.plan_reader.specs.Loop.{HoldRead, front_lines, Read, NoneBeyond, LinesRead, BehindMost, place_behind, CanEnd, Diverges, EndRead, RowsRead}
+use Rattle.text.specs.Reading.{some_number}
+use Rattle.plan_reader.specs.declared.WrongLine.{WrongLine}
+use Rattle.plan_reader.specs.Loop.{wrong_at, HoldRead, front_lines, Read, NoneBeyond, LinesRead, BehindMost, place_behind, CanEnd, Diverges, EndRead, RowsRead}
 use Rattle.plan_reader.specs.declared.Front.{Front}
-use Rattle.plan_reader.specs.declared.End.{End}
-use Rattle.plan_reader.specs.declared.End.TheVariants.{Whole, Wrong}
+use Rattle.std.specs.Prelude.{Ok, Err, Some, None, Option, Result}
 use Rattle.plan_reader.proofs.Ends.{names_line, number_line, line_pos, line_ends, same_front, line_more}
 use Rattle.plan_reader.proofs.Fronts.{front_same, front_next, front_part, behind, text_line, text_names, text_end, front_begins, shown}
 use Rattle.plan_reader.proofs.Holds.{legal_short}
@@ -73,11 +71,11 @@ module _ {d : Day} {s h left : List ℕ} {i at : ℕ} (r : Read d s h left i at)
     read_place = omega (arith, v.whole)
 
     -- where no line of the flight stands, no plan goes on
-    pub no_line : HoldRead d.flights s at i Bad → NoneBeyond d s at
+    pub no_line : HoldRead d.flights s at i None → NoneBeyond d s at
     no_line bad next beyond ends b =
         bad (hold b.plan i) _ (legal_short v b.legal i less) (rw (line_is d.flights b.plan i) at (goes_on less next beyond ends b))
 
-    module _ {next : ℕ} (line : HoldRead d.flights s at i (Value (hold h i) next)) where
+    module _ {next : ℕ} (line : HoldRead d.flights s at i (some_number (hold h i) next)) where
       here : Stands (plan_line d.flights h i) s at next
       here = rw (line_is d.flights h i) line
 
@@ -102,12 +100,12 @@ module _ {d : Day} {s h left : List ℕ} {i at : ℕ} (r : Read d s h left i at)
 
 module _ {d : Day} {s h left : List ℕ} {i at : ℕ} (r : Read d s h left i at) (less : i < N d) where
   -- the line stops the reading
-  pub stops_at_line : HoldRead d.flights s at i Bad → LinesRead d s h left (record { flights = i; at = at })
+  pub stops_at_line : HoldRead d.flights s at i None → LinesRead d s h left (record { flights = i; at = at })
   stops_at_line bad = record { read = r; stopped = λ l. no_line r l bad }
 
   -- or its hold is put into the row
-  module _ (x next : ℕ) (line : HoldRead d.flights s at i (Value x next)) where
-    stored : HoldRead d.flights s at i (Value (hold (set h i x) i) next)
+  module _ (x next : ℕ) (line : HoldRead d.flights s at i (some_number x next)) where
+    stored : HoldRead d.flights s at i (some_number (hold (set h i x) i) next)
     stored = rw (get_or-set_same h i x 0 (omega (arith, r.partial.each))) line
 
     pub stops_at_landing : {left₂ : List ℕ} → Landed d (set h i x) left₂ i false → LinesRead d s (set h i x) left₂ (record { flights = i; at = at })
@@ -141,7 +139,7 @@ module _ (d : Day) {s : List ℕ} (other : starts_with s plan_names ≡ false) w
       goes_wrong _ s [] plan_names (behind d.flights g 0) 0 (text_names d.flights g) names_line (record { text = refl; place = refl }) (inl refl)
       (λ next w. let y : starts_with s plan_names ≡ true = rw w.text (starts_with_lem plan_names (drop next s)) in true_false (sym y ∙ other))
 
-  pub no_names : (h : List ℕ) → RowsRead d s h (Wrong 0)
+  pub no_names : (h : List ℕ) → RowsRead d s h (wrong_at 0)
   no_names h = (
     record { whole = inl refl; before = λ l. absurd (omega arith); beyond = λ next l ends b. (wrong_names b.plan).beyond next l ends b.begins },
     λ g legal e. (wrong_names g).other e,
@@ -220,32 +218,31 @@ module _ {d : Day} {s h left : List ℕ} {i at : ℕ} (r : Read d s h left i at)
             let long = ap length (e ∙ text_line f g i less) ∙ length-append (front_lines f g i) (plan_line f g i ++ behind f g (i + 1)) in
             omega (arith, long, length-append (plan_line f g i) (behind f g (i + 1)), line_pos (plan_line_lem f g i), r.stands.place, ap length same)
 
-    pub rows_stopped : {x : ℕ} → BehindMost d h i x → RowsRead d s h (Wrong x)
+    pub rows_stopped : {x : ℕ} → BehindMost d h i x → RowsRead d s h (wrong_at x)
     rows_stopped {x} b = (go b.most b.is_most b.place, not_plan)
       where
-        go : (most : Most) → MostCompleted d h i most → x ≡ place_behind f h most → FirstWrongLine d s x
-        go (Flights m) is e = rw e (behind_most m is.0 is.1.0 is.1.1)
-        go NoPlan is e = rw e (record {
+        go : (most : Option ℕ) → MostCompleted d h i most → x ≡ place_behind f h most → FirstWrongLine d s x
+        go (Some m) is e = rw e (behind_most m is.0 is.1.0 is.1.1)
+        go None is e = rw e (record {
           whole = inl refl;
           before = λ pos. absurd (omega arith);
           beyond = λ next far ends p. is (record { plan = p.plan; legal = p.legal; same = λ j l. absurd (omega arith) });
         })
 
 module _ {d : Day} {h left : List ℕ} {i : ℕ} (p : Partial d h left i) where
-  pub most_none : MostCompleted d h i NoPlan → BehindMost d h i 0
-  most_none is = record { most = NoPlan; is_most = is; place = refl }
+  pub most_none : MostCompleted d h i None → BehindMost d h i 0
+  most_none is = record { most = None; is_most = is; place = refl }
 
-  pub most_some : {m x : ℕ} → MostCompleted d h i (Flights m) → x ≡ length (front_lines d.flights h m) → BehindMost d h i x
-  most_some {m} is e = record { most = Flights m; is_most = is; place = e }
+  pub most_some : {m x : ℕ} → MostCompleted d h i (Some m) → x ≡ length (front_lines d.flights h m) → BehindMost d h i x
+  most_some {m} is e = record { most = Some m; is_most = is; place = e }
 
 -- the place behind the lines of m flights, by the holds of these alone
-pub place_is : (f h : List ℕ) (m : ℕ) {x : ℕ} → m ≤ length h → x ≡ length (plan_lines f (take (m - 0) h) (length (take (m - 0) h)) 0)
+pub place_is : (f h : List ℕ) (m : ℕ) {x : ℕ} → m ≤ length h → x ≡ length (plan_lines f (take m h) (length (take m h)) 0)
     → 27 + x ≡ length (front_lines f h m)
 place_is f h m inside e =
-    let z : m - 0 ≡ m = omega arith in
     let long : length (take m h) ≡ m = length-take-le m h inside in
     let same = front_same f (take m h) h m (λ j l. get_or-take m h j 0 l) in
-    let y = rw (z, long) at e in
+    let y = rw long at e in
     omega (arith, y, ap length same, length-append plan_names (plan_lines f (take m h) m 0), length_plan_names)
 
 -- what the rows of a plan begun are
@@ -273,9 +270,9 @@ module _ {d : Day} {s h left : List ℕ} {at : ℕ} (r : Read d s h left (N d) a
       let holds = shown d.flights h g s (N d) at next (omega arith) r.stands same upto in
       ext_get_or 0 h g (r.partial.each ∙ sym legal.each) (λ k l. holds k (omega (arith, r.partial.each)))
 
-  pub rows_ended : (e : End) → EndRead d.flights s h e → RowsRead d s h e
-  rows_ended (Whole t) (is, sum) = (legal_row, (is, sum))
-  rows_ended (Wrong x) (wrong, past) = (
+  pub rows_ended : (e : Result ℕ WrongLine) → EndRead d.flights s h e → RowsRead d s h e
+  rows_ended (Ok t) (is, sum) = (legal_row, (is, sum))
+  rows_ended (Err x) (wrong, past) = (
     record {
       whole = wrong.whole;
       before = λ pos. record { plan = h; legal = legal_row; begins = wrong.before };
@@ -289,7 +286,7 @@ module _ {d : Day} {s h left : List ℕ} {at : ℕ} (r : Read d s h left (N d) a
 -- ---- the whole text
 
 module _ {d : Day} {s h left : List ℕ} {front : Front} (l : LinesRead d s h left front) {n : ℕ} (is : n ≡ N d) where
-  pub lines_stopped : front.flights < n → {x : ℕ} → BehindMost d h front.flights x → RowsRead d s h (Wrong x)
+  pub lines_stopped : front.flights < n → {x : ℕ} → BehindMost d h front.flights x → RowsRead d s h (wrong_at x)
   lines_stopped less b = rows_stopped l.read (l.stopped (omega arith)) (omega arith) b
 
   pub lines_all : n ≤ front.flights → Read d s h left (N d) front.at

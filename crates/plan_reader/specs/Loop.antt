@@ -1,8 +1,7 @@
 -- What the reader knows from line to line. Only inner contracts cite it.
 -- Assumes nothing.
-use Rattle.std.specs.Prelude.{◌≡◌, true, List, [], ◌∷◌, ◌++◌, ℕ, ◌+◌, ◌≤◌, ◌<◌, length, get_or, take}
+use Rattle.std.specs.Prelude.{◌≡◌, true, List, [], ◌∷◌, ◌++◌, ℕ, ◌+◌, ◌≤◌, ◌<◌, length, get_or, take, Option, Some, None, Result, Ok, Err}
 use Rattle.text.specs.declared.Number.{Number}
-use Rattle.text.specs.declared.Number.TheVariants.{Value, Bad}
 use Rattle.text.specs.Digits.{digits, line}
 use Rattle.text.specs.Fixed.{starts_with}
 use Rattle.text.specs.Standing.{AllShort, Stands}
@@ -10,13 +9,10 @@ use Rattle.day.specs.Day.{Day, N, most_periods, most_flights, number_of, due_of,
 use Rattle.day.specs.Plan.{Legal}
 use Rattle.legality.specs.Loop.{CanSum}
 use Rattle.plan_text.specs.PlanText.{plan_names, plan_lines, plan_text}
-use Rattle.completion.specs.declared.Most.{Most}
-use Rattle.completion.specs.declared.Most.TheVariants.{Flights, NoPlan}
 use Rattle.completion.specs.Loop.{Partial, MostCompleted}
 use Rattle.plan_reader.specs.PlanReading.{LineEnds, WholeLines, PlanBegins, FirstWrongLine}
 use Rattle.plan_reader.specs.declared.Front.{Front}
-use Rattle.plan_reader.specs.declared.End.{End}
-use Rattle.plan_reader.specs.declared.End.TheVariants.{Whole, Wrong}
+use Rattle.plan_reader.specs.declared.WrongLine.{WrongLine}
 
 -- ---- a flight's line
 
@@ -45,9 +41,9 @@ pub record ShortLine (flights : List ℕ) (i h : ℕ) : Type 0 where
   pub cost : length (digits (line_cost flights i h)) ≤ line_digits
 
 -- at `at` stands the line of the flight at table place i with this hold, or the line of no hold that has a short line
-abbrev pub HoldRead : (flights text : List ℕ) → ℕ → ℕ → Number → Type 0
-HoldRead flights text at i (Value h next) = Stands (line (line_values flights i h) (line_cost flights i h)) text at next
-HoldRead flights text at i Bad =
+abbrev pub HoldRead : (flights text : List ℕ) → ℕ → ℕ → Option Number → Type 0
+HoldRead flights text at i (Some p) = Stands (line (line_values flights i p.n) (line_cost flights i p.n)) text at p.next
+HoldRead flights text at i None =
     (h next : ℕ) → ShortLine flights i h → Stands (line (line_values flights i h) (line_cost flights i h)) text at next → ⊥
 
 -- ---- the flights' lines
@@ -73,12 +69,12 @@ pub record LinesRead (d : Day) (text holds left : List ℕ) (front : Front) : Ty
 -- ---- where a text goes wrong
 
 -- the place behind the lines of the flights that keep their holds in some legal plan; 0 where there is no plan
-abbrev pub place_behind : (flights holds : List ℕ) → Most → ℕ
-place_behind flights holds (Flights m) = length (front_lines flights holds m)
-place_behind flights holds NoPlan = 0
+abbrev pub place_behind : (flights holds : List ℕ) → Option ℕ → ℕ
+place_behind flights holds (Some m) = length (front_lines flights holds m)
+place_behind flights holds None = 0
 
 pub record BehindMost (d : Day) (holds : List ℕ) (i at : ℕ) : Type 0 where
-  pub most : Most
+  pub most : Option ℕ
   pub is_most : MostCompleted d holds i most
   pub place : at ≡ place_behind d.flights holds most
 
@@ -98,15 +94,20 @@ pub record Diverges (t text : List ℕ) (at : ℕ) : Type 0 where
   pub other : text ≡ t → ⊥
 
 -- the text is the plan's, and this its total; or the line from which on it is not, behind those of the flights
-abbrev pub EndRead : (flights text holds : List ℕ) → End → Type 0
-EndRead flights text holds (Whole t) = (text ≡ plan_text flights holds) × (t ≡ total_of flights holds)
-EndRead flights text holds (Wrong at) = Diverges (plan_text flights holds) text at × (length (front_lines flights holds (flight_count flights)) ≤ at)
+abbrev pub EndRead : (flights text holds : List ℕ) → Result ℕ WrongLine → Type 0
+EndRead flights text holds (Ok t) = (text ≡ plan_text flights holds) × (t ≡ total_of flights holds)
+EndRead flights text holds (Err wrong) =
+    Diverges (plan_text flights holds) text wrong.line × (length (front_lines flights holds (flight_count flights)) ≤ wrong.line)
+
+-- the outcome of a text that goes wrong at a line
+abbrev pub wrong_at : ℕ → Result ℕ WrongLine
+wrong_at x = Err (record { line = x })
 
 -- ---- the whole text
 
-abbrev pub RowsRead : Day → (text holds : List ℕ) → End → Type 0
-RowsRead d text holds (Whole t) = Legal d holds × ((text ≡ plan_text d.flights holds) × (t ≡ total d holds))
-RowsRead d text holds (Wrong at) = FirstWrongLine d text at × ((plan : List ℕ) → Legal d plan → text ≡ plan_text d.flights plan → ⊥)
+abbrev pub RowsRead : Day → (text holds : List ℕ) → Result ℕ WrongLine → Type 0
+RowsRead d text holds (Ok t) = Legal d holds × ((text ≡ plan_text d.flights holds) × (t ≡ total d holds))
+RowsRead d text holds (Err wrong) = FirstWrongLine d text wrong.line × ((plan : List ℕ) → Legal d plan → text ≡ plan_text d.flights plan → ⊥)
 
 -- a hold row of a valid day, and rows that are large enough for any day
 pub record LargeRows (d : Day) (holds row left : List ℕ) : Type 0 where

@@ -1,9 +1,9 @@
 -- A plan text read back (#107): which texts are accepted, what the hold row then is, and which line refusal 15 names. All of it is said of
 -- legal plans and their texts.
 -- Assumes nothing.
-use Rattle.std.specs.Prelude.{◌≡◌, ◌⊎◌, true, cond, List, ℕ, ◌-◌, ◌≤◌, ◌<◌, length, get_or, take, eqb}
-use Rattle.answers.specs.declared.Answer.{Answer}
-use Rattle.answers.specs.declared.Answer.TheVariants.{Planned, BadDay, BadLength, BadPlanText}
+use Rattle.std.specs.Prelude.{◌≡◌, ◌⊎◌, true, cond, List, ℕ, ◌-◌, ◌≤◌, ◌<◌, length, get_or, take, eqb, Result, Ok, Err}
+use Rattle.answers.specs.declared.Refusal.{Refusal}
+use Rattle.answers.specs.declared.Refusal.TheVariants.{BadDay, BadLength, BadPlanText}
 use Rattle.text.specs.Digits.{line_end}
 use Rattle.text.specs.Fixed.{starts_with}
 use Rattle.day.specs.Day.{Day, N, total, valid}
@@ -35,27 +35,27 @@ pub record FirstWrongLine (d : Day) (text : List ℕ) (at : ℕ) : Type 0 where
   pub beyond : (next : ℕ) → at < next → LineEnds text next → PlanBegins d (take next text) → ⊥
 
 -- "It accepts just the bytes that the writer makes for some legal plan of that day", fills the hold row with it and "answers the plan's total"
-pub record TextAccepted (d : Day) (text : List ℕ) (answer : Answer) (holds : List ℕ) : Type 0 where
+pub record TextAccepted (d : Day) (text : List ℕ) (answer : Result ℕ Refusal) (holds : List ℕ) : Type 0 where
   pub legal : Legal d holds
   pub text_is : text ≡ plan_text d.flights holds
-  pub total_is : answer ≡ Planned (total d holds)
+  pub total_is : answer ≡ Ok (total d holds)
 
 -- "Any other text is refused with 15, .. the hold row untouched."
-pub record TextRefused (d : Day) (text : List ℕ) (answer : Answer) (holds₀ holds : List ℕ) : Type 0 where
+pub record TextRefused (d : Day) (text : List ℕ) (answer : Result ℕ Refusal) (holds₀ holds : List ℕ) : Type 0 where
   pub line : ℕ
   pub first_wrong : FirstWrongLine d text line
   pub other : (plan : List ℕ) → Legal d plan → text ≡ plan_text d.flights plan → ⊥
-  pub line_is : answer ≡ BadPlanText line
+  pub line_is : answer ≡ Err (BadPlanText line)
   pub same_holds : holds ≡ holds₀
 
 -- of a valid day and a row of N: one of the two
-pub data TextRead (d : Day) (text : List ℕ) (answer : Answer) (holds₀ holds : List ℕ) : Type 0 where
+pub data TextRead (d : Day) (text : List ℕ) (answer : Result ℕ Refusal) (holds₀ holds : List ℕ) : Type 0 where
   accepted : TextAccepted d text answer holds → TextRead d text answer holds₀ holds
   refused : TextRefused d text answer holds₀ holds → TextRead d text answer holds₀ holds
 
 -- the call: "after 6 and 7", which leave the row as it was too
-unfoldable pub ReadPlan : Day → List ℕ → Answer → (holds₀ holds : List ℕ) → Type 0
+unfoldable pub ReadPlan : Day → List ℕ → Result ℕ Refusal → (holds₀ holds : List ℕ) → Type 0
 ReadPlan d text answer holds₀ holds =
     cond (valid d)
-    (cond (eqb (length holds₀) (N d)) (TextRead d text answer holds₀ holds) ((answer ≡ BadLength (N d)) × (holds ≡ holds₀)))
-    ((answer ≡ BadDay) × (holds ≡ holds₀))
+    (cond (eqb (length holds₀) (N d)) (TextRead d text answer holds₀ holds) ((answer ≡ Err (BadLength (N d))) × (holds ≡ holds₀)))
+    ((answer ≡ Err BadDay) × (holds ≡ holds₀))

@@ -1,20 +1,20 @@
 // A plan text read back: the hold row of the legal plan whose text it is, or the first line with which no legal plan's text goes on.
 #![tactic(auto)]
 
-ghost use Rattle.std.specs.Prelude.{◌≡◌, ◌+◌, ◌*◌, ◌≤◌, length, drop};
+ghost use Rattle.std.specs.Prelude.{◌≡◌, ◌+◌, ◌*◌, ◌≤◌, length};
+ghost use Rattle.answers.specs.declared.Refusal.TheVariants.{BadPlanText};
 ghost use Rattle.answers.specs.Decides.{Decides};
-ghost use Rattle.text.specs.Fixed.{starts_with};
 ghost use Rattle.day.specs.Day.{lent, most_flights, width};
-ghost use Rattle.plan_text.specs.PlanText.{plan_names, total_name};
+ghost use Rattle.plan_text.specs.PlanText.{plan_names};
 ghost use Rattle.completion.specs.Loop.{Partial};
 ghost use Rattle.plan_reader.specs.PlanReading.{TextRead, ReadPlan};
 ghost use Rattle.plan_reader.specs.Loop.{Shows, HoldRead, front_lines, Read, LinesRead, BehindMost, CanEnd, EndRead, RowsRead, LargeRows};
 
-use answers::Answer;
-use completion::{Most, all_places, most_completed, take_landing};
-use day::{FLIGHTS, PERIODS, copy_front, cost_of, due_of, flight_count, is_valid, number_of, wide};
+use answers::Refusal;
+use completion::{all_places, most_completed, take_landing};
+use day::{FLIGHTS, PERIODS, cost_of, due_of, flight_count, is_valid, number_of};
 use legality::total_of;
-use plan_text::{PLAN_NAMES, PLAN_NAMES_LEN, TOTAL_NAME, TOTAL_NAME_LEN, plan_lines_len};
+use plan_text::{PLAN_NAMES, TOTAL_NAME, plan_lines_len};
 use text::{LINE_END, Number, field_at, fixed_at, line_at};
 
 // The most digits of a number in a flight's line, and of a total.
@@ -29,11 +29,18 @@ pub struct Front {
     pub at: usize,
 }
 
-// What stands behind the flights' lines: the rest of the plan's text, with its total, or the first line that is not.
+// The first line that is not the plan's, by the offset of its first byte.
 #[derive(Clone, Copy)]
-pub enum End {
-    Whole { total: usize },
-    Wrong { line: usize },
+pub struct WrongLine {
+    pub line: usize,
+}
+
+impl From<WrongLine> for Refusal {
+    ghost from_gives = { λ wrong refusal. refusal ≡ BadPlanText wrong.line };
+
+    fn from(wrong: WrongLine) -> Refusal {
+        Refusal::BadPlanText { line: wrong.line }
+    }
 }
 
 // The numbers of a line are those of the flight at table place i with the hold that the line shows.
@@ -41,37 +48,28 @@ fn shows_flight(flights: &[u32], i: usize, numbers: &[u32], cost: u32) -> bool
     requires { ((i + 1) * width ≤ length flights.now) × (length numbers.now ≡ 4) }
     ensures { Decides result (Shows flights.now i numbers.now cost) }
 {
-    let hold = wide(numbers[3]);
+    let hold = numbers[3] as usize;
     let due = due_of(flights, i);
-    if wide(numbers[0]) != number_of(flights, i) {
-        return false;
-    }
-    if wide(numbers[1]) != due {
-        return false;
-    }
-    if wide(numbers[2]) != due + hold {
-        return false;
-    }
-    wide(cost) == cost_of(flights, i, hold)
+    numbers[0] as usize == number_of(flights, i)
+        && numbers[1] as usize == due
+        && numbers[2] as usize == due + hold
+        && cost as usize == cost_of(flights, i, hold)
 }
 
 // The hold that the line at a place shows, if it is a line of the flight at table place i, and the place behind it.
-fn hold_at(text: &[u8], at: usize, flights: &[u32], i: usize) -> Number
+fn hold_at(text: &[u8], at: usize, flights: &[u32], i: usize) -> Option<Number>
     requires { (at ≤ length text.now) × ((i + 1) * width ≤ length flights.now) }
     ensures { HoldRead flights.now text.now at i result }
 {
     let mut numbers = [0u32; 4];
-    let p = line_at(text, at, LINE_DIGITS, &mut numbers);
-    let Number::Value { n: cost, next } = p else {
-        return Number::Bad;
-    };
+    let Number { n: cost, next } = line_at(text, at, LINE_DIGITS, &mut numbers)?;
     if shows_flight(flights, i, &numbers, cost) {
-        return Number::Value {
+        return Some(Number {
             n: numbers[3],
             next,
-        };
+        });
     }
-    Number::Bad
+    None
 }
 
 // Reads the flights' lines behind the names line, up to the first that is wrong in itself: not a line of its flight, or with a hold that
@@ -88,21 +86,18 @@ fn read_lines(
     ensures { LinesRead (lent capacities.entry flights.entry closing) text.now holds.new left.new result }
 {
     let n = flight_count(flights);
-    let mut at = PLAN_NAMES_LEN;
-    let mut i = 0;
-    while i < n {
-        let line = hold_at(text, at, flights, i);
-        let Number::Value { n: hold, next } = line else {
+    let mut at = PLAN_NAMES.len();
+    for i in 0..n {
+        let Some(Number { n: hold, next }) = hold_at(text, at, flights, i) else {
             return Front { flights: i, at };
         };
         holds[i] = hold;
         if !take_landing(capacities, flights, closing, holds, i, left) {
             return Front { flights: i, at };
         }
-        i += 1;
         at = next;
     }
-    Front { flights: i, at }
+    Front { flights: n, at }
 }
 
 // The place behind the names line and the lines of the first m flights.
@@ -110,7 +105,7 @@ fn place_behind(flights: &[u32], holds: &[u32], m: usize) -> usize
     requires { (m ≤ length holds.now) × (length holds.now * width ≤ length flights.now) × (length holds.now ≤ most_flights) }
     ensures { result ≡ length (front_lines flights.now holds.now m) }
 {
-    PLAN_NAMES_LEN + plan_lines_len(flights, &holds[0..m])
+    PLAN_NAMES.len() + plan_lines_len(flights, &holds[..m])
 }
 
 // The place of the line that is the first wrong one where the lines of i flights are right in themselves and the next is not: the one behind
@@ -126,47 +121,32 @@ fn first_wrong(
     requires { Partial (lent capacities flights closing) holds.now left.old i }
     ensures { BehindMost (lent capacities.entry flights.entry closing) holds.now i result }
 {
-    let most = most_completed(capacities, flights, closing, holds, i, left);
-    match most {
-        Most::NoPlan => 0,
-        Most::Flights(m) => place_behind(flights, holds, m),
+    match most_completed(capacities, flights, closing, holds, i, left) {
+        Some(m) => place_behind(flights, holds, m),
+        None => 0,
     }
-}
-
-fn names_here(text: &[u8]) -> bool
-    ensures { result ≡ starts_with text.now plan_names }
-{
-    fixed_at(text, 0, &PLAN_NAMES)
-}
-
-fn total_name_here(text: &[u8], at: usize) -> bool
-    requires { at ≤ length text.now }
-    ensures { result ≡ starts_with (drop at text.now) total_name }
-{
-    fixed_at(text, at, &TOTAL_NAME)
 }
 
 // Reads what stands behind the lines of all flights: the total's two lines and nothing more, or the first line that is another.
-fn read_end(flights: &[u32], text: &[u8], holds: &[u32], at: usize) -> End
+fn read_end(flights: &[u32], text: &[u8], holds: &[u32], at: usize) -> Result<usize, WrongLine>
     requires { CanEnd flights.now text.now holds.now at }
     ensures { EndRead flights.now text.now holds.now result }
 {
-    if !total_name_here(text, at) {
-        return End::Wrong { line: at };
+    if !fixed_at(text, at, TOTAL_NAME) {
+        return Err(WrongLine { line: at });
     }
-    let line = at + TOTAL_NAME_LEN;
-    let p = field_at(text, line, TOTAL_DIGITS, LINE_END);
-    let Number::Value { n, next } = p else {
-        return End::Wrong { line };
+    let line = at + TOTAL_NAME.len();
+    let Some(Number { n, next }) = field_at(text, line, TOTAL_DIGITS, LINE_END) else {
+        return Err(WrongLine { line });
     };
     let total = total_of(flights, holds);
-    if wide(n) != total {
-        return End::Wrong { line };
+    if n as usize != total {
+        return Err(WrongLine { line });
     }
     if next != text.len() {
-        return End::Wrong { line: next };
+        return Err(WrongLine { line: next });
     }
-    End::Whole { total }
+    Ok(total)
 }
 
 // Reads a text into rows of ours: holds for the day's flights, and the places that they leave.
@@ -177,20 +157,17 @@ fn read_rows(
     text: &[u8],
     holds: &mut [u32],
     left: &mut [u32],
-) -> End
+) -> Result<usize, WrongLine>
     requires { Partial (lent capacities flights closing) holds.old left.old 0 }
     ensures { RowsRead (lent capacities.entry flights.entry closing) text.now holds.new result }
 {
-    if !names_here(text) {
-        return End::Wrong { line: 0 };
+    if !fixed_at(text, 0, PLAN_NAMES) {
+        return Err(WrongLine { line: 0 });
     }
-    let front = read_lines(capacities, flights, closing, text, holds, left);
-    let i = front.flights;
-    let at = front.at;
+    let Front { flights: i, at } = read_lines(capacities, flights, closing, text, holds, left);
     if i < flight_count(flights) {
-        return End::Wrong {
-            line: first_wrong(capacities, flights, closing, holds, i, left),
-        };
+        let line = first_wrong(capacities, flights, closing, holds, i, left);
+        return Err(WrongLine { line });
     }
     read_end(flights, text, holds, at)
 }
@@ -204,27 +181,22 @@ fn read_in(
     holds: &mut [u32],
     row: &mut [u32],
     left: &mut [u32],
-) -> Answer
+) -> Result<usize, Refusal>
     requires { LargeRows (lent capacities flights closing) holds.old row.old left.old }
     ensures { TextRead (lent capacities.entry flights.entry closing) text.now result holds.old holds.new }
 {
     let n = holds.len();
     let counted = all_places(capacities, closing, left);
-    let end = read_rows(
+    let total = read_rows(
         capacities,
         flights,
         closing,
         text,
-        &mut row[0..n],
-        &mut left[0..counted],
-    );
-    match end {
-        End::Wrong { line } => Answer::BadPlanText { line },
-        End::Whole { total } => {
-            copy_front(row, holds, n);
-            Answer::Planned { total }
-        }
-    }
+        &mut row[..n],
+        &mut left[..counted],
+    )?;
+    holds.copy_from_slice(&row[..n]);
+    Ok(total)
 }
 
 // Fills the hold row with the legal plan whose text this is, and answers its total, for a day, a text and a row of any content and length.
@@ -235,15 +207,15 @@ pub fn read_plan(
     closing: u32,
     text: &[u8],
     holds: &mut [u32],
-) -> Answer
+) -> Result<usize, Refusal>
     ensures { ReadPlan (lent capacities.entry flights.entry closing) text.now result holds.old holds.new }
 {
     if !is_valid(capacities, flights, closing) {
-        return Answer::BadDay;
+        return Err(Refusal::BadDay);
     }
     let n = flight_count(flights);
     if holds.len() != n {
-        return Answer::BadLength { needed: n };
+        return Err(Refusal::BadLength { needed: n });
     }
     let mut row = [0u32; FLIGHTS];
     let mut left = [0u32; PERIODS + 1];

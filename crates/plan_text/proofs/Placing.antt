@@ -1,19 +1,20 @@
 -- How a plan's lines follow one another in the buffer: one line more, and the whole.
 -- Assumes nothing.
+use Rattle.std.proofs.Common.{Ok, Err}
 use Prim.Native.Nat.{ℕ, zero, suc, ◌≤◌, ◌<◌, ◌+◌, ◌-◌, ◌*◌}
 use native.Mathlib.Omega.{arith}
 use native.Mathlib.Numerals.{add-one}
 use mathlib.Core.Path.{◌≡◌, refl, ap, ◌∙◌}
 use mathlib.Core.List.{List, [], ◌∷◌, ◌++◌, append_assoc, append-nil}
 use lib.ListN.{length, length-append}
-use Rattle.answers.specs.declared.Answer.{Answer}
+use Rattle.answers.specs.declared.Refusal.{Refusal}
 use Rattle.text.specs.Digits.{ended, line}
 use Rattle.text.specs.Writing.{Put, text_answer, text_after}
 use Rattle.text.proofs.Writing.{then}
 use Rattle.day.specs.Day.{Day, N, most_flights, column, flight_at, flight_count, hold_cost, hold, land_of, total_of, total, width}
 use Rattle.day.proofs.Valid.{valid_means}
 use Rattle.legality.specs.Check.{plan_check}
-use Rattle.legality.specs.declared.PlanCheck.TheVariants as found
+use Rattle.std.specs.Prelude.{Ok, Err}
 use Rattle.legality.proofs.Found.{found_legal}
 use Rattle.plan_text.specs.PlanText.{plan_names, total_name, plan_line, plan_lines, plan_text, plan_text_answer, plan_text_after}
 
@@ -75,18 +76,18 @@ module _ (f holds : List ℕ) where
 -- the outcomes of the call
 module _ (d : Day) (holds : List ℕ) where
   module _ (buffer : List ℕ) (place : ℕ) where
-    pub on_refused : {a : Answer} → plan_check d holds ≡ found.Refused a
-        → (a ≡ plan_text_answer d holds buffer place) × (buffer ≡ plan_text_after d holds buffer place)
+    pub on_refused : {a : Refusal} → plan_check d holds ≡ Err a
+        → (Err a ≡ plan_text_answer d holds buffer place) × (buffer ≡ plan_text_after d holds buffer place)
     unfolding plan_text_answer plan_text_after
     on_refused e = rw e (refl, refl)
 
-    pub on_legal : {t : ℕ} → plan_check d holds ≡ found.Legal t
+    pub on_legal : {t : ℕ} → plan_check d holds ≡ Ok t
         → (text_answer buffer place (plan_text d.flights holds) ≡ plan_text_answer d holds buffer place)
         × (text_after buffer place (plan_text d.flights holds) ≡ plan_text_after d holds buffer place)
     unfolding plan_text_answer plan_text_after
     on_legal e = rw e (refl, refl)
 
-  pub legal_rows : {t : ℕ} → plan_check d holds ≡ found.Legal t
+  pub legal_rows : {t : ℕ} → plan_check d holds ≡ Ok t
       → (length holds ≡ N d) × (t ≡ total d holds) × (length holds * width ≤ length d.flights) × (length holds ≤ most_flights)
   legal_rows e =
       let f = found_legal d holds e in

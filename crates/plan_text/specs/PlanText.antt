@@ -1,7 +1,7 @@
 -- The text of a plan, as case B of document 01 shows it, and what the call answers and leaves in the buffer.
 -- Assumes nothing.
-use Rattle.std.specs.Prelude.{ℕ, zero, suc, List, [], ◌∷◌, ◌++◌}
-use Rattle.answers.specs.declared.Answer.{Answer}
+use Rattle.std.specs.Prelude.{ℕ, zero, suc, List, [], ◌∷◌, ◌++◌, Result, Err}
+use Rattle.answers.specs.declared.Refusal.{Refusal}
 use Rattle.text.specs.Digits.{ended, line, line_end}
 use Rattle.text.specs.Writing.{text_answer, text_after}
 use Rattle.day.specs.Day.{Day, number_of, due_of, flight_at, flight_count, hold_cost, hold, land_of, total_of}
@@ -31,9 +31,9 @@ plan_text flights holds =
     plan_names ++ (plan_lines flights holds (flight_count flights) 0 ++ (total_name ++ ended line_end (total_of flights holds)))
 
 -- what is found of the day and the hold row comes first (6, 7 for the hold row, 10), "a text's length comes last"
-unfoldable pub plan_text_answer : Day → List ℕ → List ℕ → ℕ → Answer
+unfoldable pub plan_text_answer : Day → List ℕ → List ℕ → ℕ → Result ℕ Refusal
 plan_text_answer d holds buffer place =
-    on_plan (plan_check d holds) (λ total. text_answer buffer place (plan_text d.flights holds)) (λ refusal. refusal)
+    on_plan (plan_check d holds) (λ total. text_answer buffer place (plan_text d.flights holds)) Err
 
 -- the buffer afterwards
 unfoldable pub plan_text_after : Day → List ℕ → List ℕ → ℕ → List ℕ

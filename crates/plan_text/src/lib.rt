@@ -4,25 +4,16 @@
 ghost use Rattle.std.specs.Prelude.{◌≡◌, [], ◌∷◌, ◌+◌, ◌*◌, ◌≤◌, ◌<◌, length};
 ghost use Rattle.text.specs.Writing.{Put, text_answer, text_after};
 ghost use Rattle.day.specs.Day.{lent, most_flights, width, number_of, due_of, flight_at, flight_count, hold_cost, hold, land_of, total_of};
-ghost use Rattle.plan_text.specs.PlanText.{plan_names, total_name, plan_line, plan_lines, plan_text, plan_text_answer, plan_text_after};
+ghost use Rattle.plan_text.specs.PlanText.{plan_line, plan_lines, plan_text, plan_text_answer, plan_text_after};
 
-use answers::Answer;
-use day::{cost_of, due_of, land_of, number_of, wide};
-use legality::{PlanCheck, check_plan};
-use text::{line_len, number_len, put_fixed, put_fixed_at, put_line_at, put_number_at};
+use answers::Refusal;
+use day::{cost_of, due_of, land_of, number_of};
+use legality::check_plan;
+use text::{LINE_END, line_len, number_len, put_fixed_at, put_line_at, put_number_at};
 
-const LINE_END: u8 = 10;
+pub const PLAN_NAMES: &[u8] = b"flight,due,lands,hold,cost\n";
 
-pub const PLAN_NAMES_LEN: usize = 27;
-
-pub const PLAN_NAMES: [u8; 27] = *b"flight,due,lands,hold,cost\n";
-
-pub const TOTAL_NAME_LEN: usize = 6;
-
-pub const TOTAL_NAME: [u8; 6] = *b"total\n";
-
-// Both fixed lines together.
-const NAMES_LEN: usize = PLAN_NAMES_LEN + TOTAL_NAME_LEN;
+pub const TOTAL_NAME: &[u8] = b"total\n";
 
 // The numbers of a flight's line but for its cost.
 fn values_of(flights: &[u32], holds: &[u32], i: usize) -> [usize; 4]
@@ -33,33 +24,29 @@ fn values_of(flights: &[u32], holds: &[u32], i: usize) -> [usize; 4]
         number_of(flights, i),
         due_of(flights, i),
         land_of(flights, holds, i),
-        wide(holds[i]),
+        holds[i] as usize,
     ]
 }
 
-fn cost_at(flights: &[u32], holds: &[u32], i: usize) -> usize
-    requires { (i < length holds.now) × ((i + 1) * width ≤ length flights.now) }
-    ensures { result ≡ hold_cost (flight_at flights.now i) (hold holds.now i) }
-{
-    cost_of(flights, i, wide(holds[i]))
-}
-
 // The line of the flight at table place i from `at` on.
+#[tactic(auto, unfolding(crate::specs::PlanText::plan_line))]
 fn put_plan_line(out: &mut [u8], at: usize, flights: &[u32], holds: &[u32], i: usize) -> usize
     requires { (i < length holds.now) × ((i + 1) * width ≤ length flights.now) × (at + length (plan_line flights.now holds.now i) ≤ length out.old) }
     ensures { Put out.old at (plan_line flights.now holds.now i) result out.new }
 {
     let values = values_of(flights, holds, i);
-    let cost = cost_at(flights, holds, i);
+    let cost = cost_of(flights, i, holds[i] as usize);
     put_line_at(out, at, &values, cost)
 }
 
+#[tactic(auto, unfolding(crate::specs::PlanText::plan_line))]
 fn plan_line_len(flights: &[u32], holds: &[u32], i: usize) -> usize
     requires { (i < length holds.now) × ((i + 1) * width ≤ length flights.now) }
     ensures { (result ≡ length (plan_line flights.now holds.now i)) × (result ≤ 105) }
 {
     let values = values_of(flights, holds, i);
-    line_len(&values, cost_at(flights, holds, i))
+    let cost = cost_of(flights, i, holds[i] as usize);
+    line_len(&values, cost)
 }
 
 fn put_plan_lines(out: &mut [u8], start: usize, flights: &[u32], holds: &[u32]) -> usize
@@ -67,10 +54,8 @@ fn put_plan_lines(out: &mut [u8], start: usize, flights: &[u32], holds: &[u32]) 
     ensures { Put out.old start (plan_lines flights.now holds.now (length holds.now) 0) result out.new }
 {
     let mut at = start;
-    let mut i: usize = 0;
-    while i < holds.len() {
+    for i in 0..holds.len() {
         at = put_plan_line(out, at, flights, holds, i);
-        i += 1;
     }
     at
 }
@@ -81,26 +66,10 @@ pub fn plan_lines_len(flights: &[u32], holds: &[u32]) -> usize
     ensures { (result ≡ length (plan_lines flights.now holds.now (length holds.now) 0)) × (result ≤ 13440) }
 {
     let mut sum: usize = 0;
-    let mut i: usize = 0;
-    while i < holds.len() {
+    for i in 0..holds.len() {
         sum += plan_line_len(flights, holds, i);
-        i += 1;
     }
     sum
-}
-
-fn put_plan_names(out: &mut [u8]) -> usize
-    requires { length plan_names ≤ length out.old }
-    ensures { Put out.old 0 plan_names result out.new }
-{
-    put_fixed(out, &PLAN_NAMES)
-}
-
-fn put_total_name(out: &mut [u8], at: usize) -> usize
-    requires { at + length total_name ≤ length out.old }
-    ensures { Put out.old at total_name result out.new }
-{
-    put_fixed_at(out, at, &TOTAL_NAME)
 }
 
 // The whole text, at the front of out.
@@ -108,10 +77,10 @@ fn fill_plan(out: &mut [u8], flights: &[u32], holds: &[u32], sum: usize) -> usiz
     requires { (length holds.now ≡ flight_count flights.now) × (sum ≡ total_of flights.now holds.now) × (length holds.now * width ≤ length flights.now) × (length (plan_text flights.now holds.now) ≤ length out.old) }
     ensures { Put out.old 0 (plan_text flights.now holds.now) result out.new }
 {
-    let a = put_plan_names(out);
-    let b = put_plan_lines(out, a, flights, holds);
-    let c = put_total_name(out, b);
-    put_number_at(out, c, sum, LINE_END)
+    let lines_at = put_fixed_at(out, 0, PLAN_NAMES);
+    let total_name_at = put_plan_lines(out, lines_at, flights, holds);
+    let total_at = put_fixed_at(out, total_name_at, TOTAL_NAME);
+    put_number_at(out, total_at, sum, LINE_END)
 }
 
 // How many bytes the text takes.
@@ -119,7 +88,7 @@ fn plan_len(flights: &[u32], holds: &[u32], sum: usize) -> usize
     requires { (length holds.now ≡ flight_count flights.now) × (sum ≡ total_of flights.now holds.now) × (length holds.now * width ≤ length flights.now) × (length holds.now ≤ most_flights) }
     ensures { result ≡ length (plan_text flights.now holds.now) }
 {
-    plan_lines_len(flights, holds) + number_len(sum) + NAMES_LEN
+    PLAN_NAMES.len() + plan_lines_len(flights, holds) + TOTAL_NAME.len() + number_len(sum)
 }
 
 // The text of a legal plan, with its total, from the place on. The line writers get the part of the buffer that starts there.
@@ -129,20 +98,18 @@ fn write_legal(
     sum: usize,
     buffer: &mut [u8],
     place: usize,
-) -> Answer
+) -> Result<usize, Refusal>
     requires { (length holds.now ≡ flight_count flights.now) × (sum ≡ total_of flights.now holds.now) × (length holds.now * width ≤ length flights.now) × (length holds.now ≤ most_flights) }
     ensures value { result ≡ text_answer buffer.old place (plan_text flights.now holds.now) }
     ensures buffer_after { buffer.new ≡ text_after buffer.old place (plan_text flights.now holds.now) }
 {
     let needed = plan_len(flights, holds, sum);
-    if buffer.len() < place {
-        return Answer::BadLength { needed };
-    }
-    if buffer.len() - place < needed {
-        return Answer::BadLength { needed };
+    // A text has some bytes, so that behind the buffer's end there is too little room too.
+    if buffer.len().saturating_sub(place) < needed {
+        return Err(Refusal::BadLength { needed });
     }
     fill_plan(&mut buffer[place..], flights, holds, sum);
-    Answer::Written { bytes: needed }
+    Ok(needed)
 }
 
 // Writes the text of a plan into the buffer from the place on, for a day and rows of any content and length.
@@ -153,13 +120,10 @@ pub fn write_plan(
     holds: &[u32],
     text: &mut [u8],
     place: usize,
-) -> Answer
+) -> Result<usize, Refusal>
     ensures value { result ≡ plan_text_answer (lent capacities.entry flights.entry closing) holds.now text.old place }
     ensures text_after { text.new ≡ plan_text_after (lent capacities.entry flights.entry closing) holds.now text.old place }
 {
-    let found = check_plan(capacities, flights, closing, holds);
-    match found {
-        PlanCheck::Refused(refusal) => refusal,
-        PlanCheck::Legal { total } => write_legal(flights, holds, total, text, place),
-    }
+    let total = check_plan(capacities, flights, closing, holds)?;
+    write_legal(flights, holds, total, text, place)
 }

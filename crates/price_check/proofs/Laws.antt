@@ -12,17 +12,17 @@ use Rattle.assignment.specs.Sum.{count}
 use Rattle.assignment.proofs.Tests.{eq?, gate_eq, gate_ne}
 use Rattle.assignment.proofs.Sums.{count_suc, count_zero}
 use Rattle.day.specs.declared.Flight.{Flight}
-use Rattle.day.specs.Day.{Day, day, unlimited, most_periods, counted_of, P, N, column, flight_at, hold_cost, latest_of, due, of_period, takes, counted, cost, latest, hold, land_of, land, landings, valid, width}
+use Rattle.day.specs.Day.{Day, day, unlimited, N, column, flight_at, hold_cost, last_of, due, of_period, takes, counted, cost, last, hold, land_of, land, landings, valid, width}
 use Rattle.day.specs.Plan.{Legal, Cheapest, Accepted}
-use Rattle.day.proofs.Costs.{counted_to}
 use Rattle.day.proofs.Flights.{due_read}
 use Rattle.day.proofs.Instance.{hold_le, cost_le, accepted_is_cheapest}
+use Rattle.day.specs.Instance.{last_to}
 use Rattle.day.specs.Valid.{Valid}
 use Rattle.day.proofs.Curfew.{same_window, window_same}
 use Rattle.day.proofs.Valid.{valid_means}
-use Rattle.answers.specs.declared.Answer.{Answer}
+use Rattle.answers.specs.declared.Refusal.{Refusal}
 use Rattle.legality.specs.Check.{plan_check}
-use Rattle.legality.specs.declared.PlanCheck.TheVariants as found
+use Rattle.std.specs.Prelude.{Result, Ok, Err, is_ok}
 use Rattle.legality.proofs.Found.{found_legal, found_refused}
 use Rattle.answers.specs.Decides.{Decides}
 use Rattle.answers.proofs.Decides.{true_false, say_yes, say_no}
@@ -65,10 +65,6 @@ module _ {f h : List ℕ} {k n i : ℕ} (s : Counted f h k n i) where
   counted_end done = let e : i ≡ length h = omega (arith, s.upto) in s.counts ∙ ap (λ m. count m (land_of f h) k) e
 
 -- ---- periods that are not full
-
--- few periods are counted, whatever the closing number
-pub counted_most : (p closing : ℕ) → p ≤ most_periods → counted_of p closing ≤ 97
-counted_most p closing few = omega (arith, counted_to p closing)
 
 abbrev pub UnsoldTo : Day → (h p : List ℕ) → ℕ → Type 0
 UnsoldTo d h p k = (j : ℕ) → 1 ≤ j → j < k → Unsold d h p j
@@ -118,19 +114,16 @@ module _ (f : Flight) (row : List ℕ) (i : ℕ) (read : f ≡ flight_at row i) 
       → x + y ≡ hold_cost (flight_at row i) (hold h i) + of_period p (land_of row h i)
   here_made h p e hold_is cost_is price_is = rw (cost_made _ cost_is, price_is, due_made e, hold_is)
 
-  pub latest_made : {x : ℕ} (p : ℕ) → x ≡ latest_of p f → x ≡ latest_of p (flight_at row i)
-  latest_made p e = e ∙ ap (latest_of p) read
+  pub last_made : {x : ℕ} (p : ℕ) → x ≡ last_of p f → x ≡ last_of p (flight_at row i)
+  last_made p e = e ∙ ap (last_of p) read
 
--- the landing itself: within the day, at a cost that is small
+-- the landing itself: at a cost that is small
 module _ {d : Day} {h : List ℕ} {i : ℕ} (good : valid d ≡ true) (legal : Legal d h) (place : i < length h) where
   v : Valid d
   v = valid_means good
 
   l : i < N d
   l = omega (arith, legal.each)
-
-  pub here_land : land d h i ≤ 97
-  here_land = omega (arith, (legal.window i l).closing, v.periods_to)
 
   pub here_cost : cost d i (hold h i) ≤ 1960000
   here_cost = cost_le v i (hold h i) l (hold_le v legal l)
@@ -146,8 +139,11 @@ module _ {d : Day} {h p : List ℕ} {i k : ℕ} (s : Bests d h p i k) where
   pub there_made : {u x y : ℕ} → u ≡ due d i → x ≡ cost d i (k - u) → y ≡ of_period p k → x + y ≡ cost d i (k - due d i) + of_period p k
   there_made at f g = rw (f, g, at)
 
-  pub best_fits : {u x : ℕ} → u ≡ due d i → x ≡ cost d i (k - u) → k ≤ P d + 1 → x ≤ 1960000
-  best_fits at f b = rw (f, at) (cost_le w i (k - due d i) m (omega (arith, (w.flight i m).due_from, w.periods_to)))
+  pub best_near : k ≤ last d i → k ≤ 97
+  best_near b = omega (arith, last_to d i, w.periods_to)
+
+  pub best_fits : {u x : ℕ} → u ≡ due d i → x ≡ cost d i (k - u) → k ≤ last d i → x ≤ 1960000
+  best_fits at f b = rw (f, at) (cost_le w i (k - due d i) m (omega (arith, (w.flight i m).due_from, best_near b)))
 
   pub best_next : {here there : ℕ} → here ≡ cost d i (hold h i) + of_period p (land d h i) → there ≡ cost d i (k - due d i) + of_period p k
       → here ≤ there → Bests d h p i (k + 1)
@@ -159,15 +155,14 @@ module _ {d : Day} {h p : List ℕ} {i k : ℕ} (s : Bests d h p i k) where
     passed = λ j a b. elim (eq? j k) [ inl same ↦ rw same (omega arith) | inr o ↦ s.passed j a (omega arith) ];
   }
 
-  pub best_not : k ≤ P d + 1 → k ≤ latest d i → {here there : ℕ} → here ≡ cost d i (hold h i) + of_period p (land d h i)
+  pub best_not : k ≤ last d i → {here there : ℕ} → here ≡ cost d i (hold h i) + of_period p (land d h i)
       → there ≡ cost d i (k - due d i) + of_period p k → there < here → Best d h p i → ⊥
-  best_not closing limited e f less said = omega (arith, said.least k (record { from = s.from; closing = closing; limited = limited }))
+  unfolding last_of
+  best_not b e f less said = omega (arith, said.least k (record { from = s.from; closing = omega arith; limited = omega arith }))
 
-  pub best_limit : latest d i < k → Best d h p i
-  best_limit b = record { least = λ j win. s.passed j win.from (omega (arith, win.limited)) }
-
-  pub best_end : P d + 1 < k → Best d h p i
-  best_end b = record { least = λ j win. s.passed j win.from (omega (arith, win.closing)) }
+  pub best_end : last d i < k → Best d h p i
+  unfolding last_of
+  best_end b = record { least = λ j win. s.passed j win.from (omega (arith, win.closing, win.limited)) }
 
 -- ---- the whole check
 
@@ -219,8 +214,6 @@ module _ (d : Day) (h : List ℕ) where
   abbrev pub LegalDay : Bool → Type 0
   LegalDay r = Decides r ((valid d ≡ true) × Legal d h)
 
-  pub found_yes : {t : ℕ} → plan_check d h ≡ found.Legal t → LegalDay true
-  found_yes e = let f = found_legal d h e in say_yes (f.good, f.legal)
-
-  pub found_no : {a : Answer} → plan_check d h ≡ found.Refused a → LegalDay false
-  found_no e = say_no (λ s. found_refused d h e s.0 s.1)
+  pub found_decides : {found : Result ℕ Refusal} {r : Bool} → found ≡ plan_check d h → r ≡ is_ok found → LegalDay r
+  found_decides {found = Ok t} e f = let s = found_legal d h (sym e) in rw f (say_yes (s.good, s.legal))
+  found_decides {found = Err a} e f = rw f (say_no (λ s. found_refused d h (sym e) s.0 s.1))

@@ -8,8 +8,8 @@ ghost use Rattle.day.specs.Plan.{Legal, Cheapest, Accepted};
 ghost use Rattle.answers.specs.Decides.{Decides};
 ghost use Rattle.price_check.specs.Check.{Unsold, Best};
 
-use day::{capacity_of, counted_of, flight_at, hold_cost, land_of, latest_of, of_period, wide};
-use legality::{PlanCheck, check_plan};
+use day::{capacity_of, counted_of, flight_at, hold_cost, land_of, last_of, of_period};
+use legality::check_plan;
 
 // How many flights land in period k.
 fn landings_of(flights: &[u32], holds: &[u32], k: usize) -> usize
@@ -17,11 +17,8 @@ fn landings_of(flights: &[u32], holds: &[u32], k: usize) -> usize
     ensures { result ≡ count (length holds.now) (land_of flights.now holds.now) k }
 {
     let mut count = 0;
-    let mut i = 0;
-    while i < holds.len() {
-        let place = i;
-        i += 1;
-        if land_of(flights, holds, place) == k {
+    for i in 0..holds.len() {
+        if land_of(flights, holds, i) == k {
             count += 1;
         }
     }
@@ -41,14 +38,11 @@ fn are_unsold(
     ensures { Decides result ((k : ℕ) → 1 ≤ k → k ≤ counted (lent capacities.entry flights.entry closing) → Unsold (lent capacities.entry flights.entry closing) holds.now prices.now k) }
 {
     let last = counted_of(capacities.len(), closing);
-    let mut k = 1;
-    while k <= last {
-        let period = k;
-        k += 1;
-        if of_period(prices, period) != 0 {
-            if landings_of(flights, holds, period) < capacity_of(capacities, closing, period) {
-                return false;
-            }
+    for k in 1..=last {
+        if of_period(prices, k) != 0
+            && landings_of(flights, holds, k) < capacity_of(capacities, closing, k)
+        {
+            return false;
         }
     }
     true
@@ -62,19 +56,14 @@ fn is_best(capacities: &[u32], flights: &[u32], holds: &[u32], prices: &[u32], i
     ensures { Decides result (Best (lent capacities.entry flights.entry unlimited) holds.now prices.now i) }
 {
     let flight = flight_at(flights, i);
-    let due = wide(flight.due);
-    let hold = wide(holds[i]);
+    let due = flight.due as usize;
+    let hold = holds[i] as usize;
     let here = hold_cost(flight, hold) + of_period(prices, due + hold);
-    let latest = latest_of(capacities.len(), flight);
-    let mut k = due;
-    while k <= capacities.len() + 1 {
-        if latest < k {
-            return true;
-        }
+    let last = last_of(capacities.len(), flight);
+    for k in due..=last {
         if hold_cost(flight, k - due) + of_period(prices, k) < here {
             return false;
         }
-        k += 1;
     }
     true
 }
@@ -83,12 +72,10 @@ fn are_best(capacities: &[u32], flights: &[u32], holds: &[u32], prices: &[u32]) 
     requires { (valid (lent capacities flights unlimited) ≡ true) × Legal (lent capacities flights unlimited) holds.now }
     ensures { Decides result ((i : ℕ) → i < length holds.now → Best (lent capacities.entry flights.entry unlimited) holds.now prices.now i) }
 {
-    let mut i = 0;
-    while i < holds.len() {
+    for i in 0..holds.len() {
         if !is_best(capacities, flights, holds, prices, i) {
             return false;
         }
-        i += 1;
     }
     true
 }
@@ -97,11 +84,7 @@ fn are_best(capacities: &[u32], flights: &[u32], holds: &[u32], prices: &[u32]) 
 fn is_legal(capacities: &[u32], flights: &[u32], closing: u32, holds: &[u32]) -> bool
     ensures { Decides result ((valid (lent capacities.entry flights.entry closing) ≡ true) × Legal (lent capacities.entry flights.entry closing) holds.now) }
 {
-    let found = check_plan(capacities, flights, closing, holds);
-    match found {
-        PlanCheck::Legal { total } => true,
-        PlanCheck::Refused(refusal) => false,
-    }
+    check_plan(capacities, flights, closing, holds).is_ok()
 }
 
 // Yes exactly if the day is valid and the prices are accepted. A yes means that no legal plan is cheaper.

@@ -1,10 +1,10 @@
 -- What the program prints for a sheet: the text of a cheapest plan of the sheet's day, or a refusal's two lines.
 -- Assumes nothing.
-use Rattle.std.specs.Prelude.{ℕ, ◌≤◌, ◌<◌, ◌≡◌, List, [], length, take}
-use Rattle.answers.specs.declared.Answer.{Answer}
-use Rattle.answers.specs.Answers.{code_of}
+use Rattle.std.specs.Prelude.{ℕ, ◌*◌, ◌≤◌, ◌<◌, true, ◌≡◌, List, [], length, take}
+use Rattle.answers.specs.declared.Refusal.{Refusal}
+use Rattle.answers.specs.Answers.{refusal_code}
 use Rattle.text.specs.Fixed.{refusal_text}
-use Rattle.day.specs.Day.{Day, day}
+use Rattle.day.specs.Day.{Day, day, most_periods, most_flights, width, valid}
 use Rattle.day.specs.Plan.{Cheapest, Picked}
 use Rattle.day.specs.Flights.{row_of}
 use Rattle.sheet.specs.Sheet.{Reading, read, refused, read_sheet}
@@ -15,9 +15,17 @@ pub record Front (buffer : List ℕ) (r : ℕ) (text : List ℕ) : Type 0 where
   pub within : r ≤ length buffer
   pub bytes : take r buffer ≡ text
 
--- a refusal's two lines: the number and the two values of an answer
-abbrev pub refusal_of : Answer → List ℕ
-refusal_of a = refusal_text (code_of a).number (code_of a).first (code_of a).second
+-- a valid day of p periods, n flights and this closing number stands at the front of two rows (only inner contracts cite it)
+pub record InRows (p n closing : ℕ) (capacity-row flight-row : List ℕ) : Type 0 where
+  pub few_periods : p ≤ most_periods
+  pub few_flights : n ≤ most_flights
+  pub capacities_within : p ≤ length capacity-row
+  pub flights_within : n * width ≤ length flight-row
+  pub good : valid (day (take p capacity-row) (take (n * width) flight-row) closing) ≡ true
+
+-- a refusal's two lines: its number and its two values
+abbrev pub refusal_of : Refusal → List ℕ
+refusal_of a = refusal_text (refusal_code a).number (refusal_code a).first (refusal_code a).second
 
 -- what is printed for a day: the text of a cheapest plan or, where there is no legal plan, refusal 9 with the stretch that leaves none
 pub data PrintsDay (d : Day) (out : List ℕ) : Type 0 where

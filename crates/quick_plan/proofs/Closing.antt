@@ -1,6 +1,7 @@
 -- The quick plan and the closing number (#108), for any next cost: more flights are left than the closing period takes exactly if no legal
 -- plan exists, and then the stretch that answer 9 names is the picked one.
 -- Assumes nothing.
+use Rattle.std.proofs.Common.{Err}
 use mathlib.Core.Path.{◌≡◌, refl, sym, ap, ◌∙◌}
 use mathlib.Core.Logic.{inl, inr, ◌↔◌}
 use mathlib.Core.Bool.{Bool, true, false, cond, ◌&&◌}
@@ -13,7 +14,7 @@ use Rattle.assignment.specs.Sum.{gate}
 use Rattle.assignment.proofs.Tests.{lt?, and_false}
 use Rattle.assignment.proofs.Sums.{sum_zero}
 use Rattle.answers.specs.Answers.{Outcome, outcome}
-use Rattle.answers.specs.declared.Answer.TheVariants.{NoPlan}
+use Rattle.answers.specs.declared.Refusal.TheVariants.{NoPlan}
 use Rattle.day.specs.Day.{Day, P, N, due, last, valid}
 use Rattle.day.specs.Plan.{HasPlan, must_land, room, Short, Picked, first_of, first_jump_or_limit}
 use Rattle.day.proofs.Costs.{counted_to}
@@ -108,7 +109,7 @@ module _ (d : Day) (v : valid d ≡ true) (applies : first_jump_or_limit d.fligh
     more_left_lem more = lt-ltb d.closing (left_over d next) more
 
     module _ (holds : List ℕ) (plan : Outcome) where
-      pub found_short : {a b : ℕ} → Picked d a b → if_room d next holds plan ≡ outcome (NoPlan a b) holds
+      pub found_short : {a b : ℕ} → Picked d a b → if_room d next holds plan ≡ outcome (Err (NoPlan a b)) holds
       found_short {a} {b} p =
           let more = nine_exactly.1 (λ some. short_has_no_plan (valid_means v) p.short some.legal) in
           let q = nine_picked more in

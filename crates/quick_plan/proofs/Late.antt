@@ -1,5 +1,6 @@
 -- The quick plan has no jumps, so that the delay that flights bring along changes nothing in it (#102).
 -- Assumes nothing.
+use Rattle.std.proofs.Common.{Ok}
 use mathlib.Core.Path.{◌≡◌, sym, ap, ◌∙◌}
 use mathlib.Core.Bool.{true, ◌&&◌}
 use mathlib.Core.List.{List}
@@ -9,7 +10,6 @@ use lib.Dec.{lit<, leb, ltb, eqb}
 use Rattle.assignment.specs.Sum.{gate, sum, count}
 use Rattle.assignment.proofs.Sums.{sum_ext}
 use Rattle.answers.specs.Answers.{Outcome, outcome}
-use Rattle.answers.specs.declared.Answer.TheVariants.{Planned}
 use Rattle.day.specs.Day.{Day, day, P, N, width, due, rate, cost, latest_of, last_of, last, hold, land, flight_at, flight_count, total_of, total, valid}
 use Rattle.day.specs.Flights.{SameBut}
 use Rattle.day.specs.Plan.{must_land, room, first_of, jump_or_limit, first_jump_or_limit}
@@ -106,4 +106,4 @@ module _ (capacities : List ℕ) (closing : ℕ) {flights others : List ℕ} (sa
       rw (left_same, from_same (P d + 1), total_same applies (quick d), plan_same)))
     where
       planned : Day → Outcome
-      planned d = outcome (Planned (total d (quick d))) (quick d)
+      planned d = outcome (Ok (total d (quick d))) (quick d)

@@ -5,6 +5,7 @@ pub mod Meaning
 pub mod Plan
 pub mod Cheapest
 pub mod Closing
+pub mod Places
 pub mod Rows
 pub mod Steps
 pub mod Calls

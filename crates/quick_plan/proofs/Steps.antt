@@ -2,16 +2,17 @@
 -- Assumes nothing.
 use mathlib.Core.Path.{◌≡◌, refl, sym, ap, ◌∙◌}
 use mathlib.Core.Logic.{inl, inr, ◌≢◌}
-use mathlib.Core.Bool.{Bool, true, false, ◌||◌}
+use mathlib.Core.Bool.{Bool, true, false, ◌||◌, ◌&&◌}
 use mathlib.Core.List.{List, [], ◌∷◌, ◌++◌}
-use Prim.Native.Nat.{ℕ, zero, suc, ◌+◌, ◌-◌, ◌*◌, ◌≤◌, ◌<◌}
+use Prim.Native.Nat.{ℕ, zero, suc, ◌+◌, ◌-◌, ◌*◌, ◌≤◌, ◌<◌, zero-le}
 use native.Mathlib.Omega.{arith}
 use native.Mathlib.Numerals.{add-one}
-use lib.ListN.{length, get_or, set, take, length-set}
+use Rattle.std.specs.Prelude.{Option, Some, None, MatchOption}
+use Rattle.std.specs.Option.{option_map}
+use lib.ListN.{length, set, take, length-set}
 use lib.Seq.{take-suc-set, take_all}
 use lib.Dec.{T, ltb, eqb}
-use borrow.Author.Tests.{eq-eqb, ne_eqb, le-leb, lt-leb, le-ltb}
-use Rattle.day.specs.declared.Flight.{Flight}
+use borrow.Author.Tests.{lt-ltb, eq-eqb, ne_eqb, le-ltb}
 use Rattle.day.specs.Day.{Day, P, N, most_periods, width, flight_at, flight_count, due_of, due, capacity, valid}
 use Rattle.day.specs.Plan.{jump_or_limit, first_jump_or_limit}
 use Rattle.day.proofs.Flights.{there}
@@ -20,8 +21,11 @@ use Rattle.day.proofs.Valid.{valid_means}
 use Rattle.assignment.specs.Rows.{row}
 use Rattle.assignment.proofs.Tests.{eq?}
 use Rattle.quick_plan.specs.Quick.{before, ahead_of, ahead}
-use Rattle.quick_plan.specs.Loop.{DueBy, at_closing, pick, best_to, waiting, top, put, land_all, row_to}
-use Rattle.quick_plan.proofs.First.{Found, found}
+use Rattle.quick_plan.specs.declared.Waiting.{Waiting}
+use Rattle.quick_plan.specs.Calls.{place_if}
+use Rattle.quick_plan.specs.Loop.{DueBy, at_closing, pick, best_to, waiting, top, land_all, row_to}
+use Rattle.quick_plan.proofs.First.{Found}
+use Rattle.quick_plan.proofs.Places.{some_place, no_place}
 use Rattle.quick_plan.proofs.Rows.{top_found, waits_due, land_none, land_one}
 
 or_false : (x : Bool) → x ≡ x || false
@@ -36,111 +40,106 @@ module _ (f : List ℕ) (ck ci k i : ℕ) where
   before_costs ne = rw (ne_eqb ci ck ne) (or_false (ltb ci ck))
 
   module _ {di dk : ℕ} (ed : di ≡ due_of f i) (el : dk ≡ due_of f k) (e : ci ≡ ck) where
-    pub before_dues : dk ≢ di → ltb dk di ≡ before f ck ci k i
+    -- the due decides, or the place
+    pub before_ties : {r : Bool} → r ≡ ltb dk di || eqb dk di && ltb k i → r ≡ before f ck ci k i
     unfolding before
-    before_dues ne = rw (← ed, ← el, le-ltb ci ck (omega arith), eq-eqb ci ck e, ne_eqb dk di ne) (or_false (ltb dk di))
-
-    pub before_places : dk ≡ di → ltb k i ≡ before f ck ci k i
-    unfolding before
-    before_places q = rw (← ed, ← el, le-ltb ci ck (omega arith), eq-eqb ci ck e, le-ltb dk di (omega arith), eq-eqb dk di q)
-
--- ---- who waits
-
-module _ (d : Day) (h : List ℕ) (j i : ℕ) {from : ℕ} (ed : from ≡ due d i) where
-  pub waits_early : j < from → false ≡ waiting d h j i
-  unfolding waiting
-  waits_early l = rw (← ed, lt-leb from j l)
-
-  pub waits_late : {x : ℕ} → x ≡ get_or h i 0 → from ≤ j → eqb (from + x) (P d + 1) ≡ waiting d h j i
-  unfolding waiting
-  waits_late ex l = rw (← ed, ← ex, le-leb from j l)
+    before_ties q = rw (← ed, ← el, le-ltb ci ck (omega arith), eq-eqb ci ck e) q
 
 -- ---- the best one
 
--- b is the best of the flights below i that wait, and c its next cost
-pub record Scan (d : Day) (costs : ℕ → ℕ) (h : List ℕ) (j n i b c : ℕ) : Type 0 where
-  pub is_valid : valid d ≡ true
-  pub so_far : b ≡ best_to d costs (waiting d h j) n i
-  pub its_cost : b ≢ n → c ≡ costs b
-  pub within : i ≤ n
-  pub size : n ≡ N d
+-- the best of the flights below i that wait
+abbrev pub IsBest : Day → (costs : ℕ → ℕ) → (h : List ℕ) → (j i : ℕ) → Option Waiting → Type 0
+IsBest d costs h j i (Some w) = (best_to d costs (waiting d h j) (N d) i ≡ w.place) × (w.cost ≡ costs w.place) × (w.place < N d)
+IsBest d costs h j i None = best_to d costs (waiting d h j) (N d) i ≡ N d
 
-pub scan_start : {d : Day} (costs : ℕ → ℕ) {h : List ℕ} {j n : ℕ} → valid d ≡ true → n ≡ N d → Scan d costs h j n 0 n 0
+pub record Scan (d : Day) (costs : ℕ → ℕ) (h : List ℕ) (j i : ℕ) (best : Option Waiting) : Type 0 where
+  pub is_valid : valid d ≡ true
+  pub rows : length h ≡ N d
+  pub is_best : IsBest d costs h j i best
+
+pub scan_start : {d : Day} (costs : ℕ → ℕ) {h : List ℕ} {j : ℕ} → valid d ≡ true → length h ≡ N d → Scan d costs h j 0 None
 unfolding best_to
-scan_start costs v e = record { is_valid = v; so_far = refl; its_cost = λ o. absurd (o refl); within = omega arith; size = e }
+scan_start costs v e = record { is_valid = v; rows = e; is_best = refl }
 
 -- a flight that waits is due by the period
 waits_by : (d : Day) (costs : ℕ → ℕ) (h : List ℕ) (j i : ℕ) → valid d ≡ true → i < N d → T (waiting d h j i) → DueBy d.flights j i
 waits_by d costs h j i v l t = record { there = there d.flights i l; from = ((valid_means v).flight i l).due_from; by = waits_due d costs h j i t }
 
-module _ {d : Day} {costs : ℕ → ℕ} {h : List ℕ} {j n i b c : ℕ} (s : Scan d costs h j n i b c) where
-  -- the flight looked at, and the best so far, are flights of the row
-  pub scan_there : i < n → (i + 1) * width ≤ length d.flights
-  scan_there l = there d.flights i (omega (arith, s.size))
+-- the best one so far is a flight of the row
+pub best_there : {d : Day} {costs : ℕ → ℕ} {h : List ℕ} {j i : ℕ} {w : Waiting} → Scan d costs h j i (Some w) → (w.place + 1) * width ≤ length d.flights
+best_there {d} {w = w} s = there d.flights w.place s.is_best.2
 
-  pub best_there : b ≢ n → (b + 1) * width ≤ length d.flights
-  best_there ne = go (best_to d costs (waiting d h j) n i) s.so_far (found d costs (waiting d h j) n i s.within)
-    where
-      go : (x : ℕ) → b ≡ x → Found d costs i (waiting d h j) n x → (b + 1) * width ≤ length d.flights
-      go x q (inl w) = absurd (omega (arith, w.0))
-      go x q (inr w) = there d.flights b (omega (arith, w.below, s.within, s.size))
-
+module _ {d : Day} {costs : ℕ → ℕ} {h : List ℕ} {j i : ℕ} {best : Option Waiting} (s : Scan d costs h j i best) where
   pub scan_periods : P d ≤ most_periods
   scan_periods = (valid_means s.is_valid).periods_to
 
-  module _ {r : Bool} (l : i < n) (er : r ≡ waiting d h j i) where
-    pub scan_due : r ≡ true → DueBy d.flights j i
-    scan_due t = waits_by d costs h j i s.is_valid (omega (arith, s.size)) (rw (sym er ∙ t) tt)
+  module _ (l : i < length h) where
+    in_row : i < N d
+    in_row = omega (arith, s.rows)
 
-    pub scan_skip : r ≡ false → Scan d costs h j n (i + 1) b c
-    unfolding best_to pick
-    scan_skip t = record {
-      is_valid = s.is_valid;
-      so_far = rw (add-one, ← er, t) s.so_far;
-      its_cost = s.its_cost;
-      within = omega arith;
-      size = s.size;
-    }
+    pub scan_there : (i + 1) * width ≤ length d.flights
+    scan_there = there d.flights i in_row
 
-    module _ {x : ℕ} (ex : x ≡ costs i) (t : r ≡ true) where
-      pub scan_fresh : b ≡ n → Scan d costs h j n (i + 1) i x
+    module _ {r : Bool} (er : r ≡ waiting d h j i) where
+      pub scan_due : r ≡ true → DueBy d.flights j i
+      scan_due t = waits_by d costs h j i s.is_valid in_row (rw (sym er ∙ t) tt)
+
+      -- it does not wait
+      pub scan_skip : r ≡ false → Scan d costs h j (i + 1) best
       unfolding best_to pick
-      scan_fresh q = record {
-        is_valid = s.is_valid;
-        so_far = rw (add-one, ← er, t, ← s.so_far, eq-eqb b n q);
-        its_cost = λ _. ex;
-        within = omega arith;
-        size = s.size;
-      }
+      scan_skip t = record { is_valid = s.is_valid; rows = s.rows; is_best = still best s.is_best }
+        where
+          same : best_to d costs (waiting d h j) (N d) (i + 1) ≡ best_to d costs (waiting d h j) (N d) i
+          same = rw (add-one, ← er, t)
 
-      module _ {g : Bool} (q : b ≢ n) (eg : g ≡ before d.flights x c i b) where
-        goes : g ≡ ahead d costs i b
-        unfolding ahead_of
-        goes = rw (← ex, ← s.its_cost q) eg
+          still : (best : Option Waiting) → IsBest d costs h j i best → IsBest d costs h j (i + 1) best
+          still (Some w) b = (same ∙ b.0, b.1, b.2)
+          still None b = same ∙ b
 
-        pub scan_better : g ≡ true → Scan d costs h j n (i + 1) i x
+      module _ {x : ℕ} (ex : x ≡ costs i) (t : r ≡ true) where
+        -- none waited before it
+        pub scan_fresh : best ≡ None → Scan d costs h j (i + 1) (Some (record { place = i; cost = x }))
         unfolding best_to pick
-        scan_better u = record {
+        scan_fresh q = record {
           is_valid = s.is_valid;
-          so_far = rw (add-one, ← er, t, ← s.so_far, ne_eqb b n q, ← goes, u);
-          its_cost = λ _. ex;
-          within = omega arith;
-          size = s.size;
+          rows = s.rows;
+          is_best = (
+            let b : best_to d costs (waiting d h j) (N d) i ≡ N d = rw q at s.is_best in
+                rw (add-one, ← er, t, b, eq-eqb (N d) (N d) refl),
+            ex,
+            in_row,
+          );
         }
 
-        pub scan_worse : g ≡ false → Scan d costs h j n (i + 1) b c
-        unfolding best_to pick
-        scan_worse u = record {
-          is_valid = s.is_valid;
-          so_far = rw (add-one, ← er, t, ← s.so_far, ne_eqb b n q, ← goes, u);
-          its_cost = s.its_cost;
-          within = omega arith;
-          size = s.size;
-        }
+        module _ {w : Waiting} (q : best ≡ Some w) {g : Bool} (eg : g ≡ before d.flights x w.cost i w.place) where
+          b : IsBest d costs h j i (Some w)
+          b = rw q at s.is_best
 
-pub scan_end : {d : Day} {costs : ℕ → ℕ} {h : List ℕ} {j n i b c : ℕ} → Scan d costs h j n i b c → n ≤ i → b ≡ top d costs j h
+          goes : g ≡ ahead d costs i w.place
+          unfolding ahead_of
+          goes = rw (← ex, ← b.1) eg
+
+          pub scan_better : g ≡ true → Scan d costs h j (i + 1) (Some (record { place = i; cost = x }))
+          unfolding best_to pick
+          scan_better u = record {
+            is_valid = s.is_valid;
+            rows = s.rows;
+            is_best = (rw (add-one, ← er, t, b.0, ne_eqb w.place (N d) (omega (arith, b.2)), ← goes, u), ex, in_row);
+          }
+
+          pub scan_worse : g ≡ false → Scan d costs h j (i + 1) (Some w)
+          unfolding best_to pick
+          scan_worse u = record {
+            is_valid = s.is_valid;
+            rows = s.rows;
+            is_best = (rw (add-one, ← er, t, b.0, ne_eqb w.place (N d) (omega (arith, b.2)), ← goes, u), b.1, b.2);
+          }
+
+pub scan_end : {d : Day} {costs : ℕ → ℕ} {h : List ℕ} {j i : ℕ} (best : Option Waiting) → Scan d costs h j i best → i ≡ length h
+    → option_map (λ w. w.place) best ≡ place_if (length h) (top d costs j h)
 unfolding top
-scan_end {d = d} {i = i} s g = let a : i ≡ N d = omega (arith, s.within, s.size) in s.so_far ∙ rw (a, s.size)
+scan_end {d = d} (Some w) s e = let b = rw (e ∙ s.rows) at s.is_best in rw (s.rows, b.0, lt-ltb w.place (N d) b.2)
+scan_end {d = d} None s e = let b = rw (e ∙ s.rows) at s.is_best in rw (s.rows, b, le-ltb (N d) (N d) (omega arith))
 
 -- ---- the landings of a period
 
@@ -167,31 +166,30 @@ module _ {d : Day} {costs : ℕ → ℕ} {j m left : ℕ} {h₀ h : List ℕ} (s
   pub landing_early : j ≤ most_periods
   landing_early = omega (arith, s.open_period, (valid_means s.is_valid).periods_to)
 
-  module _ {b : ℕ} (eb : b ≡ top d costs j h) where
-    pub landing_stop : b ≡ length h₀ → h ≡ land_all d costs j m h₀
-    landing_stop q = sym (s.same_row ∙ land_none d costs j s.open_period left h (sym eb ∙ q ∙ s.rows))
+  pub landing_stop : place_if (length h) (top d costs j h) ≡ None → h ≡ land_all d costs j m h₀
+  landing_stop none = sym (s.same_row ∙ land_none d costs j s.open_period left h (elim (eq? (top d costs j h) (N d)) [
+    | inl q ↦ q
+    | inr o ↦ omega (arith, (top_lands d costs h j refl o).0, no_place none, s.same_length, s.rows)
+  ]))
+
+  module _ {i : ℕ} (found : place_if (length h) (top d costs j h) ≡ Some i) where
+    at_top : (i ≡ top d costs j h) × (top d costs j h ≢ N d)
+    at_top = let w = some_place found in (w.0, λ q. omega (arith, w.1, s.same_length, s.rows))
 
     -- the flight found is one of the row, and due by now
-    pub landing_flight : b ≢ length h₀ → (b < length h) × ((b + 1) * width ≤ length d.flights) × (due d b ≤ j)
-    landing_flight q =
-        let w = top_lands d costs h j eb (λ e. q (e ∙ sym s.rows)) in
-        (omega (arith, w.0, s.same_length, s.rows), there d.flights b w.0, w.1)
+    pub landing_flight : (i < length h) × ((i + 1) * width ≤ length d.flights) × (due d i ≤ j)
+    landing_flight =
+        let w = top_lands d costs h j at_top.0 (λ e. at_top.1 (sym at_top.0 ∙ e)) in
+        (omega (arith, w.0, s.same_length, s.rows), there d.flights i w.0, w.1)
 
-    pub landing_more : 0 < left → b ≢ length h₀ → {from : ℕ} → from ≡ due d b → Landing d costs j m h₀ (left - 1) (set h b (j - from))
-    landing_more l q ed = record {
+    pub landing_more : {from after : ℕ} → from ≡ due d i → suc after ≡ left → Landing d costs j m h₀ after (set h i (j - from))
+    landing_more {after = after} ed up = record {
       is_valid = s.is_valid;
       open_period = s.open_period;
       rows = s.rows;
-      same_length = length-set h b _ ∙ s.same_length;
-      same_row = rw (ed, eb) (s.same_row ∙ go left l);
+      same_length = length-set h i _ ∙ s.same_length;
+      same_row = rw (ed, at_top.0) (s.same_row ∙ (rw up at (land_one d costs j s.open_period after h at_top.1)));
     }
-      where
-        pred : (k : ℕ) → suc k - 1 ≡ k
-        pred k = omega arith
-
-        go : (left : ℕ) → 0 < left → land_all d costs j left h ≡ land_all d costs j (left - 1) (put d j h (top d costs j h))
-        go zero l = absurd (omega arith)
-        go (suc k) l = rw (pred k) (land_one d costs j s.open_period k h (λ z. q (eb ∙ z ∙ sym s.rows)))
 
   pub landing_end : left ≤ 0 → h ≡ land_all d costs j m h₀
   unfolding land_all
@@ -242,56 +240,39 @@ module _ {d : Day} {h₀ h : List ℕ} {i : ℕ} (s : Started d h₀ h i) where
 
 -- ---- the periods
 
--- h is the row after the periods 1 to j
+-- h is the row after the periods before j
 pub record Planned (d : Day) (next : ℕ → ℕ → ℕ) (h : List ℕ) (j : ℕ) : Type 0 where
   pub is_valid : valid d ≡ true
   pub rows : length h ≡ N d
-  pub so_far : h ≡ row_to d next j
+  pub so_far : h ≡ row_to d next (j - 1)
 
-pub planned_start : {d : Day} (next : ℕ → ℕ → ℕ) {h : List ℕ} → valid d ≡ true → length h ≡ N d → h ≡ row (N d) (at_closing d) → Planned d next h 0
+pub planned_start : {d : Day} (next : ℕ → ℕ → ℕ) {h : List ℕ} → valid d ≡ true → length h ≡ N d → h ≡ row (N d) (at_closing d) → Planned d next h 1
 unfolding row_to
 planned_start next v q e = record { is_valid = v; rows = q; so_far = e }
 
 module _ {d : Day} {next : ℕ → ℕ → ℕ} {h : List ℕ} {j : ℕ} (s : Planned d next h j) where
-  pub planned_next : {x : List ℕ} → length x ≡ length h → x ≡ land_all d (next (j + 1)) (j + 1) (capacity d (j + 1)) h → Planned d next x (j + 1)
+  pub planned_next : {x : List ℕ} → 1 ≤ j → length x ≡ length h → x ≡ land_all d (next j) j (capacity d j) h → Planned d next x (j + 1)
   unfolding row_to
-  planned_next q ex = record { is_valid = s.is_valid; rows = q ∙ s.rows; so_far = rw add-one (ex ∙ rw (s.so_far, add-one)) }
+  planned_next {x} l q ex = record { is_valid = s.is_valid; rows = q ∙ s.rows; so_far = go (j - 1) (omega arith) (omega arith) s.so_far }
+    where
+      go : (k : ℕ) → suc k ≡ j → j + 1 - 1 ≡ j → h ≡ row_to d next k → x ≡ row_to d next (j + 1 - 1)
+      go k e up so = rw up (ex ∙ rw so (after k e))
+        where
+          after : (k : ℕ) → suc k ≡ j → land_all d (next j) j (capacity d j) (row_to d next k) ≡ row_to d next j
+          after k e = rw (← e) refl
 
-  pub planned_end : {stop : ℕ} → j ≤ stop → stop ≤ j → h ≡ row_to d next stop
-  planned_end l g = s.so_far ∙ ap (row_to d next) (omega arith)
+  pub planned_end : {stop : ℕ} → stop < j → j ≤ suc stop → h ≡ row_to d next stop
+  planned_end {stop} g l = let q : j - 1 ≡ stop = omega arith in rw q at s.so_far
 
 -- ---- the first jump or limit
 
--- none of the flights below i has a jump or a limit
-pub record Plain (f : List ℕ) (n i : ℕ) : Type 0 where
-  pub size : n ≡ flight_count f
-  pub within : i ≤ n
-  pub none : (k : ℕ) → k < i → jump_or_limit (flight_at f k) ≡ false
-
-pub plain_start : {f : List ℕ} {n : ℕ} → n ≡ flight_count f → Plain f n 0
-plain_start e = record { size = e; within = omega arith; none = λ k l. absurd (omega arith) }
-
-module _ {f : List ℕ} {n i : ℕ} (s : Plain f n i) where
-  pub plain_there : i < n → (i + 1) * width ≤ length f
-  plain_there l = there f i (omega (arith, s.size))
-
-  module _ (l : i < n) {x : Flight} (read : x ≡ flight_at f i) {t : Bool} (found : t ≡ jump_or_limit x) where
-    pub plain_stop : t ≡ true → i ≡ first_jump_or_limit f
-    unfolding first_jump_or_limit
-    plain_stop e =
-        sym (first_at (flight_count f) (λ k. jump_or_limit (flight_at f k)) i (omega (arith, s.size)) s.none (sym (found ∙ ap jump_or_limit read) ∙ e))
-
-    pub plain_next : t ≡ false → Plain f n (i + 1)
-    plain_next e = record {
-      size = s.size;
-      within = omega arith;
-      none = λ k b. elim (eq? k i) [
-        | inl q ↦ rw q (sym (found ∙ ap jump_or_limit read) ∙ e)
-        | inr q ↦ s.none k (omega arith)
-      ];
-    }
-
-  pub plain_end : n ≤ i → n ≡ first_jump_or_limit f
-  unfolding first_jump_or_limit
-  plain_end g =
-      s.size ∙ sym (first_none (flight_count f) (λ k. jump_or_limit (flight_at f k)) (λ k l. s.none k (omega (arith, s.size, s.within))))
+-- the first with a jump or a limit is found, or there is none
+pub first_is : (f : List ℕ) {n : ℕ} → n ≡ flight_count f → (found : Option ℕ)
+    → MatchOption found ((k : ℕ) → 0 ≤ k → k < n → jump_or_limit (flight_at f k) ≡ false)
+    (λ i. (0 ≤ i) × (i < n) × (jump_or_limit (flight_at f i) ≡ true) × ((k : ℕ) → 0 ≤ k → k < i → jump_or_limit (flight_at f k) ≡ false))
+    → found ≡ place_if (flight_count f) (first_jump_or_limit f)
+unfolding first_jump_or_limit
+first_is f size (Some i) w =
+    rw (first_at (flight_count f) (λ k. jump_or_limit (flight_at f k)) i (omega (arith, w.1)) (λ k. w.3 k zero-le) w.2, lt-ltb i (flight_count f) (omega (arith, w.1)))
+first_is f size None none =
+    rw (first_none (flight_count f) (λ k. jump_or_limit (flight_at f k)) (λ k l. none k zero-le (omega arith)), le-ltb (flight_count f) (flight_count f) (omega arith))

@@ -10,12 +10,12 @@ use lib.ListN.{length, get_or, drop, length-append, length-drop, drop_of_length-
 use lib.Seq.{drop-append_seam}
 use lib.Dec.{ltb, leb, eqb, lit≤, lit<}
 use borrow.Author.Tests.{le-leb, leb-true, eq-eqb, ne_eqb, eqb-true, eqb-false, le-ltb, not-true}
-use Rattle.answers.specs.declared.Answer.{Answer}
-use Rattle.answers.specs.declared.Answer.TheVariants.{NumberUsed}
+use Rattle.answers.specs.declared.Refusal.{Refusal}
+use Rattle.answers.specs.declared.Refusal.TheVariants.{NumberUsed}
 use Rattle.text.specs.Digits.{ended, separated}
 use Rattle.text.specs.Fixed.{starts_with}
 use Rattle.text.specs.declared.Number.{Number}
-use Rattle.text.specs.declared.Number.TheVariants.{Value, Bad}
+use Rattle.std.specs.Prelude.{Option, Some, None}
 use Rattle.text.proofs.Digits.{split, length_ended, ended_short, count_le}
 use Rattle.text.proofs.Reading.{past, stand, within}
 use Rattle.text.proofs.Lines.{separated_short, line_first}
@@ -25,11 +25,9 @@ use Rattle.day.specs.declared.Flight.{Flight}
 use Rattle.day.specs.Day.{unlimited, most_periods, most_flights, flight_fits}
 use Rattle.assignment.proofs.Tests.{and_true, true_and}
 use Rattle.sheet.specs.declared.PeriodLine.{PeriodLine}
-use Rattle.sheet.specs.declared.PeriodLine.TheVariants.{Period, NoPeriod}
 use Rattle.sheet.specs.declared.FlightLine.{FlightLine}
-use Rattle.sheet.specs.declared.FlightLine.TheVariants.{Row, NoRow}
 use Rattle.sheet.specs.Text.{period_names, flight_names, closing_name, closing_text, limit_text, period_text, before_limit, flight_text, periods_text, flights_text, sheet_text}
-use Rattle.sheet.specs.Lines.{most_digits, period_line, closing_line, flight_line, used}
+use Rattle.sheet.specs.Lines.{some_period_line, some_flight_line, most_digits, period_line, closing_line, flight_line, used}
 use Rattle.sheet.specs.Sheet.{Reading, read, refused, on_flight, on_period, on_closing, read_flights, named, ends_periods, periods_end, read_periods, read_sheet}
 use Rattle.sheet.specs.Good.{distinct, caps_fit, flights_fit, Good, limit_fits}
 use Rattle.sheet.proofs.Lines.{short, names_front, text_line, text_none, closing_read, closing_write, limit_cases, text_missing, text_number, present, period_read, flight_read, period_write, flight_write, fits_small}
@@ -67,7 +65,7 @@ distinct_more above (g ∷ fs) f a b = let e = and_true {a = not (used g.number 
 
 -- a sheet read is the sheet of its day, and the day is good
 
-never : (a : Answer) (C : List ℕ) (F : List Flight) (K : ℕ) → refused a ≡ read C F K → ⊥
+never : (a : Refusal) (C : List ℕ) (F : List Flight) (K : ℕ) → refused a ≡ read C F K → ⊥
 never a C F K e = let z : ◌≡◌ {A = ℕ} 0 1 = cc in omega arith
 
 picked : (b : Bool) (x y : Reading) (C : List ℕ) (F : List Flight) (K : ℕ) → cond b x y ≡ read C F K
@@ -80,23 +78,23 @@ record Back (front s : List ℕ) (at : ℕ) (C : List ℕ) (F : List Flight) (K 
   text : sheet_text C F K ≡ front ++ drop at s
   good : Good C F K
 
-record Went (at : ℕ) (caps : List ℕ) (fs : List Flight) (l : FlightLine) (go : Flight → ℕ → Reading) (C : List ℕ) (F : List Flight) (K : ℕ) : Type 0 where
+record Went (at : ℕ) (caps : List ℕ) (fs : List Flight) (l : Option FlightLine) (go : Flight → ℕ → Reading) (C : List ℕ) (F : List Flight) (K : ℕ) : Type 0 where
   f : Flight
   next : ℕ
-  line : l ≡ Row f next
+  line : l ≡ some_flight_line f next
   fits : flight_fits (length caps) f ≡ true
   new : used f.number fs ≡ false
   on : go f next ≡ read C F K
 
-went : (at : ℕ) (caps : List ℕ) (fs : List Flight) (l : FlightLine) (go : Flight → ℕ → Reading) (C : List ℕ) (F : List Flight) (K : ℕ)
+went : (at : ℕ) (caps : List ℕ) (fs : List Flight) (l : Option FlightLine) (go : Flight → ℕ → Reading) (C : List ℕ) (F : List Flight) (K : ℕ)
     → on_flight at caps fs l go ≡ read C F K → Went at caps fs l go C F K
-went at caps fs NoRow go C F K e = absurd (never _ C F K e)
-went at caps fs (Row f next) go C F K e = elim (picked (flight_fits (length caps) f) _ _ C F K e) [ inl a ↦ inner a | inr a ↦ absurd (never _ C F K a.1) ]
+went at caps fs None go C F K e = absurd (never _ C F K e)
+went at caps fs (Some l) go C F K e = elim (picked (flight_fits (length caps) l.flight) _ _ C F K e) [ inl a ↦ inner a | inr a ↦ absurd (never _ C F K a.1) ]
   where
-    inner : (flight_fits (length caps) f ≡ true) × (cond (used f.number fs) (refused (NumberUsed at)) (go f next) ≡ read C F K) → Went at caps fs (Row f next) go C F K
-    inner a = elim (picked (used f.number fs) _ _ C F K a.1) [
+    inner : (flight_fits (length caps) l.flight ≡ true) × (cond (used l.flight.number fs) (refused (NumberUsed at)) (go l.flight l.next) ≡ read C F K) → Went at caps fs (Some l) go C F K
+    inner a = elim (picked (used l.flight.number fs) _ _ C F K a.1) [
       | inl b ↦ absurd (never _ C F K b.1)
-      | inr b ↦ record { f = f; next = next; line = refl; fits = a.0; new = b.0; on = b.1 }
+      | inr b ↦ record { f = l.flight; next = l.next; line = refl; fits = a.0; new = b.0; on = b.1 }
     ]
 
 at_end : (s : List ℕ) (at : ℕ) (caps C : List ℕ) (fs F : List Flight) (k K : ℕ) → Good caps fs k → eqb at (length s) ≡ true → read caps fs k ≡ read C F K
@@ -149,14 +147,14 @@ module _ (s : List ℕ) (caps : List ℕ) (h : length caps ≤ most_periods) (so
     | inr a ↦ absurd (never _ C F K a.1)
   ]
 
-  closing_back : (at : ℕ) (l : Number) → closing_line s at ≡ l → starts_with (drop at s) closing_name ≡ true
+  closing_back : (at : ℕ) (l : Option Number) → closing_line s at ≡ l → starts_with (drop at s) closing_name ≡ true
       → on_closing at l (λ c next. named s next caps c) ≡ read C F K → Back (period_names ++ periods_text 1 caps) s at C F K
-  closing_back at Bad q n e = absurd (never _ C F K e)
-  closing_back at (Value c next) q n e = elim (picked (leb c 255) _ _ C F K e) [
+  closing_back at None q n e = absurd (never _ C F K e)
+  closing_back at (Some p) q n e = elim (picked (leb p.n 255) _ _ C F K e) [
     | inl a ↦
-        let z : c ≤ 255 = leb-true c 255 a.0 in
-        let b = named_back next c (omega arith) a.1 in
-        record { text = b.text ∙ rw (text_line c (omega arith), (closing_read s at c next n q).text) (simp append_assoc); good = b.good }
+        let z : p.n ≤ 255 = leb-true p.n 255 a.0 in
+        let b = named_back p.next p.n (omega arith) a.1 in
+        record { text = b.text ∙ rw (text_line p.n (omega arith), (closing_read s at p.n p.next n q).text) (simp append_assoc); good = b.good }
     | inr a ↦ absurd (never _ C F K a.1)
   ]
 
@@ -176,23 +174,23 @@ end_back s at caps C F K h f e = elim (picked (eqb (length caps) 0) _ _ C F K e)
       ]
 ]
 
-record Step (at : ℕ) (caps : List ℕ) (l : PeriodLine) (go : ℕ → ℕ → Reading) (C : List ℕ) (F : List Flight) (K : ℕ) : Type 0 where
+record Step (at : ℕ) (caps : List ℕ) (l : Option PeriodLine) (go : ℕ → ℕ → Reading) (C : List ℕ) (F : List Flight) (K : ℕ) : Type 0 where
   c : ℕ
   next : ℕ
-  line : l ≡ Period (length caps + 1) c next
+  line : l ≡ some_period_line (length caps + 1) c next
   fits : leb c 255 ≡ true
   on : go c next ≡ read C F K
 
-stepped : (at : ℕ) (caps : List ℕ) (l : PeriodLine) (go : ℕ → ℕ → Reading) (C : List ℕ) (F : List Flight) (K : ℕ)
+stepped : (at : ℕ) (caps : List ℕ) (l : Option PeriodLine) (go : ℕ → ℕ → Reading) (C : List ℕ) (F : List Flight) (K : ℕ)
     → on_period at caps l go ≡ read C F K → Step at caps l go C F K
-stepped at caps NoPeriod go C F K e = absurd (never _ C F K e)
-stepped at caps (Period j c next) go C F K e = elim (picked (eqb j (length caps + 1) && leb c 255) _ _ C F K e) [
+stepped at caps None go C F K e = absurd (never _ C F K e)
+stepped at caps (Some l) go C F K e = elim (picked (eqb l.number (length caps + 1) && leb l.capacity 255) _ _ C F K e) [
   | inl a ↦ inner (and_true a.0) a.1
   | inr a ↦ absurd (never _ C F K a.1)
 ]
   where
-    inner : (eqb j (length caps + 1) ≡ true) × (leb c 255 ≡ true) → go c next ≡ read C F K → Step at caps (Period j c next) go C F K
-    inner b o = record { c = c; next = next; line = rw (eqb-true j (length caps + 1) b.0); fits = b.1; on = o }
+    inner : (eqb l.number (length caps + 1) ≡ true) × (leb l.capacity 255 ≡ true) → go l.capacity l.next ≡ read C F K → Step at caps (Some l) go C F K
+    inner b o = record { c = l.capacity; next = l.next; line = rw (eqb-true l.number (length caps + 1) b.0); fits = b.1; on = o }
 
 periods_back : (m : ℕ) (s : List ℕ) (at : ℕ) (caps C : List ℕ) (F : List Flight) (K : ℕ) → length caps + m ≤ most_periods → caps_fit caps ≡ true
     → read_periods m s at caps ≡ read C F K → Back (period_names ++ periods_text 1 caps) s at C F K
@@ -317,7 +315,7 @@ no_end s at = go (drop at s)
   where
     go : (l : List ℕ) → get_or l 0 0 ≤ 57 → starts_with l flight_names || starts_with l closing_name ≡ false
     go [] h = refl
-    go (x ∷ xs) h = rw (ne_eqb x 102 (λ e. omega arith), ne_eqb x 99 (λ e. omega arith))
+    go (x ∷ xs) h = rw (ne_eqb 102 x (λ e. omega arith), ne_eqb 99 x (λ e. omega arith))
 
 begins_with_digit : (j c : ℕ) (ys : List ℕ) → get_or (period_text j c ++ ys) 0 0 ≤ 57
 unfolding period_text
@@ -373,7 +371,7 @@ module _ (s : List ℕ) (caps : List ℕ) (fs : List Flight) (k : ℕ) (g : Good
       go (suc m) w = rw w.0 w.1
 
 period_on : (m : ℕ) (s : List ℕ) (at : ℕ) (caps : List ℕ) (c next : ℕ) → ends_periods s at ≡ false
-    → period_line s at ≡ Period (length caps + 1) c next → leb c 255 ≡ true
+    → period_line s at ≡ some_period_line (length caps + 1) c next → leb c 255 ≡ true
     → read_periods (suc m) s at caps ≡ read_periods m s next (caps ++ (c ∷ []))
 unfolding read_periods
 period_on m s at caps c next n l f = rw (n, l, eq-eqb (length caps + 1) (length caps + 1) refl, f)
@@ -407,7 +405,7 @@ sheet_short caps fs k g =
     simp length-append (omega (arith, length_top, length_names, closing_short k, g.periods, g.flights))
 
 -- A good day's sheet is read as that day. By induction on the lines: each is read as its values, by the law of a line, and the rest stands behind
--- it. Behind the period lines stands the closing line or, if the number is 256, the second names line.
+-- it. Some the period lines stands the closing line or, if the number is 256, the second names line.
 pub text_read : (caps : List ℕ) (fs : List Flight) (k : ℕ) → Good caps fs k → read_sheet (sheet_text caps fs k) ≡ read caps fs k
 unfolding read_sheet sheet_text
 text_read caps fs k g =

@@ -1,8 +1,11 @@
--- A flight number used above: one flight more, and the loop that looks for it from the last flight back.
+-- A flight number used above: one flight more, and the loop that looks for it.
 -- Assumes nothing.
-use Prim.Native.Nat.{ℕ, suc, ◌<◌, ◌+◌, ◌-◌, ◌*◌}
+use Prim.Native.Nat.{ℕ, zero, suc, ◌<◌, ◌+◌, ◌*◌}
 use native.Mathlib.Omega.{arith}
-use mathlib.Core.Path.{◌≡◌, refl, ap, ◌∙◌}
+use native.Mathlib.Numerals.{add-one}
+use mathlib.Core.Logic.{inl, inr}
+use Rattle.text.proofs.Digits.{split}
+use mathlib.Core.Path.{◌≡◌, refl, ◌∙◌}
 use mathlib.Core.List.{List, [], ◌∷◌, ◌++◌}
 use mathlib.Core.Bool.{Bool, true, false, ◌||◌}
 use lib.ListN.{get_or}
@@ -30,24 +33,21 @@ pub used_step : (x : ℕ) (row : List ℕ) (j : ℕ) → used x (first_flights (
 unfolding first_flights flight_at
 used_step x row j = used_snoc x (first_flights j row) (flight_at row j)
 
-module _ (x : ℕ) (row : List ℕ) (j : ℕ) (h : 0 < j) where
-  back : j ≡ suc (j - 1)
-  back = omega arith
+or_true : (b : Bool) → b || true ≡ true
+or_true true = refl
+or_true false = refl
 
-  pub used_here : get_or row ((j - 1) * width + 0) 0 ≡ x → used x (first_flights j row) ≡ true
-  used_here e = ap (λ (k : ℕ). used x (first_flights k row)) back ∙ (used_step x row (j - 1) ∙ rw (eq-eqb _ _ e) (go (used x (first_flights (j - 1) row))))
-    where
-      go : (b : Bool) → b || true ≡ true
-      go true = refl
-      go false = refl
+module _ (x : ℕ) (row : List ℕ) where
+  pub used_here : (j n : ℕ) → j < n → get_or row (j * width + 0) 0 ≡ x → used x (first_flights n row) ≡ true
+  used_here j zero h e = absurd (omega arith)
+  used_here j (suc m) h e = elim (split j m) [
+    | inl l ↦ used_step x row m ∙ rw (used_here j m l e)
+    | inr l ↦ let z : m ≡ j = omega arith in used_step x row m ∙ rw (z, eq-eqb _ _ e) (or_true (used x (first_flights j row)))
+  ]
 
-  pub used_below : (get_or row ((j - 1) * width + 0) 0 ≡ x → ⊥) → used x (first_flights j row) ≡ used x (first_flights (j - 1) row)
-  used_below e = ap (λ (k : ℕ). used x (first_flights k row)) back ∙ (used_step x row (j - 1) ∙ rw (ne_eqb _ _ e) (go (used x (first_flights (j - 1) row))))
-    where
-      go : (b : Bool) → b || false ≡ b
-      go true = refl
-      go false = refl
+  pub used_start : used x (first_flights 0 row) ≡ false
+  unfolding first_flights used
+  used_start = refl
 
-pub used_none : (x : ℕ) (row : List ℕ) (j : ℕ) → j ≡ 0 → used x (first_flights j row) ≡ false
-unfolding first_flights used
-used_none x row j e = rw e
+  pub used_next : (j : ℕ) → used x (first_flights j row) ≡ false → (get_or row (j * width + 0) 0 ≡ x → ⊥) → used x (first_flights (j + 1) row) ≡ false
+  used_next j h e = rw (add-one) (used_step x row j ∙ rw (h, ne_eqb _ _ e))

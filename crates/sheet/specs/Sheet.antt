@@ -1,32 +1,30 @@
 -- A whole sheet read, its closing line (#108) included, in document 01's order of tests: "then 1, then lines from the top, in each line
 -- 5, 2, 3, 4".
 -- Assumes nothing.
-use Rattle.std.specs.Prelude.{ℕ, zero, suc, ◌+◌, ◌*◌, List, [], ◌∷◌, ◌++◌, Bool, cond, ◌&&◌, ◌||◌, ltb, leb, eqb, length, drop}
-use Rattle.answers.specs.declared.Answer.{Answer}
-use Rattle.answers.specs.declared.Answer.TheVariants.{Read, TooLong, BadForm, OutOfRange, NumberUsed, BadCount, BadLength}
+use Rattle.std.specs.Prelude.{ℕ, zero, suc, ◌+◌, ◌*◌, List, [], ◌∷◌, ◌++◌, Bool, cond, ◌&&◌, ◌||◌, ltb, leb, eqb, length, drop, Option, Some, None, Result, Ok, Err}
+use Rattle.answers.specs.declared.Refusal.{Refusal}
+use Rattle.answers.specs.declared.Refusal.TheVariants.{TooLong, BadForm, OutOfRange, NumberUsed, BadCount, BadLength}
 use Rattle.text.specs.Fixed.{starts_with}
 use Rattle.text.specs.declared.Number.{Number}
-use Rattle.text.specs.declared.Number.TheVariants.{Value, Bad}
 use Rattle.day.specs.declared.Flight.{Flight}
 use Rattle.day.specs.Day.{unlimited, most_periods, most_flights, width, flight_fits}
 use Rattle.day.specs.Flights.{row_of}
 use Rattle.sheet.specs.declared.PeriodLine.{PeriodLine}
-use Rattle.sheet.specs.declared.PeriodLine.TheVariants.{Period, NoPeriod}
 use Rattle.sheet.specs.declared.FlightLine.{FlightLine}
-use Rattle.sheet.specs.declared.FlightLine.TheVariants.{Row, NoRow}
+use Rattle.sheet.specs.declared.SheetRead.{SheetRead}
 use Rattle.sheet.specs.Text.{period_names, flight_names, closing_name}
 use Rattle.sheet.specs.Lines.{period_line, closing_line, flight_line, used}
 
 -- the day's capacities, its flights and its closing number, or why there is no day
 pub data Reading : Type 0 where
   read : List ℕ → List Flight → ℕ → Reading
-  refused : Answer → Reading
+  refused : Refusal → Reading
 
 -- a flight line that begins at `at`: 2, 3 and 4, else what follows it
-abbrev pub on_flight : ℕ → List ℕ → List Flight → FlightLine → (Flight → ℕ → Reading) → Reading
-on_flight at capacities above NoRow go = refused (BadForm at)
-on_flight at capacities above (Row f next) go =
-    cond (flight_fits (length capacities) f) (cond (used f.number above) (refused (NumberUsed at)) (go f next)) (refused (OutOfRange at))
+abbrev pub on_flight : ℕ → List ℕ → List Flight → Option FlightLine → (Flight → ℕ → Reading) → Reading
+on_flight at capacities above None go = refused (BadForm at)
+on_flight at capacities above (Some l) go =
+    cond (flight_fits (length capacities) l.flight) (cond (used l.flight.number above) (refused (NumberUsed at)) (go l.flight l.next)) (refused (OutOfRange at))
 
 -- at most k more flight lines, after the flights above; 5 "where anything follows 128 flight lines"
 unfoldable pub read_flights : ℕ → List ℕ → ℕ → List ℕ → ℕ → List Flight → Reading
@@ -41,9 +39,9 @@ named s at capacities closing =
     cond (starts_with (drop at s) flight_names) (read_flights most_flights s (at + length flight_names) capacities closing []) (refused (BadForm at))
 
 -- a closing line that begins at `at`: 2 and 3, else what follows it
-abbrev pub on_closing : ℕ → Number → (ℕ → ℕ → Reading) → Reading
-on_closing at Bad go = refused (BadForm at)
-on_closing at (Value c next) go = cond (leb c 255) (go c next) (refused (OutOfRange at))
+abbrev pub on_closing : ℕ → Option Number → (ℕ → ℕ → Reading) → Reading
+on_closing at None go = refused (BadForm at)
+on_closing at (Some p) go = cond (leb p.n 255) (go p.n p.next) (refused (OutOfRange at))
 
 -- "The second names line ends the period lines.", and so does "any line beginning `closing,`" between the two names lines (#108)
 unfoldable pub ends_periods : List ℕ → ℕ → Bool
@@ -58,9 +56,9 @@ periods_end s at capacities =
     (cond (starts_with (drop at s) closing_name) (on_closing at (closing_line s at) (λ c next. named s next capacities c)) (named s at capacities unlimited))
 
 -- a period line that begins at `at`: 2 and 3, else what follows it
-abbrev pub on_period : ℕ → List ℕ → PeriodLine → (ℕ → ℕ → Reading) → Reading
-on_period at above NoPeriod go = refused (BadForm at)
-on_period at above (Period j c next) go = cond (eqb j (length above + 1) && leb c 255) (go c next) (refused (OutOfRange at))
+abbrev pub on_period : ℕ → List ℕ → Option PeriodLine → (ℕ → ℕ → Reading) → Reading
+on_period at above None go = refused (BadForm at)
+on_period at above (Some l) go = cond (eqb l.number (length above + 1) && leb l.capacity 255) (go l.capacity l.next) (refused (OutOfRange at))
 
 -- at most k more period lines, after the capacities above; 5 where anything but a line that ends them "follows 96 period lines", and 2
 -- where the sheet ends there
@@ -81,15 +79,10 @@ reading s capacities flights =
     cond (eqb (length capacities) most_periods) (cond (eqb (length flights) (most_flights * width)) (read_sheet s) (refused (BadLength (most_flights * width))))
     (refused (BadLength most_periods))
 
--- its answer: P and N, or the refusal
-abbrev pub answer_of : Reading → Answer
-answer_of (read capacities flights closing) = Read (length capacities) (length flights)
-answer_of (refused a) = a
-
--- the closing number that "the reader answers .. beside P and N, 0 in a refusal" (#108)
-abbrev pub closing_of : Reading → ℕ
-closing_of (read capacities flights closing) = closing
-closing_of (refused a) = 0
+-- its answer: P and N, and the closing number that "the reader answers .. beside P and N" (#108); or the refusal
+abbrev pub answer_of : Reading → Result SheetRead Refusal
+answer_of (read capacities flights closing) = Ok (record { periods = length capacities; flights = length flights; closing = closing })
+answer_of (refused a) = Err a
 
 -- the lent rows afterwards: the day and, past it, what stood there; a refusal leaves them
 abbrev pub capacities_after : Reading → List ℕ → List ℕ

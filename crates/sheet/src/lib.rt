@@ -3,20 +3,27 @@
 
 use day::Flight;
 
+// A period line read: its values and the place behind it.
 #[derive(Clone, Copy)]
-pub enum PeriodLine {
-    Period {
-        number: u32,
-        capacity: u32,
-        next: usize,
-    },
-    NoPeriod,
+pub struct PeriodLine {
+    pub number: u32,
+    pub capacity: u32,
+    pub next: usize,
 }
 
+// A flight line read: its flight and the place behind it.
 #[derive(Clone, Copy)]
-pub enum FlightLine {
-    Row { flight: Flight, next: usize },
-    NoRow,
+pub struct FlightLine {
+    pub flight: Flight,
+    pub next: usize,
+}
+
+// What is known of a sheet that was read: how many periods and flights its day has, and the day's closing number.
+#[derive(Clone, Copy)]
+pub struct SheetRead {
+    pub periods: usize,
+    pub flights: usize,
+    pub closing: u32,
 }
 
 // The most digits of a number in a sheet.
@@ -26,16 +33,10 @@ pub const DIGITS: usize = 7;
 pub const DASH: u8 = b'-';
 
 // The first names line.
-pub const PERIOD_NAMES_LEN: usize = 16;
-
-pub const PERIOD_NAMES: [u8; PERIOD_NAMES_LEN] = *b"period,capacity\n";
+pub const PERIOD_NAMES: &[u8] = b"period,capacity\n";
 
 // The second names line.
-pub const FLIGHT_NAMES_LEN: usize = 38;
-
-pub const FLIGHT_NAMES: [u8; FLIGHT_NAMES_LEN] = *b"flight,due,rate,after,jump,limit,late\n";
+pub const FLIGHT_NAMES: &[u8] = b"flight,due,rate,after,jump,limit,late\n";
 
 // What the closing line begins with.
-pub const CLOSING_NAME_LEN: usize = 8;
-
-pub const CLOSING_NAME: [u8; CLOSING_NAME_LEN] = *b"closing,";
+pub const CLOSING_NAME: &[u8] = b"closing,";

@@ -1,35 +1,26 @@
 -- How a sheet's lines follow one another in the buffer: one line more, and the whole.
 -- Assumes nothing.
+use Rattle.std.proofs.Common.{Ok, Err}
 use Prim.Native.Nat.{ℕ, zero, suc, ◌≤◌, ◌<◌, ◌+◌, ◌-◌}
 use native.Mathlib.Omega.{arith}
 use native.Mathlib.Numerals.{add-one}
-use mathlib.Core.Path.{◌≡◌, refl, ap, sym, ◌∙◌}
+use mathlib.Core.Path.{◌≡◌, refl, ap, ◌∙◌}
 use mathlib.Core.List.{List, [], ◌∷◌, ◌++◌, append_assoc}
 use mathlib.Core.Bool.{true, false}
-use lib.ListN.{length, get_or, take, drop, set, length-append, take-append-drop}
+use lib.ListN.{length, get_or, take, drop, length-append, take-append-drop}
 use lib.Seq.{take-suc, length-take-le}
 use borrow.Author.Tests.{ltb-true, ltb-false}
-use Rattle.answers.specs.declared.Answer.TheVariants.{Written, BadDay, BadLength}
+use Rattle.answers.specs.declared.Refusal.TheVariants.{BadDay, BadLength}
 use Rattle.text.specs.Digits.{ended, separated}
 use Rattle.text.specs.Writing.{Put}
-use Rattle.text.proofs.Writing.{placed_zero, put_none, then, not_fits, it_fits}
+use Rattle.text.proofs.Writing.{put_none, then, not_fits, it_fits}
 use Rattle.day.specs.declared.Flight.{Flight}
 use Rattle.day.specs.Day.{Day, N, unlimited, has_line, flight_at, valid}
 use Rattle.day.specs.Flights.{first_flights, flights_of}
 use Rattle.sheet.specs.Text.{period_names, flight_names, closing_name, closing_text, limit_text, period_text, before_limit, flight_text, periods_text, flights_text, sheet_text, sheet_of}
-use Rattle.sheet.proofs.Lines.{text_missing, text_line, text_none}
+use Rattle.sheet.proofs.Lines.{text_line, text_none}
 use Rattle.sheet.proofs.Grammar.{periods_snoc, flights_snoc, length_top, length_names, length_closing, flight_length}
 use Rattle.sheet_writer.specs.Write.{write_answer, write_after}
-
--- the limit's field
-
-pub put_dash : (o : List ℕ) (l : ℕ) → l ≡ 255 → length (limit_text l) ≤ length o → Put o 0 (limit_text l) 2 (set (set o 0 45) 1 44)
-put_dash o l e h = rw (text_missing l e) (go o (rw (text_missing l e) at h))
-  where
-    go : (o : List ℕ) → 2 ≤ length o → Put o 0 (45 ∷ 44 ∷ []) 2 (set (set o 0 45) 1 44)
-    go [] h = absurd (omega arith)
-    go (x ∷ []) h = absurd (omega arith)
-    go (x ∷ y ∷ o) h = record { place = refl; bytes = sym (placed_zero (x ∷ y ∷ o) (45 ∷ 44 ∷ [])) }
 
 -- the closing line
 
@@ -48,8 +39,8 @@ closing_none o at k h g = rw (no_closing k h) (put_none o at (omega arith))
 
 -- one line
 
-pub flight_put : {o o1 o2 o3 : List ℕ} {a b r : ℕ} (f : Flight) → length (flight_text f) ≤ length o → Put o 0 (separated (before_limit f)) a o1
-    → Put o1 a (limit_text f.limit) b o2 → Put o2 b (ended 10 f.late) r o3 → Put o 0 (flight_text f) r o3
+pub flight_put : {o o1 o2 o3 : List ℕ} {at a b r : ℕ} (f : Flight) → at + length (flight_text f) ≤ length o → Put o at (separated (before_limit f)) a o1
+    → Put o1 a (limit_text f.limit) b o2 → Put o2 b (ended 10 f.late) r o3 → Put o at (flight_text f) r o3
 unfolding flight_text
 flight_put f h p q t =
     let l = flight_length f in
@@ -126,17 +117,17 @@ sheet_put {o} caps fs k h d1 e2 e3 e4 e5 =
 
 -- the outcomes of the call
 module _ (d : Day) (buffer : List ℕ) (place : ℕ) where
-  pub bad_day : valid d ≡ false → (BadDay ≡ write_answer d buffer place) × (buffer ≡ write_after d buffer place)
+  pub bad_day : valid d ≡ false → (Err BadDay ≡ write_answer d buffer place) × (buffer ≡ write_after d buffer place)
   unfolding write_answer write_after
   bad_day e = rw e (refl, refl)
 
   module _ (v : valid d ≡ true) where
-    pub too_short : {k : ℕ} → k ≡ length (sheet_of d) → length buffer < place + k → (BadLength k ≡ write_answer d buffer place) × (buffer ≡ write_after d buffer place)
+    pub too_short : {k : ℕ} → k ≡ length (sheet_of d) → length buffer < place + k → (Err (BadLength k) ≡ write_answer d buffer place) × (buffer ≡ write_after d buffer place)
     unfolding write_answer write_after
     too_short e h = rw (v, e) (not_fits buffer (sheet_of d) place (rw e at h))
 
     pub all_written : {k r : ℕ} {t out : List ℕ} → t ≡ sheet_of d → k ≡ length t → place + k ≤ length buffer → Put buffer place t r out
-        → (Written k ≡ write_answer d buffer place) × (out ≡ write_after d buffer place)
+        → (Ok k ≡ write_answer d buffer place) × (out ≡ write_after d buffer place)
     unfolding write_answer write_after
     all_written {k = k} q e h p =
         let z : k ≡ length (sheet_of d) = e ∙ ap length q in

@@ -11,12 +11,11 @@ use lib.ListN.{length, get_or, take, drop, set, length-append, length-set, drop_
 use lib.Seq.{take-suc-set, drop-set-lt, drop-cons, length-take-le}
 use lib.Dec.{lit<}
 use Rattle.text.specs.Digits.{ended, separated, line}
-use Rattle.text.specs.Reading.{field, Numbers, whole, upto, numbers_read, place_of, with_front, then_numbers, separated_at, row_after, values, last_of, with_last, then_last, line_at}
+use Rattle.text.specs.Reading.{some_number, field, Numbers, whole, upto, numbers_read, place_of, with_front, then_numbers, separated_at, row_after, values, last_of, with_last, then_last, line_at}
 use Rattle.text.specs.Standing.{AllShort, FieldsHere, LineHere}
 use Rattle.text.specs.Loops.{Walk}
 use Rattle.text.specs.declared.Number.{Number}
-use Rattle.text.specs.declared.Number.TheVariants.{Value, Bad}
-use Rattle.text.specs.declared.Place.TheVariants.{Behind, NoPlace}
+use Rattle.std.specs.Prelude.{Option, Some, None}
 use Rattle.text.proofs.Reading.{within, join, parted, field_read, field_write, open_up, end_no_digit, comma_no_digit}
 use Rattle.text.proofs.Digits.{length_ended, first_digit}
 
@@ -28,7 +27,7 @@ read_all zero most s at ns next = λ e.
     rw (← a, ← b) (record { count = refl; short = tt; stands = record { text = refl; place = omega arith } })
 read_all (suc k) most s at ns next = go (λ x ms y. read_all k most s x ms y) (field most 44 s at) refl
   where
-    onto : (n x : ℕ) → field most 44 s at ≡ Value n x → (y : Numbers) → with_front (n ∷ []) y ≡ whole ns next
+    onto : (n x : ℕ) → field most 44 s at ≡ some_number n x → (y : Numbers) → with_front (n ∷ []) y ≡ whole ns next
         → ((ms : List ℕ) (m : ℕ) → y ≡ whole ms m → FieldsHere k most s x ms m) → FieldsHere (suc k) most s at ns next
     onto n x q (upto ms) e ih = let z : ◌≡◌ {A = ℕ} 0 1 = cc in absurd (omega arith)
     onto n x q (whole ms y) e ih =
@@ -39,9 +38,9 @@ read_all (suc k) most s at ns next = go (λ x ms y. read_all k most s x ms y) (f
         rw (← a, ← b) (record { count = ap suc r.count; short = (f.short, r.short); stands = join f.stands r.stands })
 
     go : ((x : ℕ) (ms : List ℕ) (m : ℕ) → separated_at k most s x ≡ whole ms m → FieldsHere k most s x ms m)
-        → (p : Number) → field most 44 s at ≡ p → then_numbers p (λ n x. with_front (n ∷ []) (separated_at k most s x)) ≡ whole ns next → FieldsHere (suc k) most s at ns next
-    go ih Bad q e = let z : ◌≡◌ {A = ℕ} 0 1 = cc in absurd (omega arith)
-    go ih (Value n x) q e = onto n x q (separated_at k most s x) e (ih x)
+        → (p : Option Number) → field most 44 s at ≡ p → then_numbers p (λ n x. with_front (n ∷ []) (separated_at k most s x)) ≡ whole ns next → FieldsHere (suc k) most s at ns next
+    go ih None q e = let z : ◌≡◌ {A = ℕ} 0 1 = cc in absurd (omega arith)
+    go ih (Some p) q e = onto p.n p.next q (separated_at k most s p.next) e (ih p.next)
 
 write_all : (k most : ℕ) (s : List ℕ) (at : ℕ) (ns : List ℕ) (next : ℕ) → FieldsHere k most s at ns next → separated_at k most s at ≡ whole ns next
 unfolding separated_at separated
@@ -72,13 +71,13 @@ pub line_law : (k most : ℕ) (s : List ℕ) (at : ℕ) (ns : List ℕ) (last ne
 unfolding line_at line
 line_law k most s at ns last next = (go (separated_at k most s at) refl, back)
   where
-    ends : (ms : List ℕ) (x : ℕ) → separated_at k most s at ≡ whole ms x → (p : Number) → field most 10 s x ≡ p → with_last ms p ≡ values ns last next
+    ends : (ms : List ℕ) (x : ℕ) → separated_at k most s at ≡ whole ms x → (p : Option Number) → field most 10 s x ≡ p → with_last ms p ≡ values ns last next
         → LineHere k most s at ns last next
-    ends ms x q Bad r e = let z : ◌≡◌ {A = ℕ} 0 1 = cc in absurd (omega arith)
-    ends ms x q (Value l y) r e =
+    ends ms x q None r e = let z : ◌≡◌ {A = ℕ} 0 1 = cc in absurd (omega arith)
+    ends ms x q (Some p) r e =
         let a : ms ≡ ns = cc in
-        let b : l ≡ last = cc in
-        let d : y ≡ next = cc in
+        let b : p.n ≡ last = cc in
+        let d : p.next ≡ next = cc in
         let f = separated_read q in
         let g = field_read (lit< tt) r in
         rw (← a, ← b, ← d) (record { count = f.count; short = f.short; last_short = g.short; stands = join f.stands g.stands })
@@ -126,7 +125,7 @@ module _ {s : List ℕ} {at most : ℕ} {row₀ row : List ℕ} {i next : ℕ} (
       rw (append-nil, l, ← w.rest, take-append-drop)
 
   pub walk_end : length row ≤ i
-      → (Behind next ≡ place_of (separated_at (length row₀) most s at)) × (row ≡ row_after (separated_at (length row₀) most s at) row₀)
+      → (Some next ≡ place_of (separated_at (length row₀) most s at)) × (row ≡ row_after (separated_at (length row₀) most s at) row₀)
   unfolding separated_at
   walk_end h = let z : length row₀ - i ≡ 0 = omega (arith, w.long) in rw (w.so_far, z) (refl, filled)
 
@@ -134,21 +133,21 @@ module _ {s : List ℕ} {at most : ℕ} {row₀ row : List ℕ} {i next : ℕ} (
     one_more : length row₀ - i ≡ suc (length row₀ - (i + 1))
     one_more = omega (arith, w.long)
 
-    pub walk_stop : field most 44 s next ≡ Bad
-        → (NoPlace ≡ place_of (separated_at (length row₀) most s at)) × (row ≡ row_after (separated_at (length row₀) most s at) row₀)
+    pub walk_stop : field most 44 s next ≡ None
+        → (None ≡ place_of (separated_at (length row₀) most s at)) × (row ≡ row_after (separated_at (length row₀) most s at) row₀)
     unfolding separated_at
     walk_stop e = rw (w.so_far, one_more, e) (refl, filled)
 
-    pub walk_next : (n x : ℕ) → field most 44 s next ≡ Value n x → Walk s at most row₀ (set row i n) (i + 1) x
+    pub walk_next : (p : Number) → field most 44 s next ≡ Some p → Walk s at most row₀ (set row i p.n) (i + 1) p.next
     unfolding separated_at
-    walk_next n x e =
-        let t : take (suc i) (set row i n) ≡ take i row ++ (n ∷ []) = take-suc-set row i n h in
+    walk_next p e =
+        let t : take (suc i) (set row i p.n) ≡ take i row ++ (p.n ∷ []) = take-suc-set row i p.n h in
         let k : i < length row₀ = omega (arith, w.long) in
         record {
           upto = omega (arith, w.long);
           long = rw length-set w.long;
           within = within (field_read (lit< tt) e).stands w.within;
-          rest = rw (add-one, drop-set-lt (suc i) row i n (omega arith)) (rest_cons h k w.rest);
+          rest = rw (add-one, drop-set-lt (suc i) row i p.n (omega arith)) (rest_cons h k w.rest);
           so_far = w.so_far ∙ rw (one_more, e, front_front, add-one, t);
         }
       where
@@ -156,29 +155,29 @@ module _ {s : List ℕ} {at most : ℕ} {row₀ row : List ℕ} {i next : ℕ} (
         rest_cons h k e = let a = drop-cons row i 0 h in let b = drop-cons row₀ i 0 k in cc
 
 -- where all numbers are read, and where not
-pub all_read : (x : Numbers) (next : ℕ) → place_of x ≡ Behind next → x ≡ whole (numbers_read x) next
+pub all_read : (x : Numbers) (next : ℕ) → place_of x ≡ Some next → x ≡ whole (numbers_read x) next
 all_read (whole ns y) next e = cc
 all_read (upto ns) next e = let z : ◌≡◌ {A = ℕ} 0 1 = cc in absurd (omega arith)
 
-pub none_read : (x : Numbers) → place_of x ≡ NoPlace → x ≡ upto (numbers_read x)
+pub none_read : (x : Numbers) → place_of x ≡ None → x ≡ upto (numbers_read x)
 none_read (whole ns y) e = let z : ◌≡◌ {A = ℕ} 0 1 = cc in absurd (omega arith)
 none_read (upto ns) e = refl
 
 -- the readers of a line, after the separated numbers
 module _ (k most : ℕ) (s : List ℕ) (at : ℕ) where
-  pub line_bad : place_of (separated_at k most s at) ≡ NoPlace → Bad ≡ last_of (line_at k most s at)
+  pub line_bad : place_of (separated_at k most s at) ≡ None → None ≡ last_of (line_at k most s at)
   unfolding line_at
   line_bad e = rw (none_read (separated_at k most s at) e)
 
-  pub line_last : (m : ℕ) → place_of (separated_at k most s at) ≡ Behind m → field most 10 s m ≡ last_of (line_at k most s at)
+  pub line_last : (m : ℕ) → place_of (separated_at k most s at) ≡ Some m → field most 10 s m ≡ last_of (line_at k most s at)
   unfolding line_at
   line_last m e = rw (all_read (separated_at k most s at) m e) (go (field most 10 s m))
     where
-      go : (p : Number) → p ≡ last_of (with_last (numbers_read (separated_at k most s at)) p)
-      go (Value n next) = refl
-      go Bad = refl
+      go : (p : Option Number) → p ≡ last_of (with_last (numbers_read (separated_at k most s at)) p)
+      go (Some p) = refl
+      go None = refl
 
-  pub place_within : (m : ℕ) → at ≤ length s → place_of (separated_at k most s at) ≡ Behind m → m ≤ length s
+  pub place_within : (m : ℕ) → at ≤ length s → place_of (separated_at k most s at) ≡ Some m → m ≤ length s
   place_within m h e = within (separated_read (all_read (separated_at k most s at) m e)).stands h
 
 -- the row of a caller: where all is read, it is the numbers
@@ -189,22 +188,22 @@ row_full k most s at row ns next l e =
     let c = (separated_read {k = k} e).count in
     rw (e, drop_of_length-le row {i = length ns} (omega arith), append-nil)
 
-pub row_read : (k most : ℕ) (s : List ℕ) (at : ℕ) (row : List ℕ) (next : ℕ) → length row ≡ k → place_of (separated_at k most s at) ≡ Behind next
+pub row_read : (k most : ℕ) (s : List ℕ) (at : ℕ) (row : List ℕ) (next : ℕ) → length row ≡ k → place_of (separated_at k most s at) ≡ Some next
     → separated_at k most s at ≡ whole (row_after (separated_at k most s at) row) next
 row_read k most s at row next l e =
     let w = all_read (separated_at k most s at) next e in
     w ∙ rw (row_full k most s at row (numbers_read (separated_at k most s at)) next l w)
 
-pub line_row : (k most : ℕ) (s : List ℕ) (at : ℕ) (row : List ℕ) (last next : ℕ) → length row ≡ k → last_of (line_at k most s at) ≡ Value last next
+pub line_row : (k most : ℕ) (s : List ℕ) (at : ℕ) (row : List ℕ) (last next : ℕ) → length row ≡ k → last_of (line_at k most s at) ≡ some_number last next
     → line_at k most s at ≡ values (row_after (separated_at k most s at) row) last next
 unfolding line_at
 line_row k most s at row last next l = go (separated_at k most s at) refl
   where
-    ends : (ns : List ℕ) (p : Number) → last_of (with_last ns p) ≡ Value last next → with_last ns p ≡ values ns last next
-    ends ns (Value n x) e = cc
-    ends ns Bad e = let z : ◌≡◌ {A = ℕ} 0 1 = cc in absurd (omega arith)
+    ends : (ns : List ℕ) (p : Option Number) → last_of (with_last ns p) ≡ some_number last next → with_last ns p ≡ values ns last next
+    ends ns (Some p) e = cc
+    ends ns None e = let z : ◌≡◌ {A = ℕ} 0 1 = cc in absurd (omega arith)
 
-    go : (x : Numbers) → separated_at k most s at ≡ x → last_of (then_last x (field most 10 s)) ≡ Value last next
+    go : (x : Numbers) → separated_at k most s at ≡ x → last_of (then_last x (field most 10 s)) ≡ some_number last next
         → then_last x (field most 10 s) ≡ values (row_after x row) last next
     go (upto ns) q e = let z : ◌≡◌ {A = ℕ} 0 1 = cc in absurd (omega arith)
     go (whole ns x) q e = ends ns (field most 10 s x) e ∙ ap (λ (r : List ℕ). values r last next) (sym (rw q at (row_full k most s at row ns x l q)))

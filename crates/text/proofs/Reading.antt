@@ -3,47 +3,43 @@
 use Prim.Native.Nat.{ℕ, zero, suc, ◌≤◌, ◌<◌, ◌+◌, ◌-◌, ◌*◌, ◌/◌, ◌%◌, ◌^◌}
 use native.Mathlib.Omega.{arith}
 use native.Mathlib.Numerals.{add-one}
-use native.Mathlib.Nat.{pow-suc, pow-le-pow_right, mul-le-mul_right, add_assoc}
+use native.Mathlib.Nat.{pow-suc, pow-le-pow_right, mul-le-mul_right}
 use mathlib.Core.Path.{◌≡◌, refl, ap, sym, ◌∙◌}
 use mathlib.Core.List.{List, [], ◌∷◌, ◌++◌, append_assoc, append-nil}
 use mathlib.Core.Logic.{inl, inr}
 use mathlib.Core.Bool.{Bool, true, false, cond, ◌&&◌, ◌||◌}
-use lib.ListN.{length, get_or, drop, length-append, length-drop, drop_of_length-le, get_or-eq_default}
-use lib.Seq.{drop-cons, drop-drop, drop-append_seam, get_or-drop, get_or_at}
+use lib.ListN.{length, get_or, take, drop, take-append-drop, length-append, length-drop, drop_of_length-le, get_or-eq_default}
+use lib.Seq.{take_at, drop-cons, drop-drop, drop-append_seam, get_or-drop, get_or_at}
 use lib.Dec.{ltb, leb, eqb, lit<}
 use borrow.Author.Tests.{le-leb, leb-true, leb-false, ltb-false, eq-eqb, ne_eqb, eqb-true, eqb-false, lt-ltb, le-ltb}
 use Rattle.text.specs.Digits.{digits, ended}
-use Rattle.text.specs.Reading.{is_digit, run, value, zero_first, number_of, number, ended_by, field}
+use Rattle.text.specs.Reading.{run, value, zero_first, some_number, number_of, number, ended_by, field}
 use Rattle.text.specs.Standing.{Stands, FieldHere}
 use Rattle.text.specs.Loops.{dec}
 use Rattle.text.specs.declared.Number.{Number}
-use Rattle.text.specs.declared.Number.TheVariants.{Value, Bad}
+use Rattle.std.specs.Prelude.{Option, Some, None, EachIndex}
+use Rattle.std.specs.List.{prefix_len, between}
+use Rattle.std.specs.Char.{is_ascii_digit, IsAsciiDigit}
+use Rattle.std.proofs.lemmas.List.{take_rest}
+use Rattle.std.proofs.lemmas.List.Sums.{take_while-cons}
+use Rattle.std.proofs.lemmas.List.Folds.{length-prefix_len}
+use Rattle.std.proofs.lemmas.Option.{same_Some}
 use Rattle.text.proofs.Digits.{split, digits_short, digits_long, by_digits, count_short, count_pos, count_is, first_pos, digits_dec, length_ended}
 
 -- runs of digits
 
-pub run_on : (s : List ℕ) (i : ℕ) → i < length s → is_digit (get_or s i 0) ≡ true → run (drop i s) ≡ get_or s i 0 ∷ run (drop (i + 1) s)
+run_step : (d : ℕ) (ys : List ℕ) → run (d ∷ ys) ≡ cond (is_ascii_digit d) (d ∷ run ys) []
 unfolding run
-run_on s i h e = rw (add-one, drop-cons s i 0, e)
-
-pub run_off : (s : List ℕ) (i : ℕ) → i < length s → is_digit (get_or s i 0) ≡ false → run (drop i s) ≡ []
-unfolding run
-run_off s i h e = rw (drop-cons s i 0, e)
-
-pub run_end : (s : List ℕ) (i : ℕ) → length s ≤ i → run (drop i s) ≡ []
-unfolding run
-run_end s i h = rw (drop_of_length-le s h)
+run_step d ys = take_while-cons is_ascii_digit d ys
 
 pos_pick : (b : Bool) (l : List ℕ) → 0 < length (cond b l []) → b ≡ true
 pos_pick true l h = refl
 pos_pick false l h = absurd (omega arith)
 
-pub run_pos : (s : List ℕ) (i : ℕ) → 0 < length (run (drop i s)) → (i < length s) × (is_digit (get_or s i 0) ≡ true)
+pub run_pos : (l : List ℕ) → 0 < length (run l) → (0 < length l) × (get_or (run l) 0 0 ≡ get_or l 0 0)
 unfolding run
-run_pos [] zero h = absurd (omega arith)
-run_pos [] (suc i) h = absurd (omega arith)
-run_pos (x ∷ xs) zero h = (omega arith, pos_pick (is_digit x) (x ∷ run xs) h)
-run_pos (x ∷ xs) (suc i) h = let p = run_pos xs i h in (omega arith, p.1)
+run_pos [] h = absurd (omega arith)
+run_pos (x ∷ xs) h = let e = run_step x xs in rw e (omega arith, rw (pos_pick (is_ascii_digit x) (x ∷ run xs) (rw e at h)))
 
 pub and_true : (a b : Bool) → a && b ≡ true → (a ≡ true) × (b ≡ true)
 and_true true b e = (refl, e)
@@ -53,32 +49,28 @@ and_false : (b : Bool) → b && false ≡ false
 and_false true = refl
 and_false false = refl
 
-digit_bounds : (d : ℕ) → is_digit d ≡ true → (48 ≤ d) × (d ≤ 57)
-unfolding is_digit
+digit_bounds : (d : ℕ) → is_ascii_digit d ≡ true → (48 ≤ d) × (d ≤ 57)
 digit_bounds d e = let p = and_true (leb 48 d) (leb d 57) e in (leb-true 48 d p.0, leb-true d 57 p.1)
 
-is_digit_lem : (d : ℕ) → 48 ≤ d → d ≤ 57 → is_digit d ≡ true
-unfolding is_digit
-is_digit_lem d p q = rw (le-leb 48 d p, le-leb d 57 q)
+digit_lem : (d : ℕ) → 48 ≤ d → d ≤ 57 → is_ascii_digit d ≡ true
+digit_lem d p q = rw (le-leb 48 d p, le-leb d 57 q)
 
-run_cons : (d : ℕ) (ys : List ℕ) → is_digit d ≡ true → run (d ∷ ys) ≡ d ∷ run ys
-unfolding run
-run_cons d ys e = rw e
+run_cons : (d : ℕ) (ys : List ℕ) → is_ascii_digit d ≡ true → run (d ∷ ys) ≡ d ∷ run ys
+run_cons d ys e = rw (run_step, e)
 
-run_stop : (x : ℕ) (ys : List ℕ) → is_digit x ≡ false → run (x ∷ ys) ≡ []
-unfolding run
-run_stop x ys e = rw e
+run_stop : (x : ℕ) (ys : List ℕ) → is_ascii_digit x ≡ false → run (x ∷ ys) ≡ []
+run_stop x ys e = rw (run_step, e)
 
 run_digits : (n : ℕ) (ys : List ℕ) → run (digits n ++ ys) ≡ digits n ++ run ys
 run_digits n = by_digits (λ n. (ys : List ℕ) → run (digits n ++ ys) ≡ digits n ++ run ys) one more n
   where
     one : (n : ℕ) → n < 10 → (ys : List ℕ) → run (digits n ++ ys) ≡ digits n ++ run ys
-    one n h ys = rw (digits_short n h) (run_cons (48 + n) ys (is_digit_lem (48 + n) (omega arith) (omega arith)))
+    one n h ys = rw (digits_short n h) (run_cons (48 + n) ys (digit_lem (48 + n) (omega arith) (omega arith)))
 
     more : (n : ℕ) → 10 ≤ n → ((ys : List ℕ) → run (digits (n / 10) ++ ys) ≡ digits (n / 10) ++ run ys) → (ys : List ℕ) → run (digits n ++ ys) ≡ digits n ++ run ys
     more n h ih ys =
         rw (digits_long n h, append_assoc (digits (n / 10)) ((48 + n % 10) ∷ []) ys, append_assoc (digits (n / 10)) ((48 + n % 10) ∷ []) (run ys))
-        (ih ((48 + n % 10) ∷ ys) ∙ rw (run_cons (48 + n % 10) ys (is_digit_lem (48 + n % 10) (omega arith) (omega arith))))
+        (ih ((48 + n % 10) ∷ ys) ∙ rw (run_cons (48 + n % 10) ys (digit_lem (48 + n % 10) (omega arith) (omega arith))))
 
 value_snoc : (acc : ℕ) (xs : List ℕ) (d : ℕ) → value acc (xs ++ (d ∷ [])) ≡ value acc xs * 10 + (d - 48)
 unfolding value
@@ -101,8 +93,8 @@ no_zero n = elim (split n 10) [ inl h ↦ short h | inr h ↦ rw (ne_eqb (get_or
     short h = rw (count_short n h) (and_false (eqb (get_or (digits n) 0 0) 48))
 
 -- digits at a place, and no digit behind them, are read as their number
-number_digits : (most : ℕ) (s : List ℕ) (at n x : ℕ) (ys : List ℕ) → length (digits n) ≤ most → is_digit x ≡ false → drop at s ≡ digits n ++ (x ∷ ys)
-    → number most s at ≡ Value n (at + length (digits n))
+number_digits : (most : ℕ) (s : List ℕ) (at n x : ℕ) (ys : List ℕ) → length (digits n) ≤ most → is_ascii_digit x ≡ false → drop at s ≡ digits n ++ (x ∷ ys)
+    → number most s at ≡ some_number n (at + length (digits n))
 unfolding number number_of
 number_digits most s at n x ys h d e =
     rw (
@@ -119,27 +111,22 @@ number_digits most s at n x ys h d e =
 -- the other way round
 
 -- bytes that are digits
-all_digits : List ℕ → Type 0
+abbrev all_digits : List ℕ → Type 0
 all_digits [] = Unit {0}
 all_digits (d ∷ ds) = (48 ≤ d) × (d ≤ 57) × all_digits ds
 
 run_all : (l : List ℕ) → all_digits (run l)
-unfolding run all_digits
+unfolding run
 run_all [] = tt
-run_all (x ∷ xs) = go (is_digit x) refl (run_all xs)
+run_all (x ∷ xs) = rw run_step (go (is_ascii_digit x) refl (run_all xs))
   where
-    go : (b : Bool) → is_digit x ≡ b → all_digits (run xs) → all_digits (cond b (x ∷ run xs) [])
+    go : (b : Bool) → is_ascii_digit x ≡ b → all_digits (run xs) → all_digits (cond b (x ∷ run xs) [])
     go true e r = let p = digit_bounds x e in (p.0, p.1, r)
     go false e r = tt
 
 run_front : (l : List ℕ) → l ≡ run l ++ drop (length (run l)) l
 unfolding run
-run_front [] = refl
-run_front (x ∷ xs) = go (is_digit x) (run_front xs)
-  where
-    go : (b : Bool) → xs ≡ run xs ++ drop (length (run xs)) xs → x ∷ xs ≡ cond b (x ∷ run xs) [] ++ drop (length (cond b (x ∷ run xs) [])) (x ∷ xs)
-    go true e = ap (λ (l : List ℕ). x ∷ l) e
-    go false e = refl
+run_front l = rw length-prefix_len (sym (take-append-drop (prefix_len is_ascii_digit l) l))
 
 dec_push : (k acc d : ℕ) → 48 ≤ d → d ≤ 57 → dec (suc k) (acc * 10 + (d - 48)) ≡ dec k acc ++ (d ∷ [])
 unfolding dec
@@ -149,7 +136,7 @@ dec_push k acc d lo hi =
     rw (q, r)
 
 dec_value : (k acc : ℕ) (r : List ℕ) → all_digits r → dec (k + length r) (value acc r) ≡ dec k acc ++ r
-unfolding all_digits value
+unfolding value
 dec_value k acc [] a = let z : k + 0 ≡ k = omega arith in rw (append-nil, z)
 dec_value k acc (d ∷ ds) a =
     let ih = dec_value (suc k) (acc * 10 + (d - 48)) ds a.2 in
@@ -157,7 +144,7 @@ dec_value k acc (d ∷ ds) a =
     rw e (ih ∙ rw (dec_push k acc d a.0 a.1, append_assoc))
 
 value_lt : (acc : ℕ) (r : List ℕ) → all_digits r → value acc r < (acc + 1) * 10 ^ length r
-unfolding all_digits value
+unfolding value
 value_lt acc [] a = omega arith
 value_lt acc (d ∷ ds) a =
     let ih = value_lt (acc * 10 + (d - 48)) ds a.2 in
@@ -179,7 +166,7 @@ unfolding zero_first
 not_zero d ds z h e = let q : ◌≡◌ {A = Bool} true false = rw (eq-eqb d 48 e, lt-ltb 1 (suc (length ds)) (omega arith)) at z in let w : ◌≡◌ {A = ℕ} 0 1 = cc in omega arith
 
 count_value : (r : List ℕ) → all_digits r → 0 < length r → zero_first r ≡ false → length (digits (value 0 r)) ≡ length r
-unfolding all_digits value
+unfolding value
 count_value [] a p z = absurd (omega arith)
 count_value (d ∷ []) a p z = count_short (0 * 10 + (d - 48)) (omega (arith, a.0, a.1))
 count_value (d ∷ x ∷ ds) a p z = count_is v (length (d ∷ x ∷ ds)) (omega (arith, ge, pos)) (omega (arith, value_lt 0 (d ∷ x ∷ ds) a)) (omega (arith, ge, pow))
@@ -208,11 +195,15 @@ digits_value r a p z =
     let q : 0 + length r ≡ length r = omega arith in
     digits_dec (value 0 r) ∙ rw (count_value r a p z) (rw q at (dec_value 0 0 r a))
 
-parts : (a b c : Bool) (v n x y : ℕ) → cond (a || b || c) Bad (Value v x) ≡ Value n y → (a ≡ false) × (b ≡ false) × (c ≡ false) × (v ≡ n) × (x ≡ y)
+-- what is read is one number and one place
+pub same_read : {m x n y : ℕ} → some_number m x ≡ some_number n y → (m ≡ n) × (x ≡ y)
+same_read e = let q = same_Some _ _ e in (ap (λ (p : Number). p.n) q, ap (λ (p : Number). p.next) q)
+
+parts : (a b c : Bool) (v n x y : ℕ) → cond (a || b || c) None (some_number v x) ≡ some_number n y → (a ≡ false) × (b ≡ false) × (c ≡ false) × (v ≡ n) × (x ≡ y)
 parts true b c v n x y e = let z : ◌≡◌ {A = ℕ} 0 1 = cc in absurd (omega arith)
 parts false true c v n x y e = let z : ◌≡◌ {A = ℕ} 0 1 = cc in absurd (omega arith)
 parts false false true v n x y e = let z : ◌≡◌ {A = ℕ} 0 1 = cc in absurd (omega arith)
-parts false false false v n x y e = (refl, refl, refl, cc, cc)
+parts false false false v n x y e = let p = same_read e in (refl, refl, refl, p.0, p.1)
 
 -- what was read as a number are its digits
 record Parsed (most : ℕ) (s : List ℕ) (at n next : ℕ) : Type 0 where
@@ -220,7 +211,7 @@ record Parsed (most : ℕ) (s : List ℕ) (at n next : ℕ) : Type 0 where
   text : drop at s ≡ digits n ++ drop next s
   place : next ≡ at + length (digits n)
 
-parsed : (most : ℕ) (s : List ℕ) (at n next : ℕ) → number most s at ≡ Value n next → Parsed most s at n next
+parsed : (most : ℕ) (s : List ℕ) (at n next : ℕ) → number most s at ≡ some_number n next → Parsed most s at n next
 unfolding number number_of
 parsed most s at n next e =
     let r = run (drop at s) in
@@ -267,43 +258,41 @@ parted {s} {t} {u} {at} {next} a =
     let d : drop (at + length t) s ≡ u ++ drop next s = past s at t (u ++ drop next s) e in
     (stand s t (u ++ drop next s) at e, record { text = d; place = omega (arith, a.place, length-append t u) })
 
-pub picked : (b : Bool) (m x n next : ℕ) → cond b (Value m x) Bad ≡ Value n next → (b ≡ true) × (m ≡ n) × (x ≡ next)
-picked true m x n next e = (refl, cc, cc)
+pub picked : (b : Bool) (m x n next : ℕ) → cond b (some_number m x) None ≡ some_number n next → (b ≡ true) × (m ≡ n) × (x ≡ next)
+picked true m x n next e = let p = same_read e in (refl, p.0, p.1)
 picked false m x n next e = let z : ◌≡◌ {A = ℕ} 0 1 = cc in absurd (omega arith)
 
 pub open_up : (e n : ℕ) (ys : List ℕ) → ended e n ++ ys ≡ digits n ++ (e ∷ ys)
 unfolding ended
 open_up e n ys = append_assoc (digits n) (e ∷ []) ys
 
-pub end_no_digit : is_digit 10 ≡ false
-unfolding is_digit
+pub end_no_digit : is_ascii_digit 10 ≡ false
 end_no_digit = refl
 
-pub comma_no_digit : is_digit 44 ≡ false
-unfolding is_digit
+pub comma_no_digit : is_ascii_digit 44 ≡ false
 comma_no_digit = refl
 
 -- a field read at a place is a number of at most `most` digits, written there with its end byte, and back
 
-pub field_read : {most e : ℕ} {s : List ℕ} {at n next : ℕ} → 0 < e → field most e s at ≡ Value n next → FieldHere most e s at n next
+pub field_read : {most e : ℕ} {s : List ℕ} {at n next : ℕ} → 0 < e → field most e s at ≡ some_number n next → FieldHere most e s at n next
 unfolding field ended
 field_read {most} {e} {s} {at} {n} {next} pos = go (number most s at) refl
   where
-    go : (p : Number) → number most s at ≡ p → ended_by e s p ≡ Value n next → FieldHere most e s at n next
-    go Bad q r = let z : ◌≡◌ {A = ℕ} 0 1 = cc in absurd (omega arith)
-    go (Value m x) q r =
-        let p = picked (eqb (get_or s x 0) e) m (x + 1) n next r in
-        let g : get_or s x 0 ≡ e = eqb-true _ _ p.0 in
-        let d = parsed most s at m x q in
-        let t : x < length s = there s x (omega arith) in
-        let l = rw p.1 at (length_ended e m) in
-        let c : drop x s ≡ e ∷ drop next s = rw (← p.2, add-one) (drop-cons s x 0 t ∙ rw g) in
+    go : (p : Option Number) → number most s at ≡ p → ended_by e s p ≡ some_number n next → FieldHere most e s at n next
+    go None q r = let z : ◌≡◌ {A = ℕ} 0 1 = cc in absurd (omega arith)
+    go (Some p) q r =
+        let k = picked (eqb (get_or s p.next 0) e) p.n (p.next + 1) n next r in
+        let g : get_or s p.next 0 ≡ e = eqb-true _ _ k.0 in
+        let d = parsed most s at p.n p.next q in
+        let t : p.next < length s = there s p.next (omega arith) in
+        let l = rw k.1 at (length_ended e p.n) in
+        let c : drop p.next s ≡ e ∷ drop next s = rw (← k.2, add-one) (drop-cons s p.next 0 t ∙ rw g) in
         record {
-          short = rw p.1 at d.short;
-          stands = record { text = d.text ∙ rw (p.1, c, append_assoc); place = omega (arith, rw p.1 at d.place) };
+          short = rw k.1 at d.short;
+          stands = record { text = d.text ∙ rw (k.1, c, append_assoc); place = omega (arith, rw k.1 at d.place) };
         }
 
-pub field_write : {most e : ℕ} {s : List ℕ} {at n next : ℕ} → is_digit e ≡ false → FieldHere most e s at n next → field most e s at ≡ Value n next
+pub field_write : {most e : ℕ} {s : List ℕ} {at n next : ℕ} → is_ascii_digit e ≡ false → FieldHere most e s at n next → field most e s at ≡ some_number n next
 unfolding field
 field_write {most} {e} {s} {at} {n} {next} d f =
     let q : drop at s ≡ digits n ++ (e ∷ drop next s) = f.stands.text ∙ open_up e n (drop next s) in
@@ -313,7 +302,7 @@ field_write {most} {e} {s} {at} {n} {next} d f =
     rw (number_digits most s at n e (drop next s) f.short d q, eq-eqb _ _ g, l)
 
 -- numbers that a byte other than a digit ends: the same bytes, the same numbers and the same rest
-pub same_number : (e m n : ℕ) (xs ys : List ℕ) → is_digit e ≡ false → ended e m ++ xs ≡ ended e n ++ ys → (m ≡ n) × (xs ≡ ys)
+pub same_number : (e m n : ℕ) (xs ys : List ℕ) → is_ascii_digit e ≡ false → ended e m ++ xs ≡ ended e n ++ ys → (m ≡ n) × (xs ≡ ys)
 same_number e m n xs ys d q =
     let a : digits m ++ (e ∷ xs) ≡ digits n ++ (e ∷ ys) = sym (open_up e m xs) ∙ (q ∙ open_up e n ys) in
     let r : digits m ≡ digits n = sym (front m xs) ∙ (ap run a ∙ front n ys) in
@@ -323,79 +312,85 @@ same_number e m n xs ys d q =
     front : (m : ℕ) (xs : List ℕ) → run (digits m ++ (e ∷ xs)) ≡ digits m
     front m xs = run_digits m (e ∷ xs) ∙ rw (run_stop e xs d, append-nil)
 
--- a turn of the reader's loop
-module _ (s : List ℕ) (at i n k : ℕ) (h : i < k) (small : k ≤ 9) (b : n < 10 ^ i) (l : i + length (run (drop (at + i) s)) ≡ k) where
-  pub here : (at + i < length s) × (is_digit (get_or s (at + i) 0) ≡ true)
-  here = run_pos s (at + i) (omega arith)
+-- how many digits stand at a place, counted in the slice that starts there; and the slice that holds them
+pub counted : (s : List ℕ) (at : ℕ) {k : ℕ} → k ≡ length (run (between at (length s) s)) → k ≡ length (run (drop at s))
+counted s at e = e ∙ ap (λ (l : List ℕ). length (run l)) (take_rest s at)
 
-  pub here_digit : (48 ≤ get_or s (at + i) 0) × (get_or s (at + i) 0 ≤ 57)
-  here_digit = digit_bounds (get_or s (at + i) 0) here.1
+pub digits_here : (s : List ℕ) (at k : ℕ) → k ≡ length (run (drop at s)) → between at (at + k) s ≡ run (drop at s)
+digits_here s at k e =
+    let z : at + k - at ≡ k = omega arith in
+    let f : drop at s ≡ run (drop at s) ++ drop (length (run (drop at s))) (drop at s) = run_front (drop at s) in
+    rw (z, e) (ap (take (length (run (drop at s)))) f ∙ take_at (run (drop at s)) _ _ refl)
 
+pub run_within : (l : List ℕ) → length (run l) ≤ length l
+run_within l = omega (arith, rw length-append at (ap length (run_front l)))
+
+each_digit : (l : List ℕ) → all_digits l → EachIndex l (λ k. IsAsciiDigit (get_or l k 0))
+each_digit [] a k h = absurd (omega arith)
+each_digit (x ∷ xs) a zero h = (a.0, a.1)
+each_digit (x ∷ xs) a (suc k) h = each_digit xs a.2 k (omega arith)
+
+pub run_digits_each : (l : List ℕ) → EachIndex (run l) (λ k. IsAsciiDigit (get_or (run l) k 0))
+run_digits_each l = each_digit (run l) (run_all l)
+
+-- a turn of the loop over digits
+module _ (ds : List ℕ) (i n : ℕ) (h : i < length ds) (few : length ds ≤ 9) (small : n < 10 ^ i) where
   pub below : n < 100000000
   below = let p : 10 ^ i ≤ 10 ^ 8 = pow-le-pow_right {n = 10} (lit< tt) {i = i} {j = 8} (omega arith) in omega arith
 
-  on : run (drop (at + i) s) ≡ get_or s (at + i) 0 ∷ run (drop (at + (i + 1)) s)
-  on = rw add_assoc at (run_on s (at + i) here.0 here.1)
-
-  pub turn : (v total : ℕ) → v ≡ get_or s (at + i) 0 - 48 → value n (run (drop (at + i) s)) ≡ total
-      → (n * 10 + v < 10 ^ (i + 1)) × (i + 1 + length (run (drop (at + (i + 1)) s)) ≡ k) × (value (n * 10 + v) (run (drop (at + (i + 1)) s)) ≡ total)
+  pub turn : IsAsciiDigit (get_or ds i 0) → (total : ℕ) → value n (drop i ds) ≡ total
+      → (n * 10 + (get_or ds i 0 - 48) < 10 ^ (i + 1)) × (value (n * 10 + (get_or ds i 0 - 48)) (drop (i + 1) ds) ≡ total)
   unfolding value
-  turn v total e q =
-      let d = here_digit in
+  turn d total q =
       let p : 10 ^ (i + 1) ≡ 10 ^ i * 10 = rw add-one (pow-suc 10 i) in
-      let g = rw on at l in
-      (omega arith, omega arith, rw e (rw on at q))
+      (omega arith, rw (drop-cons ds i 0, ← add-one) at q)
+
+pub done : (n i : ℕ) (ds : List ℕ) → length ds ≤ i → value n (drop i ds) ≡ n
+unfolding value
+done n i ds h = rw (drop_of_length-le ds h)
 
 module _ (most : ℕ) (s : List ℕ) (at k : ℕ) (e : k ≡ length (run (drop at s))) where
   run_first : 0 < k → get_or (run (drop at s)) 0 0 ≡ get_or s at 0
-  run_first h = let p = run_pos s at (omega arith) in rw (run_on s at p.0 p.1)
+  run_first h = let z : at + 0 ≡ at = omega arith in (run_pos (drop at s) (omega arith)).1 ∙ rw (get_or-drop, z)
 
-  pub number_none : k ≡ 0 → Bad ≡ number most s at
+  pub number_none : k ≡ 0 → None ≡ number most s at
   unfolding number number_of
   number_none h = rw (← e, h)
 
-  pub number_long : most < k → Bad ≡ number most s at
+  pub number_long : most < k → None ≡ number most s at
   unfolding number number_of
   number_long h = rw (← e, ne_eqb k 0 (λ z. omega arith), lt-ltb most k h)
 
-  pub number_zero : 1 < k → k ≤ most → get_or s at 0 ≡ 48 → Bad ≡ number most s at
+  pub number_zero : 1 < k → k ≤ most → get_or s at 0 ≡ 48 → None ≡ number most s at
   unfolding number number_of zero_first
   number_zero h g z = let p : 0 < k = omega arith in rw (← e, ne_eqb k 0 (λ z. omega arith), le-ltb most k g, run_first p, eq-eqb _ _ z, lt-ltb 1 k h)
 
-  value_when : zero_first (run (drop at s)) ≡ false → 0 < k → k ≤ most → Value (value 0 (run (drop at s))) (at + k) ≡ number most s at
+  value_when : zero_first (run (drop at s)) ≡ false → 0 < k → k ≤ most → some_number (value 0 (run (drop at s))) (at + k) ≡ number most s at
   unfolding number number_of
   value_when q h g = rw (q, ← e, ne_eqb k 0 (λ z. omega arith), le-ltb most k g)
 
-  pub number_one : k ≤ 1 → 0 < k → k ≤ most → Value (value 0 (run (drop at s))) (at + k) ≡ number most s at
+  pub number_one : k ≤ 1 → 0 < k → k ≤ most → some_number (value 0 (run (drop at s))) (at + k) ≡ number most s at
   unfolding zero_first
   number_one o h g = value_when (rw (← e, le-ltb 1 k o) (and_false (eqb (get_or (run (drop at s)) 0 0) 48))) h g
 
-  pub number_more : 1 < k → k ≤ most → (get_or s at 0 ≡ 48 → ⊥) → Value (value 0 (run (drop at s))) (at + k) ≡ number most s at
+  pub number_more : 1 < k → k ≤ most → (get_or s at 0 ≡ 48 → ⊥) → some_number (value 0 (run (drop at s))) (at + k) ≡ number most s at
   unfolding zero_first
   number_more o g z = let p : 0 < k = omega arith in value_when (rw (run_first p, ne_eqb _ _ z)) p g
 
-none_left : (n : ℕ) (r : List ℕ) → length r ≡ 0 → value n r ≡ n
-unfolding value
-none_left n [] e = refl
-none_left n (x ∷ xs) e = absurd (omega arith)
-
-pub done : (s : List ℕ) (i n total : ℕ) → length (run (drop i s)) ≡ 0 → value n (run (drop i s)) ≡ total → n ≡ total
-done s i n total e q = sym (none_left n (run (drop i s)) e) ∙ q
-
 -- one law for each way through the reader of a field
 module _ (most e : ℕ) (s : List ℕ) (at : ℕ) where
-  pub field_bad : number most s at ≡ Bad → Bad ≡ field most e s at
+  pub field_bad : number most s at ≡ None → None ≡ field most e s at
   unfolding field
-  field_bad p = rw p
+  field_bad q = rw q
 
-  pub field_end : (n next : ℕ) → number most s at ≡ Value n next → 0 < e → length s ≤ next → Bad ≡ field most e s at
+  pub field_end : (p : Number) → number most s at ≡ Some p → 0 < e → length s ≤ p.next → None ≡ field most e s at
   unfolding field
-  field_end n next p h g = let q = get_or-eq_default s 0 {n = next} g in rw (p, ne_eqb (get_or s next 0) e (λ z. omega arith))
+  field_end p q h g = let r = get_or-eq_default s 0 {n = p.next} g in rw (q, ne_eqb (get_or s p.next 0) e (λ z. omega arith))
 
-  pub field_miss : (n next : ℕ) → number most s at ≡ Value n next → (get_or s next 0 ≡ e → ⊥) → Bad ≡ field most e s at
+  pub field_miss : (p : Number) → number most s at ≡ Some p → (get_or s p.next 0 ≡ e → ⊥) → None ≡ field most e s at
   unfolding field
-  field_miss n next p g = rw (p, ne_eqb (get_or s next 0) e g)
+  field_miss p q g = rw (q, ne_eqb (get_or s p.next 0) e g)
 
-  pub field_hit : (n next : ℕ) → number most s at ≡ Value n next → get_or s next 0 ≡ e → Value n (next + 1) ≡ field most e s at
+  pub field_hit : (p : Number) → number most s at ≡ Some p → get_or s p.next 0 ≡ e → some_number p.n (p.next + 1) ≡ field most e s at
   unfolding field
-  field_hit n next p g = rw (p, eq-eqb (get_or s next 0) e g)
+  field_hit p q g = rw (q, eq-eqb (get_or s p.next 0) e g)

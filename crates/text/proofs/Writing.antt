@@ -1,19 +1,21 @@
 -- Texts in a buffer: parts lent on, one text behind another, and the loops that fill a buffer.
 -- Assumes nothing.
+use Rattle.std.proofs.Common.{Ok, Err}
 use Prim.Native.Nat.{ℕ, zero, suc, ◌≤◌, ◌<◌, ◌+◌, ◌-◌, ◌/◌, ◌%◌}
 use native.Mathlib.Omega.{arith}
-use native.Mathlib.Numerals.{add-one, sub-one}
+use native.Mathlib.Numerals.{add-one}
 use mathlib.Core.Path.{◌≡◌, refl, ap, sym, ◌∙◌}
 use mathlib.Core.List.{List, [], ◌∷◌, ◌++◌, append_assoc, append-nil}
-use lib.ListN.{length, get_or, take, drop, set, length-append, length-drop, drop_of_length-le, take-append-drop}
-use lib.Seq.{take-suc, set_split, drop-cons, set_at, drop-drop, take_all, take_at, drop-append-add, length-take-le}
+use lib.ListN.{length, get_or, take, drop, set, length-append, length-drop, length-set, drop_of_length-le, take-append-drop}
+use Rattle.std.proofs.lemmas.List.{take-set-le}
+use lib.Seq.{take-suc, set_split, drop-drop, take_all, take_at, drop-append-add, length-take-le}
 use borrow.Author.Tests.{le-leb, lt-leb}
-use Rattle.answers.specs.declared.Answer.TheVariants.{Written, BadLength}
+use Rattle.answers.specs.declared.Refusal.TheVariants.{BadLength}
 use Rattle.text.specs.Digits.{digits, ended, separated, line}
 use Rattle.text.specs.Fixed.{refusal_names, refusal_text}
 use Rattle.text.specs.Writing.{placed, fits, text_answer, text_after, Put}
-use Rattle.text.specs.Loops.{dec, Grown}
-use Rattle.text.proofs.Digits.{length_dec, digits_dec, separated_snoc}
+use Rattle.text.specs.Loops.{dec, Backwards, Grown}
+use Rattle.text.proofs.Digits.{digits_dec, separated_snoc}
 
 -- the number writer's loop, from the last digit on
 
@@ -22,32 +24,9 @@ drop_set [] j v h = absurd (omega arith)
 drop_set (x ∷ xs) zero v h = refl
 drop_set (x ∷ xs) (suc j) v h = drop_set xs j v (omega arith)
 
-pub back_step : (out : List ℕ) (i m v : ℕ) → 0 < i → i ≤ length out → v ≡ 48 + m % 10
-    → dec i m ++ drop i out ≡ dec (i - 1) (m / 10) ++ drop (i - 1) (set out (i - 1) v)
-unfolding dec
-back_step out zero m v p h e = absurd (omega arith)
-back_step out (suc j) m v p h e =
-    let k : j < length out = omega arith in
-    rw (sub-one, drop_set out j v k, e, append_assoc)
-
-pub at_zero : (out : List ℕ) (i m : ℕ) → i ≡ 0 → dec i m ++ drop i out ≡ out
-unfolding dec
-at_zero out i m e = rw e
-
 pub placed_zero : (o t : List ℕ) → placed o 0 t ≡ t ++ drop (length t) o
 unfolding placed
 placed_zero o t = let z : 0 + length t ≡ length t = omega arith in rw z
-
-pub number_put : (o out : List ℕ) (w n e : ℕ) → w ≡ length (digits n) → w < length o → out ≡ dec w n ++ drop w o → Put o 0 (ended e n) (w + 1) (set out w e)
-unfolding ended
-number_put o out w n e q h p =
-    let d : dec w n ≡ digits n = ap (λ (k : ℕ). dec k n) q ∙ sym (digits_dec n) in
-    let l : length (digits n ++ (e ∷ [])) ≡ w + 1 = length-append (digits n) (e ∷ []) ∙ rw (← q) in
-    record {
-      place = omega (arith, l);
-      bytes =
-          rw (p, placed_zero o (digits n ++ (e ∷ [])), l, add-one, drop-cons o w 0, set_at (dec w n) (get_or o w 0) (drop (suc w) o) e w (length_dec w n), d, append_assoc);
-    }
 
 -- a part that was lent on, from `at` on, and filled at its front
 pub lent : (o t : List ℕ) (at r : ℕ) (part : List ℕ) → at + length t ≤ length o → Put (take (length o - at) (drop at o)) 0 t r part
@@ -103,14 +82,37 @@ set_placed : (o : List ℕ) (m v : ℕ) → m < length o → set o m v ≡ place
 unfolding placed
 set_placed o m v h = rw (add-one, set_split o m v h)
 
--- one byte more of fixed ones
-pub copy_next : {o out : List ℕ} (t : List ℕ) (i : ℕ) → i < length t → length t ≤ length o → length out ≡ length o → Put o 0 (take i t) i out
-    → Put o 0 (take (i + 1) t) (i + 1) (set out i (get_or t i 0))
-copy_next {o} {out} t i h g n d =
-    let l : length (take i t) ≡ i = length-take-le i t (omega arith) in
-    let e : take (i + 1) t ≡ take i t ++ (get_or t i 0 ∷ []) = rw add-one (take-suc t i 0 h) in
-    let b : Put out i (get_or t i 0 ∷ []) (i + 1) (set out i (get_or t i 0)) = record { place = refl; bytes = set_placed out i (get_or t i 0) (omega arith) } in
-    rw e (then (rw l (omega arith)) d b)
+pub back_start : (o : List ℕ) (at end n : ℕ) → end ≡ at + length (digits n) → end < length o → Backwards o at end n o end n
+back_start o at end n e h =
+    let k : end - at ≡ length (digits n) = omega arith in
+    record { whole = e; room = h; long = refl; from = omega arith; upto = omega arith; front = refl; rest = rw (k, ← digits_dec) refl }
+
+module _ {o out : List ℕ} {at end n i left : ℕ} (b : Backwards o at end n out i left) where
+  pub back_step : (v : ℕ) → at < i → v ≡ 48 + left % 10 → Backwards o at end n (set out (i - 1) v) (i - 1) (left / 10)
+  unfolding dec
+  back_step v h e =
+      let j : i ≡ suc (i - 1) = omega arith in
+      let k : i - at ≡ suc (i - 1 - at) = omega arith in
+      let r : i - 1 < length out = omega (arith, b.upto, b.room, b.long) in
+      let l : drop (i - 1) (set out (i - 1) v) ≡ v ∷ drop i out = rw (← j) at (drop_set out (i - 1) v r) in
+      record {
+        whole = b.whole;
+        room = b.room;
+        long = rw length-set b.long;
+        from = omega arith;
+        upto = omega (arith, b.upto);
+        front = take-set-le at out (i - 1) v (omega arith) ∙ b.front;
+        rest = rw k at b.rest ∙ rw (l, e, append_assoc);
+      }
+
+  pub back_end : i ≡ at → (e : ℕ) → Put o at (ended e n) (end + 1) (set out end e)
+  unfolding dec placed ended
+  back_end z e =
+      let k : i - at ≡ 0 = omega arith in
+      let d : digits n ++ drop end o ≡ drop at out = rw z at (rw k at b.rest) in
+      let p : Put o at (digits n) end out = record { place = b.whole; bytes = sym (take-append-drop at out) ∙ rw (b.front, ← d, ← b.whole) } in
+      let q : Put out end (e ∷ []) (end + 1) (set out end e) = record { place = refl; bytes = set_placed out end e (omega (arith, b.room, b.long)) } in
+      then (omega (arith, b.whole, b.room)) p q
 
 -- one number more
 pub separated_part : (ns : List ℕ) (i : ℕ) → i < length ns
@@ -137,19 +139,19 @@ pub length_line : (ns : List ℕ) (last : ℕ) → length (line ns last) ≡ len
 unfolding line
 length_line ns last = length-append (separated ns) (ended 10 last)
 
-pub line_put : {o o1 o2 : List ℕ} {a r : ℕ} (ns : List ℕ) (last : ℕ) → length (line ns last) ≤ length o → Put o 0 (separated ns) a o1 → Put o1 a (ended 10 last) r o2
-    → Put o 0 (line ns last) r o2
+pub line_put : {o o1 o2 : List ℕ} {at a r : ℕ} (ns : List ℕ) (last : ℕ) → at + length (line ns last) ≤ length o → Put o at (separated ns) a o1
+    → Put o1 a (ended 10 last) r o2 → Put o at (line ns last) r o2
 unfolding line
 line_put ns last h d e = then (omega (arith, length-append (separated ns) (ended 10 last))) d e
 
 -- the outcome of a text's call
 module _ (buffer text : List ℕ) (place : ℕ) where
-  pub not_fits : length buffer < place + length text → (BadLength (length text) ≡ text_answer buffer place text) × (buffer ≡ text_after buffer place text)
+  pub not_fits : length buffer < place + length text → (Err (BadLength (length text)) ≡ text_answer buffer place text) × (buffer ≡ text_after buffer place text)
   unfolding text_answer text_after fits
   not_fits h = rw (lt-leb (place + length text) (length buffer) h) (refl, refl)
 
   pub it_fits : place + length text ≤ length buffer → {r : ℕ} {out : List ℕ} → Put buffer place text r out
-      → (Written (length text) ≡ text_answer buffer place text) × (out ≡ text_after buffer place text)
+      → (Ok (length text) ≡ text_answer buffer place text) × (out ≡ text_after buffer place text)
   unfolding text_answer text_after fits
   it_fits h p = rw (le-leb (place + length text) (length buffer) h, p.bytes) (refl, refl)
 
@@ -164,8 +166,6 @@ unfolding refusal_text
 length_refusal number first second = length-append refusal_names (line (number ∷ first ∷ []) second) ∙ rw length_refusal_names
 
 pub refusal_put : {o o1 o2 : List ℕ} {a r : ℕ} (number first second : ℕ) → length (refusal_text number first second) ≤ length o → Put o 0 refusal_names a o1
-    → Put o1 21 (line (number ∷ first ∷ []) second) r o2 → Put o 0 (refusal_text number first second) r o2
+    → Put o1 a (line (number ∷ first ∷ []) second) r o2 → Put o 0 (refusal_text number first second) r o2
 unfolding refusal_text
-refusal_put {a = a} number first second h d e =
-    let k : a ≡ 21 = omega (arith, d.place, length_refusal_names) in
-    then (omega (arith, length-append refusal_names (line (number ∷ first ∷ []) second))) (rw k at d) e
+refusal_put number first second h d e = then (omega (arith, length-append refusal_names (line (number ∷ first ∷ []) second))) d e

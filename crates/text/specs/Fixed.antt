@@ -1,13 +1,12 @@
 -- Fixed byte strings: "The names lines are compared byte for byte."
 -- Assumes nothing.
-use Rattle.std.specs.Prelude.{ℕ, List, [], ◌∷◌, ◌++◌, Bool, true, false, ◌&&◌, eqb}
+use Rattle.std.specs.Prelude.{ℕ, List, [], ◌∷◌, ◌++◌, Bool, nat_eq}
+use Rattle.std.specs.List as lists
 use Rattle.text.specs.Digits.{line}
 
 -- the bytes begin with the given ones
 unfoldable pub starts_with : List ℕ → List ℕ → Bool
-starts_with bytes [] = true
-starts_with [] (y ∷ ys) = false
-starts_with (x ∷ xs) (y ∷ ys) = eqb x y && starts_with xs ys
+starts_with bytes front = lists.starts_with nat_eq bytes front
 
 -- "refusal,first,second" and the end byte
 unfoldable pub refusal_names : List ℕ

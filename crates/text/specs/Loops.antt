@@ -1,6 +1,7 @@
 -- What the loops of the readers and writers know where a turn begins. Only proofs cite it.
 -- Assumes nothing.
-use Rattle.std.specs.Prelude.{ℕ, zero, suc, ◌+◌, ◌-◌, ◌/◌, ◌%◌, ◌≤◌, ◌≡◌, List, [], ◌∷◌, ◌++◌, length, take, drop}
+use Rattle.std.specs.Prelude.{ℕ, zero, suc, ◌+◌, ◌-◌, ◌/◌, ◌%◌, ◌≤◌, ◌<◌, ◌≡◌, List, [], ◌∷◌, ◌++◌, length, take, drop}
+use Rattle.text.specs.Digits.{digits}
 use Rattle.text.specs.Reading.{with_front, separated_at}
 use Rattle.text.specs.Writing.{Put}
 
@@ -16,6 +17,16 @@ pub record Walk (s : List ℕ) (at most : ℕ) (row₀ row : List ℕ) (i next :
 unfoldable pub dec : ℕ → ℕ → List ℕ
 dec zero n = []
 dec (suc k) n = dec k (n / 10) ++ ((48 + n % 10) ∷ [])
+
+-- the loop that writes a number from its last digit on: the digits written from i on and those of the number that is left are all digits
+pub record Backwards (o : List ℕ) (at end n : ℕ) (out : List ℕ) (i left : ℕ) : Type 0 where
+  pub whole : end ≡ at + length (digits n)
+  pub room : end < length o
+  pub long : length out ≡ length o
+  pub from : at ≤ i
+  pub upto : i ≤ end
+  pub front : take at out ≡ take at o
+  pub rest : digits n ++ drop end o ≡ dec (i - at) left ++ drop i out
 
 -- a buffer that is filled text by text: `t` stands from `start` to `at`
 pub record Grown (o : List ℕ) (start : ℕ) (t out : List ℕ) (at : ℕ) : Type 0 where

@@ -1,19 +1,13 @@
 -- Numbers read from bytes: "base ten, 1 to 7 digits, no leading zero except 0 itself". The most digits are an argument, since texts differ in it.
 -- Assumes nothing.
-use Rattle.std.specs.Prelude.{ℕ, zero, suc, ◌+◌, ◌-◌, ◌*◌, List, [], ◌∷◌, ◌++◌, Bool, cond, ◌&&◌, ◌||◌, leb, ltb, eqb, length, get_or, drop}
+use Rattle.std.specs.Prelude.{ℕ, zero, suc, ◌+◌, ◌-◌, ◌*◌, List, [], ◌∷◌, ◌++◌, Bool, cond, ◌&&◌, ◌||◌, ltb, eqb, length, get_or, drop, take_while, Option, Some, None}
+use Rattle.std.specs.Char.{is_ascii_digit}
 use Rattle.text.specs.declared.Number.{Number}
-use Rattle.text.specs.declared.Number.TheVariants.{Value, Bad}
-use Rattle.text.specs.declared.Place.{Place}
-use Rattle.text.specs.declared.Place.TheVariants.{Behind, NoPlace}
 use Rattle.text.specs.Digits.{comma, line_end}
-
-unfoldable pub is_digit : ℕ → Bool
-is_digit d = leb 48 d && leb d 57
 
 -- the digits at the front of a list
 unfoldable pub run : List ℕ → List ℕ
-run [] = []
-run (d ∷ ds) = cond (is_digit d) (d ∷ run ds) []
+run s = take_while is_ascii_digit s
 
 -- the number that digits write after acc
 unfoldable pub value : ℕ → List ℕ → ℕ
@@ -24,19 +18,23 @@ value acc (d ∷ ds) = value (acc * 10 + (d - 48)) ds
 unfoldable pub zero_first : List ℕ → Bool
 zero_first r = eqb (get_or r 0 0) 48 && ltb 1 (length r)
 
-unfoldable pub number_of : ℕ → List ℕ → ℕ → Number
-number_of most r at = cond (eqb (length r) 0 || ltb most (length r) || zero_first r) Bad (Value (value 0 r) (at + length r))
+-- a number n that was read, and the place behind it
+abbrev pub some_number : ℕ → ℕ → Option Number
+some_number n next = Some (record { n = n; next = next })
+
+unfoldable pub number_of : ℕ → List ℕ → ℕ → Option Number
+number_of most r at = cond (eqb (length r) 0 || ltb most (length r) || zero_first r) None (some_number (value 0 r) (at + length r))
 
 -- the number of at most `most` digits that stands at a place, and the place behind it
-unfoldable pub number : ℕ → List ℕ → ℕ → Number
+unfoldable pub number : ℕ → List ℕ → ℕ → Option Number
 number most s at = number_of most (run (drop at s)) at
 
 -- a number that the byte e ends, and the place behind that byte
-abbrev pub ended_by : ℕ → List ℕ → Number → Number
-ended_by e s (Value n next) = cond (eqb (get_or s next 0) e) (Value n (next + 1)) Bad
-ended_by e s Bad = Bad
+abbrev pub ended_by : ℕ → List ℕ → Option Number → Option Number
+ended_by e s (Some p) = cond (eqb (get_or s p.next 0) e) (some_number p.n (p.next + 1)) None
+ended_by e s None = None
 
-unfoldable pub field : ℕ → ℕ → List ℕ → ℕ → Number
+unfoldable pub field : ℕ → ℕ → List ℕ → ℕ → Option Number
 field most e s at = ended_by e s (number most s at)
 
 -- numbers, each with a comma behind it: all of them and the place behind them, or those before the first field that has not the form
@@ -48,18 +46,18 @@ abbrev pub numbers_read : Numbers → List ℕ
 numbers_read (whole ns next) = ns
 numbers_read (upto ns) = ns
 
-abbrev pub place_of : Numbers → Place
-place_of (whole ns next) = Behind next
-place_of (upto ns) = NoPlace
+abbrev pub place_of : Numbers → Option ℕ
+place_of (whole ns next) = Some next
+place_of (upto ns) = None
 
 -- with more numbers in front
 abbrev pub with_front : List ℕ → Numbers → Numbers
 with_front ms (whole ns next) = whole (ms ++ ns) next
 with_front ms (upto ns) = upto (ms ++ ns)
 
-abbrev pub then_numbers : Number → (ℕ → ℕ → Numbers) → Numbers
-then_numbers (Value n next) go = go n next
-then_numbers Bad go = upto []
+abbrev pub then_numbers : Option Number → (ℕ → ℕ → Numbers) → Numbers
+then_numbers (Some p) go = go p.n p.next
+then_numbers None go = upto []
 
 -- k numbers of at most `most` digits, each with a comma behind it, from a place on
 unfoldable pub separated_at : ℕ → ℕ → List ℕ → ℕ → Numbers
@@ -75,15 +73,15 @@ pub data Line : Type 0 where
   values : List ℕ → ℕ → ℕ → Line
   no_line : Line
 
-abbrev pub last_of : Line → Number
-last_of (values ns last next) = Value last next
-last_of no_line = Bad
+abbrev pub last_of : Line → Option Number
+last_of (values ns last next) = some_number last next
+last_of no_line = None
 
-abbrev pub with_last : List ℕ → Number → Line
-with_last ns (Value last next) = values ns last next
-with_last ns Bad = no_line
+abbrev pub with_last : List ℕ → Option Number → Line
+with_last ns (Some p) = values ns p.n p.next
+with_last ns None = no_line
 
-abbrev pub then_last : Numbers → (ℕ → Number) → Line
+abbrev pub then_last : Numbers → (ℕ → Option Number) → Line
 then_last (whole ns next) last = with_last ns (last next)
 then_last (upto ns) last = no_line
 

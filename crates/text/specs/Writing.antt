@@ -1,8 +1,8 @@
 -- A text put into a lent byte buffer "from a given place on; bytes before it and after the text keep their values".
 -- Assumes nothing.
-use Rattle.std.specs.Prelude.{ℕ, ◌+◌, ◌≡◌, List, ◌++◌, Bool, cond, leb, length, take, drop}
-use Rattle.answers.specs.declared.Answer.{Answer}
-use Rattle.answers.specs.declared.Answer.TheVariants.{Written, BadLength}
+use Rattle.std.specs.Prelude.{ℕ, ◌+◌, ◌≡◌, List, ◌++◌, Bool, cond, leb, length, take, drop, Result, Ok, Err}
+use Rattle.answers.specs.declared.Refusal.{Refusal}
+use Rattle.answers.specs.declared.Refusal.TheVariants.{BadLength}
 
 -- the buffer with the text from the place on
 unfoldable pub placed : List ℕ → ℕ → List ℕ → List ℕ
@@ -13,8 +13,8 @@ unfoldable pub fits : List ℕ → ℕ → List ℕ → Bool
 fits buffer place text = leb (place + length text) (length buffer)
 
 -- "bytes written, 0 (texts)", or 7 with "length needed (for a text its own bytes, the place not added)"
-unfoldable pub text_answer : List ℕ → ℕ → List ℕ → Answer
-text_answer buffer place text = cond (fits buffer place text) (Written (length text)) (BadLength (length text))
+unfoldable pub text_answer : List ℕ → ℕ → List ℕ → Result ℕ Refusal
+text_answer buffer place text = cond (fits buffer place text) (Ok (length text)) (Err (BadLength (length text)))
 
 -- the buffer afterwards
 unfoldable pub text_after : List ℕ → ℕ → List ℕ → List ℕ

@@ -1,164 +1,108 @@
-// Numbers and fixed lines as bytes: read from a slice, and written to the front of a lent part.
+// Numbers and fixed lines as bytes: read at a place of a slice, and written from a place on.
 #![tactic(auto)]
 
-ghost use Rattle.std.specs.Prelude.{◌≡◌, ◌+◌, ◌-◌, ◌*◌, ◌%◌, ◌≤◌, ◌<◌, length, drop};
+ghost use Rattle.std.specs.Prelude.{◌≡◌, ◌+◌, ◌*◌, ◌≤◌, ◌<◌, length, drop, EachIndex, slice_index};
+ghost use Rattle.std.specs.Char.{IsAsciiDigit};
 ghost use Rattle.text.specs.Digits.{digits, ended, separated, line};
-ghost use Rattle.text.specs.Reading.{is_digit, run, value, number, field, separated_at, place_of, row_after, line_at, last_of};
-ghost use Rattle.text.specs.Fixed.{starts_with, refusal_names, refusal_text};
+ghost use Rattle.text.specs.Reading.{run, value, number, field, separated_at, place_of, row_after, line_at, last_of};
+ghost use Rattle.text.specs.Fixed.{starts_with, refusal_text};
 ghost use Rattle.text.specs.Writing.{Put, text_answer, text_after};
 
-use answers::Answer;
+use answers::Refusal;
 
 pub const COMMA: u8 = b',';
 
-pub const LINE_END: u8 = 10;
+pub const LINE_END: u8 = b'\n';
 
 // A number read: its value and the place behind it.
 #[derive(Clone, Copy)]
-pub enum Number {
-    Value { n: u32, next: usize },
-    Bad,
+pub struct Number {
+    pub n: u32,
+    pub next: usize,
 }
 
-// The place behind numbers read.
-#[derive(Clone, Copy)]
-pub enum Place {
-    Behind { next: usize },
-    NoPlace,
-}
-
-fn is_digit(d: u8) -> bool
-    ensures { result ≡ is_digit d }
+// How many digits stand in front.
+#[tactic(auto, unfolding(crate::specs::Reading::run))]
+fn run_len(s: &[u8]) -> usize
+    ensures { result ≡ length (run s.now) }
 {
-    if 48 <= d { d <= 57 } else { false }
+    s.iter().take_while(|d| d.is_ascii_digit()).count()
 }
 
-fn digit_value(d: u8) -> u32
-    requires { 48 ≤ d }
-    ensures { result ≡ d - 48 }
-{
-    (d - 48) as u32
-}
-
-// How many digits stand at a place.
-fn run_len(s: &[u8], at: usize) -> usize
-    requires { at ≤ length s.now }
-    ensures { result ≡ length (run (drop at s.now)) }
-{
-    let mut i = at;
-    while i < s.len() {
-        if !is_digit(s[i]) {
-            break;
-        }
-        i += 1;
-    }
-    i - at
-}
-
-// The value of the k digits that stand at a place. Nine digits fit 32 bits.
-fn value_at(s: &[u8], at: usize, k: usize) -> u32
-    requires { (at ≤ length s.now) × (k ≡ length (run (drop at s.now))) × (k ≤ 9) }
-    ensures { result ≡ value 0 (run (drop at s.now)) }
+// The value of digits. Nine of them fit 32 bits.
+fn value_of(digits: &[u8]) -> u32
+    requires digits { EachIndex digits.now (λ k. IsAsciiDigit (slice_index digits.now k)) }
+    requires few { length digits.now ≤ 9 }
+    ensures { result ≡ value 0 digits.now }
 {
     let mut n: u32 = 0;
-    let mut i: usize = 0;
-    while i < k {
-        n = n * 10 + digit_value(s[at + i]);
-        i += 1;
+    for d in digits {
+        n = n * 10 + u32::from(*d - b'0');
     }
     n
 }
 
 // The number of at most `most` digits at a place.
-fn number_at(s: &[u8], at: usize, most: usize) -> Number
+fn number_at(s: &[u8], at: usize, most: usize) -> Option<Number>
     requires { (at ≤ length s.now) × (most ≤ 9) }
     ensures { result ≡ number most s.now at }
 {
-    let k = run_len(s, at);
-    if k == 0 {
-        return Number::Bad;
+    let k = run_len(&s[at..]);
+    if k == 0 || most < k {
+        return None;
     }
-    if most < k {
-        return Number::Bad;
+    if 1 < k && s[at] == b'0' {
+        return None;
     }
-    if 1 < k {
-        if s[at] == 48 {
-            return Number::Bad;
-        }
-    }
-    Number::Value {
-        n: value_at(s, at, k),
-        next: at + k,
-    }
+    let next = at + k;
+    let n = value_of(&s[at..next]);
+    Some(Number { n, next })
 }
 
 // A number that the byte e ends, and the place behind that byte.
-pub fn field_at(s: &[u8], at: usize, most: usize, e: u8) -> Number
+pub fn field_at(s: &[u8], at: usize, most: usize, e: u8) -> Option<Number>
     requires { (at ≤ length s.now) × (most ≤ 9) × (0 < e) }
     ensures { result ≡ field most e s.now at }
 {
-    let p = number_at(s, at, most);
-    let Number::Value { n, next } = p else {
-        return Number::Bad;
-    };
-    if s.len() <= next {
-        return Number::Bad;
+    let Number { n, next } = number_at(s, at, most)?;
+    if next < s.len() && s[next] == e {
+        return Some(Number { n, next: next + 1 });
     }
-    if s[next] == e {
-        return Number::Value { n, next: next + 1 };
-    }
-    Number::Bad
+    None
 }
 
 // As many numbers as the row has, each with a comma behind it, into the row; the place behind them.
-pub fn separated_at(s: &[u8], at: usize, most: usize, numbers: &mut [u32]) -> Place
+pub fn separated_at(s: &[u8], at: usize, most: usize, numbers: &mut [u32]) -> Option<usize>
     requires { (at ≤ length s.now) × (most ≤ 9) }
     ensures value { result ≡ place_of (separated_at (length numbers.old) most s.now at) }
     ensures numbers_after { numbers.new ≡ row_after (separated_at (length numbers.old) most s.now at) numbers.old }
 {
     let mut next = at;
-    let mut i: usize = 0;
-    while i < numbers.len() {
-        let p = field_at(s, next, most, COMMA);
-        let Number::Value { n, next: behind } = p else {
-            return Place::NoPlace;
-        };
-        numbers[i] = n;
-        i += 1;
-        next = behind;
+    for number in numbers.iter_mut() {
+        let read = field_at(s, next, most, COMMA)?;
+        *number = read.n;
+        next = read.next;
     }
-    Place::Behind { next }
+    Some(next)
 }
 
 // A line of one number more than the row has: the last number and the place behind the line, the others into the row.
-pub fn line_at(s: &[u8], at: usize, most: usize, numbers: &mut [u32]) -> Number
+pub fn line_at(s: &[u8], at: usize, most: usize, numbers: &mut [u32]) -> Option<Number>
     requires { (at ≤ length s.now) × (most ≤ 9) }
     ensures value { result ≡ last_of (line_at (length numbers.old) most s.now at) }
     ensures numbers_after { numbers.new ≡ row_after (separated_at (length numbers.old) most s.now at) numbers.old }
 {
-    let p = separated_at(s, at, most, numbers);
-    let Place::Behind { next } = p else {
-        return Number::Bad;
-    };
+    let next = separated_at(s, at, most, numbers)?;
     field_at(s, next, most, LINE_END)
 }
 
 // Whether the fixed bytes w stand at a place.
+#[tactic(auto, unfolding(crate::specs::Fixed::starts_with))]
 pub fn fixed_at(s: &[u8], at: usize, w: &[u8]) -> bool
     requires { at ≤ length s.now }
     ensures { result ≡ starts_with (drop at s.now) w.now }
 {
-    let mut k: usize = 0;
-    while k < w.len() {
-        if s.len() - at <= k {
-            return false;
-        }
-        if s[at + k] != w[k] {
-            return false;
-        }
-        k += 1;
-    }
-    true
+    s[at..].starts_with(w)
 }
 
 // How many digits a number has.
@@ -167,6 +111,7 @@ fn digit_count(n: usize) -> usize
 {
     let mut m = n;
     let mut count: usize = 1;
+    // Kept: a while, since the number is divided until one digit is left, and no index is counted.
     while 10 <= m {
         m /= 10;
         count += 1;
@@ -174,89 +119,50 @@ fn digit_count(n: usize) -> usize
     count
 }
 
-fn low_digit(n: usize) -> u8
-    ensures { result ≡ 48 + n % 10 }
-{
-    48 + ((n % 10) as u8)
-}
-
-// A number and the byte that ends its field, at the front of out, written from its last digit on; how many bytes.
-pub fn put_number(out: &mut [u8], n: usize, e: u8) -> usize
-    requires { length (ended e n) ≤ length out.old }
-    ensures { Put out.old 0 (ended e n) result out.new }
-{
-    let w = digit_count(n);
-    let mut i = w;
-    let mut m = n;
-    while 0 < i {
-        i -= 1;
-        out[i] = low_digit(m);
-        m /= 10;
-    }
-    out[w] = e;
-    w + 1
-}
-
-// Fixed bytes, at the front of out.
-pub fn put_fixed(out: &mut [u8], w: &[u8]) -> usize
-    requires { length w.now ≤ length out.old }
-    ensures { Put out.old 0 w.now result out.new }
-{
-    let mut i: usize = 0;
-    while i < w.len() {
-        out[i] = w[i];
-        i += 1;
-    }
-    i
-}
-
-// The same from `at` on: the part that starts there is lent on.
+// A number and the byte that ends its field, from `at` on, written from its last digit on; the place behind them.
 pub fn put_number_at(out: &mut [u8], at: usize, n: usize, e: u8) -> usize
     requires { at + length (ended e n) ≤ length out.old }
     ensures { Put out.old at (ended e n) result out.new }
 {
-    let k = put_number(&mut out[at..], n, e);
-    at + k
+    let end = at + digit_count(n);
+    let mut left = n;
+    for i in (at..end).rev() {
+        out[i] = b'0' + (left % 10) as u8;
+        left /= 10;
+    }
+    out[end] = e;
+    end + 1
 }
 
+// Fixed bytes from `at` on; the place behind them.
 pub fn put_fixed_at(out: &mut [u8], at: usize, w: &[u8]) -> usize
     requires { at + length w.now ≤ length out.old }
     ensures { Put out.old at w.now result out.new }
 {
-    let k = put_fixed(&mut out[at..], w);
-    at + k
+    let end = at + w.len();
+    out[at..end].copy_from_slice(w);
+    end
 }
 
-// Numbers, each with a comma behind it, at the front of out.
-pub fn put_separated(out: &mut [u8], numbers: &[usize]) -> usize
-    requires { length (separated numbers.now) ≤ length out.old }
-    ensures { Put out.old 0 (separated numbers.now) result out.new }
+// Numbers from `at` on, each with a comma behind it; the place behind them.
+pub fn put_separated_at(out: &mut [u8], at: usize, numbers: &[usize]) -> usize
+    requires { at + length (separated numbers.now) ≤ length out.old }
+    ensures { Put out.old at (separated numbers.now) result out.new }
 {
-    let mut at: usize = 0;
-    let mut i: usize = 0;
-    while i < numbers.len() {
-        at = put_number_at(out, at, numbers[i], COMMA);
-        i += 1;
+    let mut next = at;
+    for n in numbers {
+        next = put_number_at(out, next, *n, COMMA);
     }
-    at
+    next
 }
 
-// A line of numbers, at the front of out.
-pub fn put_line(out: &mut [u8], numbers: &[usize], last: usize) -> usize
-    requires { length (line numbers.now last) ≤ length out.old }
-    ensures { Put out.old 0 (line numbers.now last) result out.new }
-{
-    let at = put_separated(out, numbers);
-    put_number_at(out, at, last, LINE_END)
-}
-
-// A line of numbers from `at` on.
+// A line of numbers from `at` on; the place behind it.
 pub fn put_line_at(out: &mut [u8], at: usize, numbers: &[usize], last: usize) -> usize
     requires { at + length (line numbers.now last) ≤ length out.old }
     ensures { Put out.old at (line numbers.now last) result out.new }
 {
-    let k = put_line(&mut out[at..], numbers, last);
-    at + k
+    let next = put_separated_at(out, at, numbers);
+    put_number_at(out, next, last, LINE_END)
 }
 
 // How many bytes a number and the byte that ends its field take.
@@ -271,13 +177,7 @@ pub fn separated_len(numbers: &[usize]) -> usize
     requires { length numbers.now ≤ 8 }
     ensures { (result ≡ length (separated numbers.now)) × (result ≤ 21 * length numbers.now) }
 {
-    let mut sum: usize = 0;
-    let mut i: usize = 0;
-    while i < numbers.len() {
-        sum += number_len(numbers[i]);
-        i += 1;
-    }
-    sum
+    numbers.iter().map(|n| number_len(*n)).sum()
 }
 
 // How many bytes a line of numbers takes.
@@ -288,28 +188,24 @@ pub fn line_len(numbers: &[usize], last: usize) -> usize
     separated_len(numbers) + number_len(last)
 }
 
-const REFUSAL_NAMES_LEN: usize = 21;
-
-const REFUSAL_NAMES: [u8; 21] = *b"refusal,first,second\n";
-
-fn put_refusal_names(out: &mut [u8]) -> usize
-    requires { length refusal_names ≤ length out.old }
-    ensures { Put out.old 0 refusal_names result out.new }
-{
-    put_fixed(out, &REFUSAL_NAMES)
-}
+const REFUSAL_NAMES: &[u8] = b"refusal,first,second\n";
 
 // The text of a refusal, at the front of the buffer.
-pub fn write_refusal(number: usize, first: usize, second: usize, text: &mut [u8]) -> Answer
+pub fn write_refusal(
+    number: usize,
+    first: usize,
+    second: usize,
+    text: &mut [u8],
+) -> Result<usize, Refusal>
     ensures value { result ≡ text_answer text.old 0 (refusal_text number first second) }
     ensures text_after { text.new ≡ text_after text.old 0 (refusal_text number first second) }
 {
     let values = [number, first];
-    let needed = line_len(&values, second) + REFUSAL_NAMES_LEN;
+    let needed = line_len(&values, second) + REFUSAL_NAMES.len();
     if text.len() < needed {
-        return Answer::BadLength { needed };
+        return Err(Refusal::BadLength { needed });
     }
-    put_refusal_names(text);
-    put_line(&mut text[REFUSAL_NAMES_LEN..], &values, second);
-    Answer::Written { bytes: needed }
+    let at = put_fixed_at(text, 0, REFUSAL_NAMES);
+    put_line_at(text, at, &values, second);
+    Ok(needed)
 }

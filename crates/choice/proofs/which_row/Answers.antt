@@ -1,14 +1,25 @@
--- The totals compared; a row that is not legal counts as dearer.
+-- The choice at what is found of the two rows.
 -- Assumes nothing.
-use mathlib.Core.Path.{sym}
-use Rattle.choice.proofs.Laws.{choose_second, choose_first, choose_neither}
+use borrow.Author.Tests.{le-leb, lt-leb}
+use Rattle.choice.specs.Choice.{choice}
 use Rattle.choice.proofs.which_row.Goals as goal
 
-pub returns-then-other-one : goal.returns-then-other-one
-returns-then-other-one c = sym (choose_second _ _ _ c.legal_total-one.ensures c.legal_total-other.ensures c.if-other-one.true)
+pub returns-in-Ok-Ok : goal.returns-in-Ok-Ok
+unfolding choice
+returns-in-Ok-Ok c = rw (← c.check_plan-one.ensures, ← c.check_plan-other.ensures, c.in-Ok-Ok.is-0, c.in-Ok-Ok.is-1, lt-leb _ _ c.if-second_total-first_total.true)
 
-pub returns-then-one-lt-NO_TOTAL : goal.returns-then-one-lt-NO_TOTAL
-returns-then-one-lt-NO_TOTAL c = sym (choose_first _ _ _ c.legal_total-one.ensures c.legal_total-other.ensures c.if-other-one.false c.if-one-lt-NO_TOTAL.true)
+pub returns-in-Ok-default : goal.returns-in-Ok-default
+unfolding choice
+returns-in-Ok-default c = rw (← c.check_plan-one.ensures, ← c.check_plan-other.ensures, c.in-Ok-Ok.is-0, c.in-Ok-Ok.is-1, le-leb _ _ c.if-second_total-first_total.false)
 
-pub returns : goal.returns
-returns c = sym (choose_neither _ _ _ c.legal_total-one.ensures c.legal_total-other.ensures c.if-other-one.false c.if-one-lt-NO_TOTAL.false)
+pub returns-in-Ok-default-2 : goal.returns-in-Ok-default-2
+unfolding choice
+returns-in-Ok-default-2 c = rw (← c.check_plan-one.ensures, ← c.check_plan-other.ensures, c.in-Ok-default.is-0, c.in-Ok-default.is-1)
+
+pub returns-in-Err-Ok : goal.returns-in-Err-Ok
+unfolding choice
+returns-in-Err-Ok c = rw (← c.check_plan-one.ensures, ← c.check_plan-other.ensures, c.in-Err-Ok.is-0, c.in-Err-Ok.is-1)
+
+pub returns-in-Err-Err : goal.returns-in-Err-Err
+unfolding choice
+returns-in-Err-Err c = rw (← c.check_plan-one.ensures, ← c.check_plan-other.ensures, c.in-Err-Err.is-0, c.in-Err-Err.is-1)

@@ -1,10 +1,6 @@
 -- The price is the least for the flights looked at so far. Assumes nothing.
-use Prim.Native.Nat.{◌-◌}
 use Rattle.closed_prices.proofs.Pricing.{Pricing}
 use Rattle.closed_prices.proofs.least_price.Given as goal
 
 abbrev pub invariant-loop-i : goal.invariant-loop-i
-invariant-loop-i l = Pricing l.periods l.flights l.holds l.prices l.k l.count l.price l.i
-
-abbrev pub decreases-loop-i : goal.decreases-loop-i
-decreases-loop-i l = l.count - l.i
+invariant-loop-i l = Pricing l.periods l.flights l.holds l.prices l.k l.price l.i

@@ -1,11 +1,7 @@
 -- The closed periods looked at so far have their prices. Assumes nothing.
-use Prim.Native.Nat.{◌-◌}
 use Rattle.day.specs.Day.{day, unlimited}
 use Rattle.closed_prices.proofs.Pricing.{Closing}
 use Rattle.closed_prices.proofs.price_closed.Given as goal
 
 abbrev pub invariant-loop-at : goal.invariant-loop-at
 invariant-loop-at l = Closing (day l.capacities l.flights unlimited) l.holds l.initial.prices l.prices l.at
-
-abbrev pub decreases-loop-at : goal.decreases-loop-at
-decreases-loop-at l = l.periods - l.at

@@ -1,24 +1,30 @@
-use mathlib.Core.Path.{refl, ◌∙◌}
-use Rattle.completion.proofs.Steps.{tried_start, tried_rest, tried_end, tried_none, tried_back, tried_last}
+-- Assumes nothing.
+use mathlib.Core.Path.{◌≡◌}
+use Prim.Native.Nat.{◌+◌, ◌-◌}
+use native.Mathlib.Omega.{arith}
+use Rattle.completion.proofs.Steps.{rest_ready, rest_completes, rest_fails}
 use Rattle.completion.proofs.most_completed.Goals as goal
 
-pub loop-closing-init : goal.loop-closing-init
-loop-closing-init c = (tried_start c.requires, refl)
-
 pub rest_has_plan-requires : goal.rest_has_plan-requires
-rest_has_plan-requires c = tried_rest c.loop-closing.invariant.0
+rest_has_plan-requires c = rest_ready c.requires
 
-pub returns-then-m-eq0 : goal.returns-then-m-eq0
-returns-then-m-eq0 c = tried_none c.loop-closing.invariant.0 c.rest_has_plan.ensures c.loop-closing-test.true c.if-m-eq0.true
+pub returns-then-rest_has_plan : goal.returns-then-rest_has_plan
+returns-then-rest_has_plan c = (omega arith, (rest_completes c.requires c.rest_has_plan.ensures c.if-rest_has_plan.true, λ l. absurd (omega arith)))
 
-pub give_back-requires : goal.give_back-requires
-give_back-requires c = tried_last c.loop-closing.invariant.0 c.if-m-eq0.false
+pub loop-m-init : goal.loop-m-init
+loop-m-init c = record { kept = c.requires; upto = omega arith; over = rest_fails c.requires c.rest_has_plan.ensures c.if-rest_has_plan.false }
 
-pub loop-closing-preserved : goal.loop-closing-preserved
-loop-closing-preserved c = (
-  tried_back c.loop-closing.invariant.0 c.rest_has_plan.ensures c.loop-closing-test.true c.if-m-eq0.false c.give_back.ensures,
-  c.give_back.auto.left ∙ c.loop-closing.invariant.1,
-)
+pub rest_has_plan-requires-in-loop-m : goal.rest_has_plan-requires-in-loop-m
+rest_has_plan-requires-in-loop-m c = rest_ready c.give_back.ensures
 
-pub returns : goal.returns
-returns c = tried_end c.loop-closing.invariant.0 c.rest_has_plan.ensures c.loop-closing-test.false
+pub returns-then-rest_has_plan-2 : goal.returns-then-rest_has_plan-2
+returns-then-rest_has_plan-2 c =
+    let back : c.loop-m.m - 1 + 1 ≡ c.loop-m.m = omega arith in
+    (omega (arith, c.loop-m.invariant.upto), (rest_completes c.give_back.ensures c.rest_has_plan-in-loop-m.ensures c.if-rest_has_plan-2.true, λ l. rw back c.loop-m.invariant.over))
+
+pub loop-m-preserved : goal.loop-m-preserved
+loop-m-preserved c = record {
+  kept = c.give_back.ensures;
+  upto = omega (arith, c.loop-m.invariant.upto);
+  over = rest_fails c.give_back.ensures c.rest_has_plan-in-loop-m.ensures c.if-rest_has_plan-2.false;
+}

@@ -1,23 +1,32 @@
 -- The places left and the flights from table place i on are lent, and a legal plan of them exists exactly when no stretch is short.
 -- Assumes nothing.
-use native.Mathlib.Omega.{arith}
 use mathlib.Core.Path.{◌≡◌}
+use mathlib.Core.Bool.{Bool, true, false, not}
+use native.Mathlib.Omega.{arith}
+use lib.ListN.{length-take}
+use Rattle.std.specs.Prelude.{Option, Some, None}
+use Rattle.std.specs.Option.{is_some}
+use Rattle.answers.specs.Decides.{Decides}
+use Rattle.day.specs.Day.{Day, valid}
+use Rattle.day.specs.Plan.{HasPlan}
 use Rattle.day.proofs.Costs.{counted_from}
-use Rattle.stretch.specs.declared.ShortStretch.TheVariants.{NoneShort}
-use Rattle.completion.proofs.Steps.{front_is, part_is, short_found, none_found}
+use Rattle.stretch.specs.declared.Stretch.{Stretch}
+use Rattle.stretch.specs.Search.{Searched}
+use Rattle.completion.proofs.Steps.{part_is, short_found, none_found}
 use Rattle.completion.proofs.rest_has_plan.Goals as goal
 
+-- a plan where no stretch is found
+decided : {d : Day} {none : Bool} (found : Option Stretch) → valid d ≡ true → Searched d found → is_some found ≡ not none → Decides none (HasPlan d)
+decided {none = true} None good clear e = none_found good clear
+decided {none = false} (Some s) good picked e = short_found good picked
+decided {none = false} None good clear e = absurd cc
+decided {none = true} (Some s) good picked e = absurd cc
+
 pub slice_bounds-find_short-end : goal.slice_bounds-find_short-end
-slice_bounds-find_short-end c = omega (arith, c.requires, counted_from c.args.periods c.args.closing)
+slice_bounds-find_short-end c = simp length-take (omega (arith, c.requires, counted_from c.args.periods c.args.closing))
 
-pub find_short-found-requires : goal.find_short-found-requires
-find_short-found-requires c = rw (c.closing_left-open.ensures, front_is, part_is) c.requires.3
+pub find_short-requires : goal.find_short-requires
+find_short-requires c = rw (c.closing_left-open.ensures, part_is) c.requires.3
 
-pub returns-in-Found : goal.returns-in-Found
-returns-in-Found c =
-    short_found c.requires.3 (rw (c.closing_left-open.ensures, front_is, part_is, c.in-Found.is) at c.find_short-found.ensures)
-
-pub returns-in-NoneShort : goal.returns-in-NoneShort
-returns-in-NoneShort c =
-    let none : c.find_short-found.result ≡ NoneShort = cc in
-    none_found c.requires.3 (rw (c.closing_left-open.ensures, front_is, part_is, none) at c.find_short-found.ensures)
+pub returns : goal.returns
+returns c = decided _ c.requires.3 (rw (c.closing_left-open.ensures, part_is) at c.find_short.ensures) c.is_none.ensures

@@ -1,21 +1,14 @@
-use borrow.Author.Rules.{rules}
-use mathlib.Core.Path.{◌≡◌, refl, sym}
-use native.Mathlib.Omega.{arith}
-use lib.ListN.{length}
-use borrow.Author.Tests.{le-leb, lt-leb}
-use Rattle.day.specs.Day.{all}
-use Rattle.day.proofs.Tests.{all_next, all_not}
+-- std's test of all entries is the definition's.
+-- Assumes nothing.
+use Rattle.std.proofs.Common.{ℕ, leb, rules, tests, ◌∙◌}
+use Rattle.std.proofs.lemmas.Iterator.{YieldsList-from_slice}
+use Rattle.std.proofs.lemmas.Iterator.Search.{all_from_yields_List}
+use Rattle.day.proofs.Tests.{all_of_list}
 use Rattle.day.proofs.capacities_fit.Goals as goal
 
-pub loop-k-init : goal.loop-k-init
-unfolding all
-loop-k-init c = (search rules, refl)
-
-pub returns-then-capacities-k-gt255 : goal.returns-then-capacities-k-gt255
-returns-then-capacities-k-gt255 c = sym (all_not _ _ c.loop-k.k c.loop-k-test.true (lt-leb _ _ c.if-capacities-k-gt255.true))
-
-pub loop-k-preserved : goal.loop-k-preserved
-loop-k-preserved c = (search rules, all_next _ _ c.loop-k.invariant.1 (le-leb _ _ c.if-capacities-k-gt255.false))
-
 pub returns : goal.returns
-returns c = let e : c.loop-k.k ≡ length c.args.capacities.now = omega arith in sym (rw e at c.loop-k.invariant.1)
+returns c =
+    let a = c.args in
+    let fits = λ (x : ℕ). leb x 255 in
+    all_from_yields_List fits _ _ _ c.all.ensures.ran (YieldsList-from_slice a.capacities.now (cc)) (λ x b q k. search (rules, tests))
+    ∙ all_of_list fits a.capacities.now

@@ -1,30 +1,15 @@
-use borrow.Author.Rules.{rules}
-use Prim.Native.Nat.{ℕ}
-use mathlib.Core.Path.{◌≡◌, refl, sym, ap, ◌∙◌}
-use mathlib.Core.Bool.{Bool}
-use mathlib.Core.List.{List}
-use native.Mathlib.Omega.{arith}
-use Rattle.day.specs.Day.{all, flight_at, flight_fits, in_range}
-use Rattle.day.specs.declared.Flight.{Flight}
-use Rattle.day.proofs.Tests.{all_next, all_not}
+-- std's test of all places is the definition's.
+-- Assumes nothing.
+use Rattle.std.proofs.Common.{rules, tests, arith, ◌∙◌, ◌≡◌, ◌+◌}
+use Rattle.std.proofs.lemmas.Iterator.{YieldsList-from_range}
+use Rattle.std.proofs.lemmas.Iterator.Search.{all_from_yields_List}
+use Rattle.day.specs.Day.{in_range}
+use Rattle.day.proofs.Tests.{all_of_range}
 use Rattle.day.proofs.flights_in_range.Goals as goal
-
--- what the test of a flight of the row has found
-found : (p : ℕ) (row : List ℕ) (i : ℕ) {f : Flight} {r : Bool} → r ≡ flight_fits p f → f ≡ flight_at row i → r ≡ in_range p row i
-found p row i e s = e ∙ ap (flight_fits p) s
-
-pub loop-i-init : goal.loop-i-init
-unfolding all
-loop-i-init c = (search rules, refl)
-
-pub returns-then-not-flight_fits : goal.returns-then-not-flight_fits
-returns-then-not-flight_fits c = sym (all_not _ _ c.loop-i.i c.loop-i-test.true (sym (found _ _ _ c.flight_fits.ensures c.flight_at.ensures) ∙ c.if-not-flight_fits.true))
-
-pub loop-i-preserved : goal.loop-i-preserved
-loop-i-preserved c = (search rules, all_next _ _ c.loop-i.invariant.1 (sym (found _ _ _ c.flight_fits.ensures c.flight_at.ensures) ∙ c.if-not-flight_fits.false))
 
 pub returns : goal.returns
 returns c =
-    let s = c.loop-i in
-    let e : s.i ≡ c.args.n = omega arith in
-    sym (rw e at s.invariant.1)
+    let a = c.args in
+    let fits = in_range a.periods a.flights.now in
+    all_from_yields_List fits _ _ _ c.all.ensures.ran (YieldsList-from_range 0 a.n a.n (cc) (omega arith)) (λ x b q k. search (rules, tests))
+    ∙ all_of_range fits fits a.n 0 (λ k. let e : 0 + k ≡ k = omega arith in rw e)

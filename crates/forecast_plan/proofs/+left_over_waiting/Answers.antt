@@ -8,12 +8,6 @@ use Rattle.forecast_plan.proofs.+left_over_waiting.Goals as goal
 pub left_over-returns-then-j-eq0-clause-value : goal.left_over-returns-then-j-eq0-clause-value
 left_over-returns-then-j-eq0-clause-value t c = none_left_over _ _ _ c.if-j-eq0.true
 
-pub left_over-waiting-here-requires : goal.left_over-waiting-here-requires
-left_over-waiting-here-requires t c = (omega (arith, c.decreases), (c.requires.0, omega arith, c.requires.1))
-
-pub waiting-left_over-requires : goal.waiting-left_over-requires
-waiting-left_over-requires t c = (omega (arith, c.decreases), (c.requires.0, omega arith))
-
 pub waiting-overflow_add-here : goal.waiting-overflow_add-here
 waiting-overflow_add-here t c =
     let turn = c.requires.0 in

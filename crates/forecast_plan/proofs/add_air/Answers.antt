@@ -1,14 +1,11 @@
 use mathlib.Core.Path.{sym}
 use native.Mathlib.Omega.{arith}
 use Rattle.forecast_plan.proofs.Landing.{room_closing}
-use Rattle.forecast_plan.proofs.Air.{adding_there, adding_lands, adding_fits, adding_low, adding_next, adding_end}
+use Rattle.forecast_plan.proofs.Air.{adding_lands, adding_fits, adding_low}
 use Rattle.forecast_plan.proofs.add_air.Goals as goal
 
 pub loop-j-init : goal.loop-j-init
 loop-j-init c = (sym (room_closing _ _ _ (omega arith)), c.requires)
-
-pub lands_at-lands-requires : goal.lands_at-lands-requires
-lands_at-lands-requires c = adding_there c.loop-j.invariant.1 c.loop-j.invariant.0 c.loop-j-test.true
 
 pub overflow_sub-air : goal.overflow_sub-air
 overflow_sub-air c = adding_lands c.loop-j.invariant.1 c.lands_at-lands.ensures c.loop-j-test.true
@@ -22,9 +19,3 @@ overflow_add-air c =
     let e = c.lands_at-lands.ensures in
     let l = c.loop-j-test.true in
     omega (arith, adding_low a e l, adding_fits a e l)
-
-pub loop-j-preserved : goal.loop-j-preserved
-loop-j-preserved c = (c.lands_at-lands.ensures, adding_next c.loop-j.invariant.1 c.lands_at-lands.ensures c.loop-j-test.true)
-
-pub returns : goal.returns
-returns c = adding_end c.loop-j.invariant.1 c.loop-j-test.false

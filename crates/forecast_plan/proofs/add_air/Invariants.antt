@@ -9,6 +9,3 @@ use Rattle.forecast_plan.proofs.add_air.Given as goal
 abbrev pub invariant-loop-j : goal.invariant-loop-j
 invariant-loop-j l =
     (l.lands ≡ first_room (el l.waits) l.forecast l.j) × Adding l.forecast l.waits l.weight l.due l.initial.air l.air l.j
-
-abbrev pub decreases-loop-j : goal.decreases-loop-j
-decreases-loop-j l = l.j

@@ -1,12 +1,7 @@
 -- The first s forecasts are weighed.
 -- Assumes nothing.
-use Prim.Native.Nat.{◌-◌}
-use lib.ListN.{length}
 use Rattle.forecast_plan.specs.Loop.{Weighed}
 use Rattle.forecast_plan.proofs.weigh_air.Given as goal
 
 abbrev pub invariant-loop-s : goal.invariant-loop-s
 invariant-loop-s l = Weighed l.periods l.weights l.rows l.waits l.due l.air l.s
-
-abbrev pub decreases-loop-s : goal.decreases-loop-s
-decreases-loop-s l = length l.weights - l.s

@@ -1,17 +1,14 @@
-use native.Mathlib.Omega.{arith}
-use Rattle.forecast_plan.proofs.Tests.{summed_none, summed_next, summed_all}
+-- std's sum of a list is the definition's.
+-- Assumes nothing.
+use Rattle.std.proofs.Common.{ℕ, rules, sym, ◌∙◌}
+use Rattle.std.proofs.lemmas.Iterator.{YieldsList-from_slice, YieldsList-from_map}
+use Rattle.std.proofs.lemmas.Iterator.Consumers.{sum_by_from_yields_List}
+use Rattle.forecast_plan.proofs.Weights.{sum_of_list}
 use Rattle.forecast_plan.proofs.weight_sum.Goals as goal
 
-pub loop-s-init : goal.loop-s-init
-loop-s-init c = summed_none c.requires
-
-pub overflow_add-sum : goal.overflow_add-sum
-overflow_add-sum c =
-    omega (arith, c.loop-s.invariant.most, c.loop-s.invariant.few, c.loop-s.invariant.upto, c.wide-sum.ensures, c.type_inv.weights c.loop-s.s)
-
-pub loop-s-preserved : goal.loop-s-preserved
-loop-s-preserved c =
-    summed_next c.loop-s.invariant c.loop-s-test.true c.wide-sum.ensures (omega (arith, c.wide-sum.ensures, c.type_inv.weights c.loop-s.s))
-
 pub returns : goal.returns
-returns c = summed_all c.loop-s.invariant c.loop-s-test.false
+returns c =
+    let w = c.args.weights.now in
+    let same = λ (x : ℕ). x in
+    sum_by_from_yields_List same w c.map.result _ c.sum.ensures.ran (YieldsList-from_map _ same (YieldsList-from_slice w (cc)) c.map.ensures.closure (λ x r q k. search rules))
+    ∙ sym (sum_of_list w)

@@ -8,6 +8,6 @@ pub returns-then-periods-k : goal.returns-then-periods-k
 unfolding too_long_of
 returns-then-periods-k c = rw (lt-ltb _ _ c.if-periods-k.true)
 
-pub returns : goal.returns
+pub returns-else-periods-k : goal.returns-else-periods-k
 unfolding too_long_of
-returns c = rw (c.latest_of.ensures, le-ltb _ _ c.if-periods-k.false)
+returns-else-periods-k c = rw (c.latest_of.ensures, le-ltb _ _ c.if-periods-k.false)

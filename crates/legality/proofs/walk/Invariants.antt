@@ -1,13 +1,8 @@
 -- The flights passed break nothing, and their landings are counted by period.
 -- Assumes nothing.
-use Prim.Native.Nat.{◌-◌}
-use lib.ListN.{length}
 use Rattle.day.specs.Day.{day}
 use Rattle.legality.specs.Loop.{Walked}
 use Rattle.legality.proofs.walk.Given as goal
 
 abbrev pub invariant-loop-place : goal.invariant-loop-place
 invariant-loop-place l = Walked (day l.capacities l.flights l.closing) l.holds l.loads l.place
-
-abbrev pub decreases-loop-place : goal.decreases-loop-place
-decreases-loop-place l = length l.holds - l.place

@@ -1,10 +1,6 @@
 -- The open periods before k are listed. Assumes nothing.
-use Prim.Native.Nat.{◌-◌}
 use Rattle.path.proofs.Listing.{Filling}
 use Rattle.path.proofs.list_periods.Given as goal
 
 abbrev pub invariant-loop-k : goal.invariant-loop-k
 invariant-loop-k l = Filling l.capacities l.initial.list l.list l.first l.target l.left l.k
-
-abbrev pub decreases-loop-k : goal.decreases-loop-k
-decreases-loop-k l = l.target - l.k

@@ -11,8 +11,8 @@ pub loop-i-init : goal.loop-i-init
 loop-i-init c =
     (rw length_plan_names at c.requires, c.flight_count-n.ensures)
 
-pub hold_at-line-requires : goal.hold_at-line-requires
-hold_at-line-requires c = (read_inside c.loop-i.invariant.0, read_place c.loop-i.invariant.0 (omega (arith, c.loop-i-test.true, c.loop-i.invariant.1)))
+pub hold_at-requires : goal.hold_at-requires
+hold_at-requires c = (read_inside c.loop-i.invariant.0, read_place c.loop-i.invariant.0 (omega (arith, c.loop-i-test.true, c.loop-i.invariant.1)))
 
 pub shape_of-left-in_default : goal.shape_of-left-in_default
 shape_of-left-in_default c =
@@ -20,7 +20,7 @@ shape_of-left-in_default c =
 
 pub returns-in_default : goal.returns-in_default
 returns-in_default c =
-    stops_at_line c.loop-i.invariant.0 (omega (arith, c.loop-i-test.true, c.loop-i.invariant.1)) (rw c.in_default.is at c.hold_at-line.ensures)
+    stops_at_line c.loop-i.invariant.0 (omega (arith, c.loop-i-test.true, c.loop-i.invariant.1)) (rw c.in_default.is at c.hold_at.ensures)
 
 pub take_landing-requires : goal.take_landing-requires
 take_landing-requires c =
@@ -37,13 +37,13 @@ shape_of-left-then-not-take_landing c =
 pub returns-then-not-take_landing : goal.returns-then-not-take_landing
 returns-then-not-take_landing c =
     let broken : c.take_landing.result ≡ false = c.if-not-take_landing.true in
-    let read = rw c.in-Value.is at c.hold_at-line.ensures in
+    let read = rw c.in-Some.is at c.hold_at.ensures in
     stops_at_landing c.loop-i.invariant.0 (omega (arith, c.loop-i-test.true, c.loop-i.invariant.1)) _ _ read (rw (broken) at c.take_landing.ensures)
 
 pub loop-i-preserved : goal.loop-i-preserved
 loop-i-preserved c =
     let landed : c.take_landing.result ≡ true = c.if-not-take_landing.false in
-    let read = rw c.in-Value.is at c.hold_at-line.ensures in
+    let read = rw c.in-Some.is at c.hold_at.ensures in
     (goes_to_next c.loop-i.invariant.0 (omega (arith, c.loop-i-test.true, c.loop-i.invariant.1)) _ _ read (rw (landed) at c.take_landing.ensures), c.loop-i.invariant.1)
 
 pub shape_of-left : goal.shape_of-left

@@ -1,6 +1,5 @@
 -- One law for each way through a line.
 -- Assumes nothing.
-use Prim.Native.Nat.{◌-◌}
 use mathlib.Core.Path.{◌≡◌}
 use Rattle.day.specs.Day.{day, N}
 use Rattle.plan_reader.specs.Loop.{Read}
@@ -8,6 +7,3 @@ use Rattle.plan_reader.proofs.read_lines.Given as goal
 
 abbrev pub invariant-loop-i : goal.invariant-loop-i
 invariant-loop-i l = Read (day l.capacities l.flights l.closing) l.text l.holds l.left l.i l.at × (l.n ≡ N (day l.capacities l.flights l.closing))
-
-abbrev pub decreases-loop-i : goal.decreases-loop-i
-decreases-loop-i l = l.n - l.i

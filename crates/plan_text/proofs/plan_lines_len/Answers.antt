@@ -1,5 +1,4 @@
 use Rattle.plan_text.proofs.Placing.{lines_part, no_lines}
-use borrow.Author.Rules.{rules}
 use native.Mathlib.Omega.{arith}
 use mathlib.Core.Path.{◌≡◌, refl}
 use lib.ListN.{length, length-append}
@@ -10,7 +9,7 @@ loop-i-init c =
     let a = c.args in
     let f = a.flights.now in
     let h = a.holds.now in
-    (search rules, rw (no_lines f h) refl, omega arith)
+    (rw (no_lines f h) refl, omega arith)
 
 pub plan_line_len-sum-requires : goal.plan_line_len-sum-requires
 plan_line_len-sum-requires c = (omega (arith, c.loop-i-test.true), omega (arith, c.requires.0, c.loop-i-test.true))
@@ -24,7 +23,7 @@ loop-i-preserved c =
     let f = a.flights.now in
     let h = a.holds.now in
     let l = c.loop-i in
-    (omega arith, rw (lines_part f h l.i, length-append) (omega (arith, c.plan_line_len-sum.ensures.0)), omega (arith, c.plan_line_len-sum.ensures.1))
+    (rw (lines_part f h l.i, length-append) (omega (arith, c.plan_line_len-sum.ensures.0)), omega (arith, c.plan_line_len-sum.ensures.1))
 
 pub returns : goal.returns
 returns c =
@@ -33,4 +32,4 @@ returns c =
     let h = a.holds.now in
     let l = c.loop-i in
     let e : l.i ≡ length h = omega arith in
-    (rw e at l.invariant.1, omega (arith, c.requires.1))
+    (rw e at l.invariant.0, omega (arith, c.requires.1))

@@ -1,6 +1,5 @@
 use Rattle.text.proofs.Writing.{then, put_none, put_length}
 use Rattle.plan_text.proofs.Placing.{lines_part, lines_room, no_lines}
-use borrow.Author.Rules.{rules}
 use Prim.Native.Nat.{◌<◌}
 use native.Mathlib.Omega.{arith}
 use mathlib.Core.Path.{◌≡◌, refl}
@@ -12,7 +11,7 @@ loop-i-init c =
     let a = c.args in
     let f = a.flights.now in
     let h = a.holds.now in
-    (search rules, refl, rw (no_lines f h) (put_none a.out.now a.start (omega (arith, c.requires.1))))
+    (refl, rw (no_lines f h) (put_none a.out.now a.start (omega (arith, c.requires.1))))
 
 pub put_plan_line-at-requires : goal.put_plan_line-at-requires
 put_plan_line-at-requires c =
@@ -21,7 +20,7 @@ put_plan_line-at-requires c =
     let h = a.holds.now in
     let l = c.loop-i in
     let t : l.i < length h = c.loop-i-test.true in
-    (t, omega (arith, c.requires.0), omega (arith, lines_room f h l.i (length h) t, l.invariant.2.place, l.invariant.1, c.requires.1))
+    (t, omega (arith, c.requires.0), omega (arith, lines_room f h l.i (length h) t, l.invariant.1.place, l.invariant.0, c.requires.1))
 
 pub loop-i-preserved : goal.loop-i-preserved
 loop-i-preserved c =
@@ -31,8 +30,8 @@ loop-i-preserved c =
     let l = c.loop-i in
     let t : l.i < length h = c.loop-i-test.true in
     let p = lines_room f h l.i (length h) t in
-    let q = then (omega (arith, p, c.requires.1)) l.invariant.2 c.put_plan_line-at.ensures in
-    (omega arith, put_length (simp length-append (omega (arith, p, c.requires.1))) q, rw (lines_part f h l.i) q)
+    let q = then (omega (arith, p, c.requires.1)) l.invariant.1 c.put_plan_line-at.ensures in
+    (put_length (simp length-append (omega (arith, p, c.requires.1))) q, rw (lines_part f h l.i) q)
 
 pub returns : goal.returns
 returns c =
@@ -41,4 +40,4 @@ returns c =
     let h = a.holds.now in
     let l = c.loop-i in
     let e : l.i ≡ length h = omega arith in
-    rw e at l.invariant.2
+    rw e at l.invariant.1

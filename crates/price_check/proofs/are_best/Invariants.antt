@@ -1,13 +1,9 @@
 -- The flights passed land where they pay least.
 -- Assumes nothing.
-use Prim.Native.Nat.{ℕ, ◌≤◌, ◌<◌, ◌-◌}
-use lib.ListN.{length}
+use Prim.Native.Nat.{ℕ, ◌<◌}
 use Rattle.day.specs.Day.{day, unlimited}
 use Rattle.price_check.specs.Check.{Best}
 use Rattle.price_check.proofs.are_best.Given as goal
 
 abbrev pub invariant-loop-i : goal.invariant-loop-i
-invariant-loop-i l = (l.i ≤ length l.holds) × ((j : ℕ) → j < l.i → Best (day l.capacities l.flights unlimited) l.holds l.prices j)
-
-abbrev pub decreases-loop-i : goal.decreases-loop-i
-decreases-loop-i l = length l.holds - l.i
+invariant-loop-i l = (j : ℕ) → j < l.i → Best (day l.capacities l.flights unlimited) l.holds l.prices j

@@ -1,12 +1,7 @@
 -- The flights passed are counted where they land in the period.
 -- Assumes nothing.
-use Prim.Native.Nat.{◌-◌}
-use lib.ListN.{length}
 use Rattle.price_check.proofs.Laws.{Counted}
 use Rattle.price_check.proofs.landings_of.Given as goal
 
 abbrev pub invariant-loop-i : goal.invariant-loop-i
 invariant-loop-i l = Counted l.flights l.holds l.k l.count l.i
-
-abbrev pub decreases-loop-i : goal.decreases-loop-i
-decreases-loop-i l = length l.holds - l.i

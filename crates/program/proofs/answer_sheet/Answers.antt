@@ -1,57 +1,21 @@
--- Number 0: the sheet was read, and its day stands at the front of the rows. Any other number: the sheet was refused by that answer.
+-- A sheet that was read left its day at the front of the rows; one that was not is refused.
 -- Assumes nothing.
-use native.Mathlib.Omega.{arith}
-use Rattle.program.proofs.Reading.{Held, held, prints_refusal, priced_within, can_plan, prints_day}
+use mathlib.Core.Path.{sym}
+use lib.ListN.{length-replicate}
+use Prim.Native.Nat.{ℕ}
+use Rattle.program.proofs.Reading.{held, in_rows, prints_refusal, prints_day}
 use Rattle.program.proofs.answer_sheet.Goals as goal
 
-pub returns-then-number-ne0 : goal.returns-then-number-ne0
-returns-then-number-ne0 c =
-    prints_refusal c.args.sheet.now c.capacity_row-capacities.result c.flight_row-flights.result c.capacity_row-capacities.ensures c.flight_row-flights.ensures c.read_sheet-read.ensures.answer_value c.code_of-code.ensures c.put_refusal.new.text c.if-number-ne0.true c.put_refusal.ensures
+pub plan_rows-requires : goal.plan_rows-requires
+plan_rows-requires c =
+    let read = c.in-Ok.ensures in
+    (in_rows (held c.args.sheet.now _ _ (sym (length-replicate {A = ℕ} _ 0)) (sym (length-replicate {A = ℕ} _ 0)) read.value read.capacities_after read.flights_after), c.requires)
 
-pub counted_of-priced-requires : goal.counted_of-priced-requires
-counted_of-priced-requires c =
-    let in_day : Held c.args.sheet.now c.code_of-code.result.first c.code_of-code.result.second
-    c.read_sheet-read.result.closing c.read_sheet-read.new.capacities c.read_sheet-read.new.flights = held _ c.capacity_row-capacities.result c.flight_row-flights.result c.capacity_row-capacities.ensures c.flight_row-flights.ensures c.read_sheet-read.ensures.answer_value c.code_of-code.ensures c.read_sheet-read.ensures.closing_value c.read_sheet-read.ensures.capacities_after c.read_sheet-read.ensures.flights_after c.if-number-ne0.false in
-    (in_day).few_periods
+pub returns-in-Ok : goal.returns-in-Ok
+returns-in-Ok c =
+    let read = c.in-Ok.ensures in
+    prints_day (held c.args.sheet.now _ _ (sym (length-replicate {A = ℕ} _ 0)) (sym (length-replicate {A = ℕ} _ 0)) read.value read.capacities_after read.flights_after) c.plan_rows.new.text c.plan_rows.ensures
 
-pub slice_bounds-plan_day-end : goal.slice_bounds-plan_day-end
-slice_bounds-plan_day-end c =
-    let in_day : Held c.args.sheet.now c.code_of-code.result.first c.code_of-code.result.second
-    c.read_sheet-read.result.closing c.read_sheet-read.new.capacities c.read_sheet-read.new.flights = held _ c.capacity_row-capacities.result c.flight_row-flights.result c.capacity_row-capacities.ensures c.flight_row-flights.ensures c.read_sheet-read.ensures.answer_value c.code_of-code.ensures c.read_sheet-read.ensures.closing_value c.read_sheet-read.ensures.capacities_after c.read_sheet-read.ensures.flights_after c.if-number-ne0.false in
-    (in_day).capacities_within
-
-pub overflow_mul-count : goal.overflow_mul-count
-overflow_mul-count c =
-    let in_day : Held c.args.sheet.now c.code_of-code.result.first c.code_of-code.result.second
-    c.read_sheet-read.result.closing c.read_sheet-read.new.capacities c.read_sheet-read.new.flights = held _ c.capacity_row-capacities.result c.flight_row-flights.result c.capacity_row-capacities.ensures c.flight_row-flights.ensures c.read_sheet-read.ensures.answer_value c.code_of-code.ensures c.read_sheet-read.ensures.closing_value c.read_sheet-read.ensures.capacities_after c.read_sheet-read.ensures.flights_after c.if-number-ne0.false in
-    omega (arith, (in_day).few_flights)
-
-pub slice_bounds-plan_day-end-2 : goal.slice_bounds-plan_day-end-2
-slice_bounds-plan_day-end-2 c =
-    let in_day : Held c.args.sheet.now c.code_of-code.result.first c.code_of-code.result.second
-    c.read_sheet-read.result.closing c.read_sheet-read.new.capacities c.read_sheet-read.new.flights = held _ c.capacity_row-capacities.result c.flight_row-flights.result c.capacity_row-capacities.ensures c.flight_row-flights.ensures c.read_sheet-read.ensures.answer_value c.code_of-code.ensures c.read_sheet-read.ensures.closing_value c.read_sheet-read.ensures.capacities_after c.read_sheet-read.ensures.flights_after c.if-number-ne0.false in
-    (in_day).flights_within
-
-pub slice_bounds-holds-end : goal.slice_bounds-holds-end
-slice_bounds-holds-end c =
-    let in_day : Held c.args.sheet.now c.code_of-code.result.first c.code_of-code.result.second
-    c.read_sheet-read.result.closing c.read_sheet-read.new.capacities c.read_sheet-read.new.flights = held _ c.capacity_row-capacities.result c.flight_row-flights.result c.capacity_row-capacities.ensures c.flight_row-flights.ensures c.read_sheet-read.ensures.answer_value c.code_of-code.ensures c.read_sheet-read.ensures.closing_value c.read_sheet-read.ensures.capacities_after c.read_sheet-read.ensures.flights_after c.if-number-ne0.false in
-    omega (arith, (in_day).few_flights, c.hold_row-holds.ensures)
-
-pub slice_bounds-prices-end : goal.slice_bounds-prices-end
-slice_bounds-prices-end c =
-    let in_day : Held c.args.sheet.now c.code_of-code.result.first c.code_of-code.result.second
-    c.read_sheet-read.result.closing c.read_sheet-read.new.capacities c.read_sheet-read.new.flights = held _ c.capacity_row-capacities.result c.flight_row-flights.result c.capacity_row-capacities.ensures c.flight_row-flights.ensures c.read_sheet-read.ensures.answer_value c.code_of-code.ensures c.read_sheet-read.ensures.closing_value c.read_sheet-read.ensures.capacities_after c.read_sheet-read.ensures.flights_after c.if-number-ne0.false in
-    priced_within c.price_row-prices.result _ (in_day).few_periods c.price_row-prices.ensures c.counted_of-priced.ensures
-
-pub plan_day-requires : goal.plan_day-requires
-plan_day-requires c =
-    let in_day : Held c.args.sheet.now c.code_of-code.result.first c.code_of-code.result.second
-    c.read_sheet-read.result.closing c.read_sheet-read.new.capacities c.read_sheet-read.new.flights = held _ c.capacity_row-capacities.result c.flight_row-flights.result c.capacity_row-capacities.ensures c.flight_row-flights.ensures c.read_sheet-read.ensures.answer_value c.code_of-code.ensures c.read_sheet-read.ensures.closing_value c.read_sheet-read.ensures.capacities_after c.read_sheet-read.ensures.flights_after c.if-number-ne0.false in
-    can_plan c.hold_row-holds.result c.price_row-prices.result c.args.text.now (in_day) c.hold_row-holds.ensures c.price_row-prices.ensures c.counted_of-priced.ensures c.requires
-
-pub returns : goal.returns
-returns c =
-    let in_day : Held c.args.sheet.now c.code_of-code.result.first c.code_of-code.result.second
-    c.read_sheet-read.result.closing c.read_sheet-read.new.capacities c.read_sheet-read.new.flights = held _ c.capacity_row-capacities.result c.flight_row-flights.result c.capacity_row-capacities.ensures c.flight_row-flights.ensures c.read_sheet-read.ensures.answer_value c.code_of-code.ensures c.read_sheet-read.ensures.closing_value c.read_sheet-read.ensures.capacities_after c.read_sheet-read.ensures.flights_after c.if-number-ne0.false in
-    prints_day c.plan_day.new.text (in_day) c.plan_day.ensures
+pub returns-in-Err : goal.returns-in-Err
+returns-in-Err c =
+    prints_refusal c.args.sheet.now _ _ (sym (length-replicate {A = ℕ} _ 0)) (sym (length-replicate {A = ℕ} _ 0)) c.put_refusal.new.text c.in-Err.ensures.value c.put_refusal.ensures

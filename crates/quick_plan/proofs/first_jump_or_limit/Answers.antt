@@ -1,17 +1,23 @@
-use Rattle.quick_plan.proofs.Steps.{plain_start, plain_there, plain_stop, plain_next, plain_end}
+-- Each place of the table is asked, up to the first that answers yes. Assumes nothing.
+use mathlib.Core.Path.{◌≡◌}
+use mathlib.Core.Bool.{true, false}
+use native.Mathlib.Omega.{arith}
+use borrow.Author.Rules.{rules}
+use Rattle.std.proofs.Common.{tests}
+use Rattle.std.proofs.lemmas.Iterator.{first_from_Range, serves_from_Range}
+use Rattle.day.specs.Day.{flight_at}
+use Rattle.day.specs.Plan.{jump_or_limit}
+use Rattle.day.proofs.Flights.{there}
+use Rattle.quick_plan.proofs.Steps.{first_is}
 use Rattle.quick_plan.proofs.first_jump_or_limit.Goals as goal
 
-pub loop-i-init : goal.loop-i-init
-loop-i-init c = plain_start c.flight_count-n.ensures
-
-pub flight_at-requires : goal.flight_at-requires
-flight_at-requires c = plain_there c.loop-i.invariant c.loop-i-test.true
-
-pub returns-then-has_jump_or_limit : goal.returns-then-has_jump_or_limit
-returns-then-has_jump_or_limit c = plain_stop c.loop-i.invariant c.loop-i-test.true c.flight_at.ensures c.has_jump_or_limit.ensures c.if-has_jump_or_limit.true
-
-pub loop-i-preserved : goal.loop-i-preserved
-loop-i-preserved c = plain_next c.loop-i.invariant c.loop-i-test.true c.flight_at.ensures c.has_jump_or_limit.ensures c.if-has_jump_or_limit.false
+pub find-requires-clause-callable : goal.find-requires-clause-callable
+find-requires-clause-callable c =
+    serves_from_Range (λ x q k. search (rules, tests)) (λ x low high y e _ _ _ _ _ _ _ _. rw e (there c.args.flights.now x (omega arith)))
 
 pub returns : goal.returns
-returns c = plain_end c.loop-i.invariant c.loop-i-test.false
+returns c =
+    first_is c.args.flights.now c.flight_count.ensures _
+    (first_from_Range _ _ _ _ (λ i. jump_or_limit (flight_at c.args.flights.now i) ≡ true) (λ i. jump_or_limit (flight_at c.args.flights.now i) ≡ false) c.find.ensures.ran
+    (λ x q k. grind (arith, tests))
+    (λ x q k. (search rules, grind (arith, tests))))

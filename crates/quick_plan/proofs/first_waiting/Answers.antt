@@ -1,35 +1,35 @@
+use mathlib.Core.Path.{◌≡◌, ◌∙◌}
+use native.Mathlib.Omega.{arith}
 use borrow.Author.Rules.{rules}
+use Rattle.std.specs.Option.{option_map}
+use Rattle.quick_plan.specs.declared.Waiting.{Waiting}
 use Rattle.quick_plan.proofs.Steps.{scan_start, scan_there, scan_periods, scan_due, best_there, scan_skip, scan_fresh, scan_better, scan_worse, scan_end}
 use Rattle.quick_plan.proofs.first_waiting.Goals as goal
-use Rattle.quick_plan.proofs.first_waiting.Goals.{then-best-n-via-then-best-n, then-best-n-via-else-best-n+then-goes_before}
+use Rattle.quick_plan.proofs.first_waiting.Goals.{then-is_waiting+in-Some, then-is_waiting+in_default-2, then-is_waiting+in_default, else-is_waiting}
 
-pub loop-i-init : goal.loop-i-init
-loop-i-init c = scan_start _ c.requires.0 c.requires.1
+pub loop-place-init : goal.loop-place-init
+loop-place-init c = scan_start _ c.requires.0 c.requires.1
 
 pub is_waiting-requires : goal.is_waiting-requires
-is_waiting-requires c = (scan_there c.loop-i.invariant c.loop-i-test.true, search rules, scan_periods c.loop-i.invariant)
+is_waiting-requires c = (scan_there c.loop-place.invariant c.loop-place-test.true, c.loop-place-test.true, scan_periods c.loop-place.invariant)
 
 pub next_cost-cost-requires : goal.next_cost-cost-requires
 next_cost-cost-requires c =
-    (c.requires.2, c.requires.3, scan_due c.loop-i.invariant c.loop-i-test.true c.is_waiting.ensures c.if-is_waiting.true)
+    (c.requires.2, c.requires.3, scan_due c.loop-place.invariant c.loop-place-test.true c.is_waiting.ensures c.if-is_waiting.true)
 
 pub goes_before-requires : goal.goes_before-requires
-goes_before-requires c =
-    (scan_there c.loop-i.invariant c.loop-i-test.true, best_there c.loop-i.invariant c.if-best-n.false)
+goes_before-requires c = (scan_there c.loop-place.invariant c.loop-place-test.true, best_there (rw c.in-Some.is at c.loop-place.invariant))
 
-pub loop-i-preserved-then-is_waiting : goal.loop-i-preserved-then-is_waiting
-loop-i-preserved-then-is_waiting c =
-    elim c.then-best-n.branch [
-      | then-best-n-via-then-best-n none ↦ scan_fresh c.loop-i.invariant c.loop-i-test.true c.is_waiting.ensures c.next_cost-cost.ensures c.if-is_waiting.true none.if-best-n.true
-      | then-best-n-via-else-best-n+then-goes_before goes ↦ scan_better c.loop-i.invariant c.loop-i-test.true c.is_waiting.ensures c.next_cost-cost.ensures c.if-is_waiting.true goes.if-best-n.false goes.goes_before.ensures goes.if-goes_before.true
+pub loop-place-preserved : goal.loop-place-preserved
+loop-place-preserved c =
+    elim c.if-is_waiting.branch [
+      | then-is_waiting+in-Some w ↦ rw w.best-is (scan_worse c.loop-place.invariant c.loop-place-test.true c.is_waiting.ensures w.next_cost-cost.ensures w.if-is_waiting.true w.in-Some.is w.goes_before.ensures w.if-not-goes_before.true)
+      | then-is_waiting+in_default-2 w ↦ rw w.best-is (scan_better c.loop-place.invariant c.loop-place-test.true c.is_waiting.ensures w.next_cost-cost.ensures w.if-is_waiting.true w.in-Some.is w.goes_before.ensures w.if-not-goes_before.false)
+      | then-is_waiting+in_default w ↦ rw w.best-is (scan_fresh c.loop-place.invariant c.loop-place-test.true c.is_waiting.ensures w.next_cost-cost.ensures w.if-is_waiting.true w.in_default.is)
+      | else-is_waiting w ↦ rw w.best-is (scan_skip c.loop-place.invariant c.loop-place-test.true c.is_waiting.ensures w.if-is_waiting.false)
     ]
 
-pub loop-i-preserved-then-is_waiting-2 : goal.loop-i-preserved-then-is_waiting-2
-loop-i-preserved-then-is_waiting-2 c =
-    scan_worse c.loop-i.invariant c.loop-i-test.true c.is_waiting.ensures c.next_cost-cost.ensures c.if-is_waiting.true c.if-best-n.false c.goes_before.ensures c.if-goes_before.false
-
-pub loop-i-preserved : goal.loop-i-preserved
-loop-i-preserved c = scan_skip c.loop-i.invariant c.loop-i-test.true c.is_waiting.ensures c.if-is_waiting.false
-
 pub returns : goal.returns
-returns c = scan_end c.loop-i.invariant c.loop-i-test.false
+returns c =
+    let e : c.map.result ≡ option_map (λ (w : Waiting). w.place) c.loop-place.best = search rules in
+    e ∙ scan_end _ c.loop-place.invariant (omega arith)

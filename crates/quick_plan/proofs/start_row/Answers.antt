@@ -1,21 +1,18 @@
 use native.Mathlib.Omega.{arith}
-use Rattle.quick_plan.proofs.Steps.{started_none, started_periods, started_there, started_due, started_more, started_end}
+use Rattle.quick_plan.proofs.Steps.{started_none, started_periods, started_there, started_due, started_more}
 use Rattle.quick_plan.proofs.start_row.Goals as goal
 
 pub loop-i-init : goal.loop-i-init
 loop-i-init c = started_none c.requires.0 c.requires.1
 
 pub due_of-requires : goal.due_of-requires
-due_of-requires c = started_there c.loop-i.invariant c.loop-i-test.true
+due_of-requires c = started_there c.loop-i.invariant (omega arith)
 
 pub overflow_sub-hold : goal.overflow_sub-hold
-overflow_sub-hold c = started_due c.loop-i.invariant c.loop-i-test.true c.due_of.ensures.0
+overflow_sub-hold c = started_due c.loop-i.invariant (omega arith) c.due_of.ensures.0
 
-pub overflow_cast-holds : goal.overflow_cast-holds
-overflow_cast-holds c = omega (arith, started_periods c.loop-i.invariant)
+pub overflow_cast-hold : goal.overflow_cast-hold
+overflow_cast-hold c = omega (arith, started_periods c.loop-i.invariant)
 
 pub loop-i-preserved : goal.loop-i-preserved
-loop-i-preserved c = started_more c.loop-i.invariant c.loop-i-test.true c.due_of.ensures.0
-
-pub returns : goal.returns
-returns c = started_end c.loop-i.invariant c.loop-i-test.false
+loop-i-preserved c = started_more c.loop-i.invariant (omega arith) c.due_of.ensures.0

@@ -1,10 +1,13 @@
 -- Either of the two lines.
 use Rattle.sheet_reader.proofs.Loops.{names_end, closing_end}
+use Rattle.sheet.specs.Text.{flight_names, closing_name}
 use mathlib.Core.Path.{sym, ◌∙◌}
 use Rattle.sheet_reader.proofs.end_here.Goals as goal
 
-pub returns-then-names_here : goal.returns-then-names_here
-returns-then-names_here c = names_end _ _ (sym c.names_here.ensures ∙ c.if-names_here.true)
+pub returns-then-fixed_at : goal.returns-then-fixed_at
+unfolding flight_names
+returns-then-fixed_at c = c.if-fixed_at.true ∙ names_end _ _ (sym c.if-fixed_at.ensures)
 
-pub returns : goal.returns
-returns c = closing_end _ _ (sym c.names_here.ensures ∙ c.if-names_here.false) c.closing_here.ensures
+pub returns-else-fixed_at : goal.returns-else-fixed_at
+unfolding flight_names closing_name
+returns-else-fixed_at c = closing_end _ _ (sym c.if-fixed_at.ensures) c.fixed_at-else-fixed_at.ensures

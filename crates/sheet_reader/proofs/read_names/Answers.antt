@@ -1,10 +1,14 @@
--- The second names line stands there, or not.
 use Rattle.sheet_reader.proofs.Loops.{names_not, names_on}
+use Rattle.sheet.specs.Text.{flight_names}
 use mathlib.Core.Path.{sym, ◌∙◌}
 use Rattle.sheet_reader.proofs.read_names.Goals as goal
 
-pub returns-then-not-names_here : goal.returns-then-not-names_here
-returns-then-not-names_here c = let all = names_not _ _ c.args.n c.args.closing (sym c.names_here.ensures ∙ c.if-not-names_here.true) in record { ready = all.0; by_index = all.1 }
+pub returns-then-not-fixed_at-clause-by_index : goal.returns-then-not-fixed_at-clause-by_index
+unfolding flight_names
+returns-then-not-fixed_at-clause-by_index c = (names_not _ _ _ _ (sym c.fixed_at.ensures ∙ c.if-not-fixed_at.true)).1
 
 pub returns : goal.returns
-returns c = let all = names_on _ _ _ _ (sym c.names_here.ensures ∙ c.if-not-names_here.false) c.requires.0 c.requires.1 in record { ready = all.0; by_index = all.1 }
+unfolding flight_names
+returns c =
+    let all = names_on _ _ _ _ (sym c.fixed_at.ensures ∙ c.if-not-fixed_at.false) c.requires.0 c.requires.1 in
+    record { ready = all.0; by_index = all.1 }

@@ -1,46 +1,45 @@
-use Rattle.sheet_reader.proofs.Loops.{periods_start, periods_ended, full_end, full_more, period_form, period_count, period_range, period_next}
-use Rattle.sheet.specs.Sheet.{ends_periods}
-use Rattle.sheet.specs.Lines.{period_line}
-use Rattle.sheet.specs.declared.PeriodLine.TheVariants.{Period}
-use mathlib.Core.Bool.{false}
+use Rattle.sheet_reader.proofs.Loops.{error_is, periods_start, periods_ended, full_end, full_more, period_form, period_count, period_range, period_next}
+use Rattle.std.proofs.lemmas.Result.{err_from_is_err_and}
+use native.Mathlib.Omega.{arith}
 use mathlib.Core.Path.{◌≡◌, sym, ◌∙◌}
+use Rattle.day.specs.Day.{most_periods}
 use Rattle.sheet_reader.proofs.read_periods.Goals as goal
+use Rattle.sheet_reader.proofs.read_periods.Goals.{then-line-n-via-then-line-n, then-line-n-via-else-line-n+then-line-gt255}
 
 pub loop-n-init : goal.loop-n-init
 loop-n-init c = periods_start _ _ c.requires.0 c.requires.1
 
-pub returns-then-at-s : goal.returns-then-at-s
-returns-then-at-s c =
-    let no_end : ends_periods ((c.args.s.now)) c.loop-n.at ≡ false = sym c.end_here.ensures ∙ c.if-end_here.false in
-    let all = full_end c.loop-n.invariant (no_end) c.if-n-eq-PERIODS.true c.if-at-s.true in record { caps_len = all.0; rest_read = all.1.0; ready = all.1.1 }
+pub returns-then-end_here-clause-rest_read : goal.returns-then-end_here-clause-rest_read
+returns-then-end_here-clause-rest_read c = (periods_ended c.loop-n.invariant (sym c.if-end_here.ensures) c.read_end.result (c.read_end.ensures.ready, c.read_end.ensures.by_index)).1.0
 
-pub returns-then-n-eq-PERIODS : goal.returns-then-n-eq-PERIODS
-returns-then-n-eq-PERIODS c =
-    let no_end : ends_periods ((c.args.s.now)) c.loop-n.at ≡ false = sym c.end_here.ensures ∙ c.if-end_here.false in
-    let all = full_more c.loop-n.invariant (no_end) c.if-n-eq-PERIODS.true c.if-at-s.false in record { caps_len = all.0; rest_read = all.1.0; ready = all.1.1 }
+pub returns-in_err-line-clause-rest_read : goal.returns-in_err-line-clause-rest_read
+returns-in_err-line-clause-rest_read c =
+    let p = err_from_is_err_and c.from_residual.result c.from_residual.ensures.1 in
+    let e = c.in_err-line.ensures in
+    rw (p.1, p.2, error_is c.period_line.result e.ok_part e.value)
+    (period_form c.loop-n.invariant (sym c.if-end_here.ensures) (omega arith) (sym c.period_line.ensures ∙ e.ok_part)).1.0
 
-pub returns-in_default : goal.returns-in_default
-returns-in_default c =
-    let no_end : ends_periods ((c.args.s.now)) c.loop-n.at ≡ false = sym c.end_here.ensures ∙ c.if-end_here.false in
-    let all = period_form c.loop-n.invariant (no_end) c.if-n-eq-PERIODS.false (sym c.period_line-line.ensures ∙ c.in_default.is) in record { caps_len = all.0; rest_read = all.1.0; ready = all.1.1 }
-
-pub returns-then-wide-n : goal.returns-then-wide-n
-returns-then-wide-n c =
-    let line_read : period_line ((c.args.s.now)) c.loop-n.at ≡ Period c.in-Period.number c.in-Period.capacity c.in-Period.next = sym c.period_line-line.ensures ∙ c.in-Period.is in
-    let no_end : ends_periods ((c.args.s.now)) c.loop-n.at ≡ false = sym c.end_here.ensures ∙ c.if-end_here.false in
-    let all = period_count c.loop-n.invariant (no_end) c.if-n-eq-PERIODS.false (line_read) (λ z. c.if-wide-n.true (c.wide.ensures ∙ z)) in record { caps_len = all.0; rest_read = all.1.0; ready = all.1.1 }
-
-pub returns-then-capacity-gt255 : goal.returns-then-capacity-gt255
-returns-then-capacity-gt255 c =
-    let line_read : period_line ((c.args.s.now)) c.loop-n.at ≡ Period c.in-Period.number c.in-Period.capacity c.in-Period.next = sym c.period_line-line.ensures ∙ c.in-Period.is in
-    let no_end : ends_periods ((c.args.s.now)) c.loop-n.at ≡ false = sym c.end_here.ensures ∙ c.if-end_here.false in
-    let all = period_range c.loop-n.invariant (no_end) c.if-n-eq-PERIODS.false (line_read) (sym c.wide.ensures ∙ c.if-wide-n.false) c.if-capacity-gt255.true in record { caps_len = all.0; rest_read = all.1.0; ready = all.1.1 }
+pub returns-then-line-n-clause-rest_read : goal.returns-then-line-n-clause-rest_read
+returns-then-line-n-clause-rest_read c =
+    let line = sym c.period_line.ensures ∙ c.in_ok-line.ensures.ok_part in
+    elim c.then-line-n.branch [
+      | then-line-n-via-then-line-n w ↦ (period_count c.loop-n.invariant (sym c.if-end_here.ensures) (omega arith) line w.if-line-n.true).1.0
+      | then-line-n-via-else-line-n+then-line-gt255 w ↦
+          (period_range c.loop-n.invariant (sym c.if-end_here.ensures) (omega arith) line w.if-line-n.false w.if-line-gt255.true).1.0
+    ]
 
 pub loop-n-preserved : goal.loop-n-preserved
 loop-n-preserved c =
-    let line_read : period_line ((c.args.s.now)) c.loop-n.at ≡ Period c.in-Period.number c.in-Period.capacity c.in-Period.next = sym c.period_line-line.ensures ∙ c.in-Period.is in
-    let no_end : ends_periods ((c.args.s.now)) c.loop-n.at ≡ false = sym c.end_here.ensures ∙ c.if-end_here.false in
-    period_next c.loop-n.invariant (no_end) c.if-n-eq-PERIODS.false (line_read) (sym c.wide.ensures ∙ c.if-wide-n.false) c.if-capacity-gt255.false
+    period_next c.loop-n.invariant (sym c.if-end_here.ensures) (omega arith) (sym c.period_line.ensures ∙ c.in_ok-line.ensures.ok_part) c.if-line-n.false c.if-line-gt255.false
 
-pub returns : goal.returns
-returns c = let all = periods_ended c.loop-n.invariant (sym c.end_here.ensures ∙ c.if-end_here.true) c.read_end.result (c.read_end.ensures.ready, c.read_end.ensures.by_index) in record { caps_len = all.0; rest_read = all.1.0; ready = all.1.1 }
+pub returns-then-end_here-2-clause-rest_read : goal.returns-then-end_here-2-clause-rest_read
+returns-then-end_here-2-clause-rest_read c =
+    let r = c.read_end-then-end_here-2 in
+    let n : c.loop-n.n ≡ most_periods = omega arith in
+    (periods_ended (rw n at c.loop-n.invariant) (sym c.if-end_here-2.ensures) r.result (r.ensures.ready, r.ensures.by_index)).1.0
+
+pub returns-then-at-s-clause-rest_read : goal.returns-then-at-s-clause-rest_read
+returns-then-at-s-clause-rest_read c = (full_end c.loop-n.invariant (sym c.if-end_here-2.ensures) (omega arith) c.if-at-s.true).1.0
+
+pub returns-clause-rest_read : goal.returns-clause-rest_read
+returns-clause-rest_read c = (full_more c.loop-n.invariant (sym c.if-end_here-2.ensures) (omega arith) c.if-at-s.false).1.0

@@ -1,11 +1,6 @@
 -- The whole reading is the reading of what is left, after the capacities read so far.
-use Rattle.day.specs.Day.{most_periods}
 use Rattle.sheet_reader.specs.Loop.{PeriodsRead}
-use Prim.Native.Nat.{◌-◌}
 use Rattle.sheet_reader.proofs.read_periods.Given as goal
 
 abbrev pub invariant-loop-n : goal.invariant-loop-n
 invariant-loop-n l = PeriodsRead l.s l.caps l.n l.at
-
-abbrev pub decreases-loop-n : goal.decreases-loop-n
-decreases-loop-n l = most_periods - l.n

@@ -10,5 +10,5 @@ returns-then-limit-eq-MISSING c = (sym (ap length (text_missing c.args.limit c.i
 
 pub returns : goal.returns
 returns c =
-    let e = rw c.wide.ensures at c.number_len.ensures in
+    let e = c.number_len.ensures in
     (e.0 ∙ sym (ap length (text_number c.args.limit c.if-limit-eq-MISSING.false)), e.2)

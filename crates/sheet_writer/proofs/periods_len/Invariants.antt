@@ -1,12 +1,9 @@
--- After i turns the lengths of the first i lines are summed.
+-- The lengths of the first lines are summed.
 use Rattle.sheet.specs.Text.{periods_text}
-use Prim.Native.Nat.{◌≤◌, ◌-◌, ◌*◌}
+use Prim.Native.Nat.{◌≤◌, ◌*◌}
 use mathlib.Core.Path.{◌≡◌}
 use lib.ListN.{length, take}
 use Rattle.sheet_writer.proofs.periods_len.Given as goal
 
 abbrev pub invariant-loop-i : goal.invariant-loop-i
-invariant-loop-i l = (l.i ≤ length l.capacities) × (l.sum ≡ length (periods_text 1 (take l.i l.capacities))) × (l.sum ≤ 42 * l.i)
-
-abbrev pub decreases-loop-i : goal.decreases-loop-i
-decreases-loop-i l = length l.capacities - l.i
+invariant-loop-i l = (l.sum ≡ length (periods_text 1 (take l.i l.capacities))) × (l.sum ≤ 42 * l.i)

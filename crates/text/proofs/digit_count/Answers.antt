@@ -2,12 +2,6 @@ use Rattle.text.proofs.Digits.{count_short, count_long}
 use native.Mathlib.Omega.{arith}
 use Rattle.text.proofs.digit_count.Goals as goal
 
-pub loop-m-init : goal.loop-m-init
-loop-m-init c = (omega arith, omega arith)
-
-pub overflow_add-count : goal.overflow_add-count
-overflow_add-count c = omega arith
-
 pub loop-m-preserved : goal.loop-m-preserved
 loop-m-preserved c = (omega (arith, count_long c.loop-m.m c.loop-m-test.true), omega arith)
 

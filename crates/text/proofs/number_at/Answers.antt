@@ -1,28 +1,35 @@
 -- One law for each way through the function.
 use native.Mathlib.Omega.{arith}
-use Rattle.text.proofs.Reading.{run_pos, number_none, number_long, number_zero, number_one, number_more}
+use lib.ListN.{drop, length-drop}
+use Rattle.text.proofs.Reading.{counted, digits_here, run_within, run_digits_each, number_none, number_long, number_zero, number_one, number_more}
 use Rattle.text.proofs.number_at.Goals as goal
-use Rattle.text.proofs.number_at.Goals.{then-k-gt1+else-s-at-eq48, else-k-gt1}
+use Rattle.text.proofs.number_at.Goals.{then-k-eq0-via-then-k-eq0, then-k-eq0-via-else-k-eq0+then-most-k, else-k-gt1-via-then-k-gt1+else-s-at-eq48, else-k-gt1-via-else-k-gt1}
 
 pub returns-then-k-eq0 : goal.returns-then-k-eq0
-returns-then-k-eq0 c = number_none _ _ _ _ c.run_len-k.ensures c.if-k-eq0.true
-
-pub returns-then-most-k : goal.returns-then-most-k
-returns-then-most-k c = number_long _ _ _ _ c.run_len-k.ensures c.if-most-k.true
+returns-then-k-eq0 c =
+    let e = counted c.args.s.now c.args.at c.run_len-k.ensures in
+    elim c.then-k-eq0.branch [
+      | then-k-eq0-via-then-k-eq0 w ↦ number_none _ _ _ _ e w.if-k-eq0.true
+      | then-k-eq0-via-else-k-eq0+then-most-k w ↦ number_long _ _ _ _ e w.if-most-k.true
+    ]
 
 pub bounds-s-at : goal.bounds-s-at
-bounds-s-at c =
-    let a = c.args in
-    (run_pos a.s.now a.at (omega arith)).0
+bounds-s-at c = omega (arith, run_within (drop c.args.at c.args.s.now), counted c.args.s.now c.args.at c.run_len-k.ensures, length-drop c.args.at c.args.s.now)
 
 pub returns-then-s-at-eq48 : goal.returns-then-s-at-eq48
-returns-then-s-at-eq48 c = number_zero _ _ _ _ c.run_len-k.ensures c.if-k-gt1.true c.if-most-k.false c.if-s-at-eq48.true
+returns-then-s-at-eq48 c = number_zero _ _ _ _ (counted c.args.s.now c.args.at c.run_len-k.ensures) c.if-k-gt1.true c.if-most-k.false c.if-s-at-eq48.true
+
+pub slice_bounds-value_of-end : goal.slice_bounds-value_of-end
+slice_bounds-value_of-end c = omega (arith, run_within (drop c.args.at c.args.s.now), counted c.args.s.now c.args.at c.run_len-k.ensures, length-drop c.args.at c.args.s.now)
+
+pub value_of-n-requires-clause-digits : goal.value_of-n-requires-clause-digits
+value_of-n-requires-clause-digits c = rw (digits_here c.args.s.now c.args.at c.run_len-k.result (counted c.args.s.now c.args.at c.run_len-k.ensures)) (run_digits_each (drop c.args.at c.args.s.now))
 
 pub returns : goal.returns
 returns c =
-    let e = c.run_len-k.ensures in
-    rw c.value_at.ensures
-    (elim c.if-k-gt1.branch [
-      | then-k-gt1+else-s-at-eq48 w ↦ number_more _ _ _ _ e w.if-k-gt1.true (omega arith) w.if-s-at-eq48.false
-      | else-k-gt1 w ↦ number_one _ _ _ _ e w.if-k-gt1.false (omega arith) (omega arith)
+    let e = counted c.args.s.now c.args.at c.run_len-k.ensures in
+    rw (c.value_of-n.ensures, digits_here c.args.s.now c.args.at c.run_len-k.result e)
+    (elim c.else-k-gt1.branch [
+      | else-k-gt1-via-then-k-gt1+else-s-at-eq48 w ↦ number_more _ _ _ _ e w.if-k-gt1.true (omega arith) w.if-s-at-eq48.false
+      | else-k-gt1-via-else-k-gt1 w ↦ number_one _ _ _ _ e w.if-k-gt1.false (omega arith) (omega arith)
     ])

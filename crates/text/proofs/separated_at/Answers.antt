@@ -1,15 +1,16 @@
-use Rattle.text.proofs.Lines.{walk_start, walk_next, walk_stop, walk_end}
+use Rattle.text.proofs.Lines.{walk_next, walk_stop, walk_end}
+use native.Mathlib.Omega.{arith}
+use Rattle.std.proofs.lemmas.List.{set-get_or}
 use mathlib.Core.Path.{sym, ◌∙◌}
 use Rattle.text.proofs.separated_at.Goals as goal
 
-pub loop-i-init : goal.loop-i-init
-loop-i-init c = walk_start _ _ c.requires.0
+pub returns-in_err-read : goal.returns-in_err-read
+returns-in_err-read c =
+    let all = walk_stop c.loop-number.invariant (omega arith) (sym c.field_at.ensures ∙ c.in_err-read.was) in
+    record { value = c.from_residual.ensures ∙ all.0; numbers_after = set-get_or _ _ _ ∙ all.1 }
 
-pub returns-in_default : goal.returns-in_default
-returns-in_default c = let all = walk_stop c.loop-i.invariant c.loop-i-test.true (sym c.field_at-p.ensures ∙ c.in_default.is) in record { value = all.0; numbers_after = all.1 }
-
-pub loop-i-preserved : goal.loop-i-preserved
-loop-i-preserved c = walk_next c.loop-i.invariant c.loop-i-test.true _ _ (sym c.field_at-p.ensures ∙ c.in-Value.is)
+pub loop-number-preserved : goal.loop-number-preserved
+loop-number-preserved c = walk_next c.loop-number.invariant (omega arith) _ (sym c.field_at.ensures ∙ c.in_ok-read.was)
 
 pub returns : goal.returns
-returns c = let all = walk_end c.loop-i.invariant c.loop-i-test.false in record { value = all.0; numbers_after = all.1 }
+returns c = let all = walk_end c.loop-number.invariant (omega arith) in record { value = all.0; numbers_after = all.1 }

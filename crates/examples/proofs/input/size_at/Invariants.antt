@@ -1,10 +1,7 @@
 -- At most five digits, so the value is small.
 -- Assumes nothing.
-use Prim.Native.Nat.{◌≤◌, ◌-◌}
+use Rattle.std.proofs.Common.{◌≤◌}
 use Rattle.examples.proofs.input.size_at.Given as goal
 
-abbrev pub invariant-loop-i : goal.invariant-loop-i
-invariant-loop-i l = (l.i ≤ 5) × (l.value ≤ 100000)
-
-abbrev pub decreases-loop-i : goal.decreases-loop-i
-decreases-loop-i l = 5 - l.i
+abbrev pub invariant-loop-end : goal.invariant-loop-end
+invariant-loop-end l = l.value ≤ 100000

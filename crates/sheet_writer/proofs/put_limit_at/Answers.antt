@@ -1,6 +1,0 @@
--- The part lent on is the rest of the buffer.
-use Rattle.text.proofs.Writing.{lent}
-use Rattle.sheet_writer.proofs.put_limit_at.Goals as goal
-
-pub returns : goal.returns
-returns c = lent _ _ _ _ _ c.requires c.put_limit-k.ensures
