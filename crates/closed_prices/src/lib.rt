@@ -43,7 +43,7 @@ fn least_price(periods: usize, flights: &[u32], holds: &[u32], prices: &[u32], k
 }
 
 // Gives each closed period the least price that keeps every flight where it lands. Nobody lands in a closed period, so that no price that
-// is read here is stored here.
+// is read here is stored here. Kept: two rows, since it asks less than a valid day, and docs/FULL-PLAN.md names it.
 pub fn price_closed(capacities: &[u32], flights: &[u32], holds: &[u32], prices: &mut [u32])
     requires { CanPrice (lent capacities flights unlimited) holds.now prices.old }
     ensures { Priced (lent capacities.entry flights.entry unlimited) holds.now prices.old prices.new }

@@ -16,7 +16,7 @@ use Rattle.assignment.specs.Sum.{count}
 use Rattle.assignment.specs.Moves.{Moved}
 use Rattle.assignment.proofs.Tests.{lt?, eq?, gate_eq, gate_ne}
 use Rattle.assignment.proofs.Sums.{count_suc}
-use Rattle.day.specs.Day.{Day, P, N, most_periods, width, of_period, takes_of, takes, counted_of, counted, land, valid}
+use Rattle.day.specs.Day.{Day, P, N, width, of_period, takes_of, takes, counted_of, counted, land, valid}
 use Rattle.day.specs.Plan.{HasPlan, Picked, Short, too_long, over_capacity, breaks}
 use Rattle.day.specs.Valid.{Valid}
 use Rattle.day.proofs.Costs.{period_in, period_moved, takes_in, takes_closing, counted_to}
@@ -83,9 +83,6 @@ left_set d h left i n is k v from to others here = left_from d h (set left (k - 
 -- ---- the flight at table place i of a day whose first n holds break nothing
 
 module _ {d : Day} {h left : List ℕ} {n i : ℕ} (s : Partial d h left n) (l : i < N d) where
-  pub place_in : (i < length h) × ((i + 1) * width ≤ length d.flights)
-  place_in = (omega (arith, s.each), omega (arith, (valid_means s.good).whole))
-
   module _ {k : ℕ} (at-k : k ≡ land d h i) where
     pub lands_from : 1 ≤ k
     lands_from = omega (arith, ((valid_means s.good).flight i l).due_from)
@@ -198,9 +195,8 @@ module _ {d : Day} {h left : List ℕ} {m : ℕ} (s : Partial d h left m) where
   v : Valid d
   v = valid_means s.good
 
-  pub rest_ready : (P d ≤ most_periods) × (length left ≡ counted d) × (m * width ≤ length d.flights) × (valid (rest_of left d.flights (P d) d.closing m) ≡ true)
+  pub rest_ready : (length left ≡ counted d) × (m * width ≤ length d.flights) × (valid (rest_of left d.flights (P d) d.closing m) ≡ true)
   rest_ready = (
-    v.periods_to,
     ap length s.left_is ∙ left_length d h m,
     omega (arith, v.whole, s.upto),
     rw s.left_is (means_valid (rest_valid v h m s.upto)),

@@ -4,12 +4,13 @@
 
 ghost use Rattle.std.specs.Prelude.{◌≡◌, true, cond, ◌+◌, ◌*◌, ◌<◌, ◌≤◌, length, get_or};
 ghost use Rattle.answers.specs.Decides.{Decides};
-ghost use Rattle.day.specs.Day.{lent, most_periods, width, counted_of, has_line, valid, N};
+ghost use Rattle.day.specs.Day.{most_periods, width, has_line, valid, N, P, counted};
+ghost use Rattle.day.specs.Checked.{day_of};
 ghost use Rattle.day.specs.Plan.{HasPlan};
 ghost use Rattle.completion.specs.Rest.{rest_of};
 ghost use Rattle.completion.specs.Loop.{AllPlaces, Partial, Landed, MostCompleted};
 
-use day::{UNLIMITED, WIDTH, counted_of, flight_at, land_of};
+use day::{UNLIMITED, ValidDay, WIDTH, counted_of};
 use legality::is_too_long;
 use stretch::find_short;
 
@@ -25,22 +26,15 @@ pub fn all_places(capacities: &[u32], closing: u32, left: &mut [u32]) -> usize
 }
 
 // Takes the landing of the flight at table place i from the places left, unless its hold breaks the row.
-pub fn take_landing(
-    capacities: &[u32],
-    flights: &[u32],
-    closing: u32,
-    holds: &[u32],
-    i: usize,
-    left: &mut [u32],
-) -> bool
-    requires { Partial (lent capacities flights closing) holds.now left.old i × (i < N (lent capacities flights closing)) }
-    ensures { Landed (lent capacities.entry flights.entry closing) holds.now left.new i result }
+pub fn take_landing(day: ValidDay, holds: &[u32], i: usize, left: &mut [u32]) -> bool
+    requires { Partial (day_of day) holds.now left.old i × (i < N (day_of day)) }
+    ensures { Landed (day_of day.entry) holds.now left.new i result }
 {
-    let k = land_of(flights, holds, i);
-    if is_too_long(capacities.len(), flight_at(flights, i), k) {
+    let k = day.land_of(holds, i);
+    if is_too_long(day.capacities.len(), day.flight_at(i), k) {
         return false;
     }
-    if counted_of(capacities.len(), closing) < k {
+    if day.counted() < k {
         return true;
     }
     let at = k - 1;
@@ -52,64 +46,54 @@ pub fn take_landing(
 }
 
 // Gives the landing of the flight at table place i back, which was taken last.
-fn give_back(
-    capacities: &[u32],
-    flights: &[u32],
-    closing: u32,
-    holds: &[u32],
-    i: usize,
-    left: &mut [u32],
-)
-    requires { Partial (lent capacities flights closing) holds.now left.old (i + 1) }
-    ensures { Partial (lent capacities.entry flights.entry closing) holds.now left.new i }
+fn give_back(day: ValidDay, holds: &[u32], i: usize, left: &mut [u32])
+    requires { Partial (day_of day) holds.now left.old (i + 1) }
+    ensures { Partial (day_of day.entry) holds.now left.new i }
 {
-    let k = land_of(flights, holds, i);
-    if k <= counted_of(capacities.len(), closing) {
+    let k = day.land_of(holds, i);
+    if k <= day.counted() {
         let at = k - 1;
         left[at] += 1;
     }
 }
 
-// How many may land in the closing period yet, on a day of so many periods: any number, if there is no closing line.
-fn closing_left(periods: usize, closing: u32, left: &[u32]) -> u32
-    requires { (periods ≤ most_periods) × (length left.now ≡ counted_of periods closing) }
-    ensures { result ≡ cond (has_line closing) (get_or left.now periods 0) closing }
+// How many may land in the closing period yet: any number, if there is no closing line.
+fn closing_left(day: ValidDay, left: &[u32]) -> u32
+    requires { length left.now ≡ counted (day_of day) }
+    ensures { result ≡ cond (has_line day.entry.closing) (get_or left.now (P (day_of day.entry)) 0) day.entry.closing }
 {
-    if closing < UNLIMITED {
-        return left[periods];
+    if day.closing < UNLIMITED {
+        return left[day.capacities.len()];
     }
-    closing
+    day.closing
 }
 
-// Whether the flights from table place i on have a legal plan of their own in the places left, on a day of so many periods.
-fn rest_has_plan(periods: usize, flights: &[u32], closing: u32, i: usize, left: &[u32]) -> bool
-    requires { (periods ≤ most_periods) × (length left.now ≡ counted_of periods closing) × (i * width ≤ length flights.now) × (valid (rest_of left.now flights.now periods closing i) ≡ true) }
-    ensures { Decides result (HasPlan (rest_of left.now flights.now periods closing i)) }
+// Whether the flights from table place i on have a legal plan of their own in the places left.
+fn rest_has_plan(day: ValidDay, i: usize, left: &[u32]) -> bool
+    requires { (length left.now ≡ counted (day_of day)) × (i * width ≤ length day.flights.now) × (valid (rest_of left.now day.flights.now (P (day_of day)) day.closing i) ≡ true) }
+    ensures { Decides result (HasPlan (rest_of left.now day.entry.flights.now (P (day_of day.entry)) day.entry.closing i)) }
 {
-    let open = closing_left(periods, closing, left);
-    find_short(&left[..periods], &flights[i * WIDTH..], open).is_none()
+    let open = closing_left(day, left);
+    let rest = ValidDay {
+        capacities: &left[..day.capacities.len()],
+        flights: &day.flights[i * WIDTH..],
+        closing: open,
+    };
+    find_short(rest).is_none()
 }
 
 // The most of the first i flights whose holds can be completed to a legal plan; none if the day has no legal plan. Holds are taken back from
 // the last on: whoever cannot complete some cannot complete more.
-pub fn most_completed(
-    capacities: &[u32],
-    flights: &[u32],
-    closing: u32,
-    holds: &[u32],
-    i: usize,
-    left: &mut [u32],
-) -> Option<usize>
-    requires { Partial (lent capacities flights closing) holds.now left.old i }
-    ensures { MostCompleted (lent capacities.entry flights.entry closing) holds.now i result }
+pub fn most_completed(day: ValidDay, holds: &[u32], i: usize, left: &mut [u32]) -> Option<usize>
+    requires { Partial (day_of day) holds.now left.old i }
+    ensures { MostCompleted (day_of day.entry) holds.now i result }
 {
-    let periods = capacities.len();
-    if rest_has_plan(periods, flights, closing, i, left) {
+    if rest_has_plan(day, i, left) {
         return Some(i);
     }
     for m in (0..i).rev() {
-        give_back(capacities, flights, closing, holds, m, left);
-        if rest_has_plan(periods, flights, closing, m, left) {
+        give_back(day, holds, m, left);
+        if rest_has_plan(day, m, left) {
             return Some(m);
         }
     }

@@ -7,3 +7,4 @@ pub mod Instance
 pub mod Existence
 pub mod Prices
 pub mod Curfew
+pub mod Rows

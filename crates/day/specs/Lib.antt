@@ -4,3 +4,4 @@ pub mod Plan
 pub mod Valid
 pub mod Instance
 pub mod Chains
+pub mod Checked

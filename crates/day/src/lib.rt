@@ -1,10 +1,17 @@
 // The day in two lent rows and its closing number: its numbers, its check (refusal 6), and what a hold costs and where it lands.
 #![tactic(auto)]
 
-ghost use Rattle.std.specs.Prelude.{◌≡◌, true, false, ◌&&◌, ◌+◌, ◌*◌, ◌/◌, ◌%◌, ◌^◌, ◌<◌, ◌≤◌, ◌++◌, length, take, drop};
-ghost use Rattle.day.specs.Day.{lent, unlimited, most_periods, most_flights, column, number_of, due_of, rate_of, limit_of, width, flight_at, flight_count, of_period, takes_of, counted_of, hold_cost, land_of, latest_of, last_of, all, inside, flight_fits, capacities_fit, in_range, is_new, valid};
+ghost use Rattle.std.specs.Prelude.{◌≡◌, true, false, ◌&&◌, ◌+◌, ◌*◌, ◌/◌, ◌%◌, ◌^◌, ◌<◌, ◌≤◌, ◌++◌, length, take, drop, MatchResult};
+ghost use Rattle.day.specs.Day.{lent, unlimited, most_periods, most_flights, column, number_of, due_of, rate_of, limit_of, width, flight_at, flight_count, of_period, takes_of, counted_of, hold_cost, land_of, latest_of, last_of, all, inside, flight_fits, capacities_fit, in_range, is_new, valid, P, N, takes, counted, cost};
+ghost use Rattle.day.specs.Checked.{lent_day, day_of};
 ghost use Rattle.day.specs.Flights.{with_flight};
 ghost use Rattle.day.specs.Chains.{chains, Linked, Passed};
+
+use answers::Refusal;
+
+mod valid_day;
+
+pub use valid_day::{LentDay, ValidDay};
 
 // The most periods and the most flights of a day.
 pub const PERIODS: usize = 96;
@@ -20,10 +27,11 @@ pub const FLIGHT_ROW: usize = FLIGHTS * WIDTH;
 // A row that is read at the period itself, from 0 to the closing period.
 pub const PERIOD_ROW: usize = PERIODS + 2;
 
-// A limit that is missing.
+// A limit that is missing. Kept: a number and no Option, since the rows that C lends have it so.
 pub const MISSING: u32 = 255;
 
-// The closing number of a day whose closing period takes everyone: more than the flights of a day.
+// The closing number of a day whose closing period takes everyone: more than the flights of a day. Kept: a number and no Option, since C
+// hands it over so.
 pub const UNLIMITED: u32 = 256;
 
 // A flight's numbers, in sheet order.
@@ -36,20 +44,6 @@ pub struct Flight {
     pub jump: u32,
     pub limit: u32,
     pub late: u32,
-}
-
-pub fn wide(x: u32) -> usize
-    ensures { result ≡ x }
-{
-    x as usize
-}
-
-// The front n of one row onto the front of another.
-pub fn copy_front(from: &[u32], to: &mut [u32], n: usize)
-    requires { (n ≤ length from.now) × (n ≤ length to.old) }
-    ensures { to.new ≡ take n from.now ++ drop n to.old }
-{
-    to[..n].copy_from_slice(&from[..n]);
 }
 
 // How many flights the row has.
@@ -314,7 +308,7 @@ fn numbers_differ(flights: &[u32], n: usize) -> bool
     numbers_differ_in(flights, n, &mut nearest, &mut above)
 }
 
-// The day check: refusal 6 is given where it says no.
+// The day check: refusal 6 is given where it says no. Kept: two rows and a number, since README names it for what it says of any.
 #[tactic(auto, unfolding(crate::specs::Day::flight_count, crate::specs::Day::valid))]
 pub fn is_valid(capacities: &[u32], flights: &[u32], closing: u32) -> bool
     ensures { result ≡ valid (lent capacities.entry flights.entry closing) }
@@ -327,4 +321,93 @@ pub fn is_valid(capacities: &[u32], flights: &[u32], closing: u32) -> bool
         && capacities_fit(capacities)
         && flights_in_range(capacities.len(), flights, n)
         && numbers_differ(flights, n)
+}
+
+impl<'a> LentDay<'a> {
+    // The day check: refusal 6 is given where it says no.
+    pub fn check(self) -> Result<ValidDay<'a>, Refusal>
+        ensures { MatchResult result (λ day. day_of day ≡ lent_day self.entry) (λ refusal. (refusal ≡ Refusal.BadDay) × (valid (lent_day self.entry) ≡ false)) }
+    {
+        let LentDay {
+            capacities,
+            flights,
+            closing,
+        } = self;
+        if !is_valid(capacities, flights, closing) {
+            return Err(Refusal::BadDay);
+        }
+        Ok(ValidDay {
+            capacities,
+            flights,
+            closing,
+        })
+    }
+}
+
+impl<'a> ValidDay<'a> {
+    pub fn flight_count(self) -> usize
+        ensures { (result ≡ N (day_of self.entry)) × (result ≤ most_flights) }
+    {
+        flight_count(self.flights)
+    }
+
+    // The flight at table place i.
+    pub fn flight_at(self, i: usize) -> Flight
+        requires { i < N (day_of self) }
+        ensures { result ≡ flight_at self.entry.flights.now i }
+    {
+        flight_at(self.flights, i)
+    }
+
+    // One number of it, for whoever needs no other.
+    pub fn number_of(self, i: usize) -> usize
+        requires { i < N (day_of self) }
+        ensures { (result ≡ number_of self.entry.flights.now i) × (result ≤ 9999) }
+    {
+        number_of(self.flights, i)
+    }
+
+    pub fn due_of(self, i: usize) -> usize
+        requires { i < N (day_of self) }
+        ensures { (result ≡ due_of self.entry.flights.now i) × (result ≤ P (day_of self.entry)) }
+    {
+        due_of(self.flights, i)
+    }
+
+    pub fn rate_of(self, i: usize) -> usize
+        requires { i < N (day_of self) }
+        ensures { (result ≡ rate_of self.entry.flights.now i) × (result ≤ 10000) }
+    {
+        rate_of(self.flights, i)
+    }
+
+    // The period in which it lands.
+    pub fn land_of(self, holds: &[u32], i: usize) -> usize
+        requires { (i < length holds.now) × (i < N (day_of self)) }
+        ensures { (result ≡ land_of self.entry.flights.now holds.now i) × (result < 2 ^ 33) }
+    {
+        land_of(self.flights, holds, i)
+    }
+
+    // What a hold costs it.
+    pub fn cost_of(self, i: usize, hold: usize) -> usize
+        requires { (i < N (day_of self)) × (hold < 2 ^ 32) }
+        ensures { result ≡ cost (day_of self.entry) i hold }
+    {
+        cost_of(self.flights, i, hold)
+    }
+
+    // How many flights period k takes, the closing period included.
+    pub fn capacity_of(self, k: usize) -> usize
+        ensures { result ≡ takes (day_of self.entry) k }
+    {
+        capacity_of(self.capacities, self.closing, k)
+    }
+
+    // The last period whose landings are counted against a number.
+    pub fn counted(self) -> usize
+        ensures { result ≡ counted (day_of self.entry) }
+    {
+        counted_of(self.capacities.len(), self.closing)
+    }
 }

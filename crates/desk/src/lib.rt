@@ -1,5 +1,5 @@
 // The core for other languages: each call hands its rows to the core's call and gives the answer in the numbers of documents 01 and 02.
-// The crate desk_c exports them; include/hold_desk.h documents them for C.
+// The crate desk_c exports them; include/hold_desk.h documents them for C. Kept: two rows and a number in each, since C hands a day over so.
 #![tactic(auto)]
 
 ghost use Rattle.std.specs.Prelude.{◌≡◌, true};
@@ -21,6 +21,7 @@ ghost use Rattle.desk.specs.Desk.{row_number, done_code, reading_code, card_code
 
 use answers::{Code, code_of};
 use choice::Which;
+use day::LentDay;
 
 #[repr(C)]
 #[derive(Clone, Copy)]
@@ -80,7 +81,12 @@ pub fn hold_desk_write_sheet(
     ensures value { result ≡ code_of (write_answer (lent capacities.entry flights.entry closing) text.old place) }
     ensures text_after { text.new ≡ write_after (lent capacities.entry flights.entry closing) text.old place }
 {
-    code_of(sheet_writer::write_sheet(capacities, flights, closing, text, place))
+    let day = LentDay {
+        capacities,
+        flights,
+        closing,
+    };
+    code_of(sheet_writer::write_sheet(day, text, place))
 }
 
 pub fn hold_desk_quick_plan(
@@ -92,7 +98,12 @@ pub fn hold_desk_quick_plan(
     ensures value { result ≡ code_of (quick_plan (lent capacities.entry flights.entry closing) holds.old).answer }
     ensures holds_after { holds.new ≡ (quick_plan (lent capacities.entry flights.entry closing) holds.old).holds }
 {
-    code_of(quick_plan::quick_plan(capacities, flights, closing, holds))
+    let day = LentDay {
+        capacities,
+        flights,
+        closing,
+    };
+    code_of(quick_plan::quick_plan(day, holds))
 }
 
 pub fn hold_desk_growth_plan(
@@ -105,7 +116,12 @@ pub fn hold_desk_growth_plan(
     ensures value { result ≡ code_of (growth_plan growth (lent capacities.entry flights.entry closing) holds.old).answer }
     ensures holds_after { holds.new ≡ (growth_plan growth (lent capacities.entry flights.entry closing) holds.old).holds }
 {
-    code_of(growth_plan::growth_plan(capacities, flights, closing, growth, holds))
+    let day = LentDay {
+        capacities,
+        flights,
+        closing,
+    };
+    code_of(growth_plan::growth_plan(day, growth, holds))
 }
 
 pub fn hold_desk_period_card(
@@ -116,7 +132,12 @@ pub fn hold_desk_period_card(
 ) -> CardCode
     ensures { result ≡ card_code (period_card (lent capacities.entry flights.entry closing) period) }
 {
-    match period_card::period_card(capacities, flights, closing, period) {
+    let day = LentDay {
+        capacities,
+        flights,
+        closing,
+    };
+    match period_card::period_card(day, period) {
         Ok(card) => CardCode {
             number: 0,
             first: 0,
@@ -152,7 +173,12 @@ pub fn hold_desk_full_plan(
 ) -> Code
     ensures { Exported (lent capacities.entry flights.entry closing) result holds.old prices.old holds.new prices.new }
 {
-    code_of(full_plan::full_plan(capacities, flights, closing, holds, prices))
+    let day = LentDay {
+        capacities,
+        flights,
+        closing,
+    };
+    code_of(full_plan::full_plan(day, holds, prices))
 }
 
 pub fn hold_desk_price_check(
@@ -165,7 +191,12 @@ pub fn hold_desk_price_check(
     ensures exact { Decides result ((valid (lent capacities.entry flights.entry closing) ≡ true) × Accepted (lent capacities.entry flights.entry closing) holds.now prices.now) }
     ensures cheapest { result ≡ true → Cheapest (lent capacities.entry flights.entry closing) holds.now }
 {
-    price_check::price_check(capacities, flights, closing, holds, prices)
+    let day = LentDay {
+        capacities,
+        flights,
+        closing,
+    };
+    price_check::price_check(day, holds, prices)
 }
 
 pub fn hold_desk_choice(
@@ -177,7 +208,12 @@ pub fn hold_desk_choice(
 ) -> u32
     ensures { result ≡ row_number (choice (lent capacities.entry flights.entry closing) first.now second.now) }
 {
-    match choice::which_row(capacities, flights, closing, first, second) {
+    let day = LentDay {
+        capacities,
+        flights,
+        closing,
+    };
+    match choice::which_row(day, first, second) {
         Some(Which::First) => 1,
         Some(Which::Second) => 2,
         None => 0,
@@ -194,7 +230,12 @@ pub fn hold_desk_board(
     ensures value { result ≡ done_code (board_answer (lent capacities.entry flights.entry closing) holds.now board.old) }
     ensures board_after { board.new ≡ board_after (lent capacities.entry flights.entry closing) holds.now board.old }
 {
-    match board::make_board(capacities, flights, closing, holds, board) {
+    let day = LentDay {
+        capacities,
+        flights,
+        closing,
+    };
+    match board::make_board(day, holds, board) {
         Ok(()) => Code::accepted(0, 0),
         Err(refusal) => Code::from(refusal),
     }
@@ -211,7 +252,12 @@ pub fn hold_desk_plan_text(
     ensures value { result ≡ code_of (plan_text_answer (lent capacities.entry flights.entry closing) holds.now text.old place) }
     ensures text_after { text.new ≡ plan_text_after (lent capacities.entry flights.entry closing) holds.now text.old place }
 {
-    code_of(plan_text::write_plan(capacities, flights, closing, holds, text, place))
+    let day = LentDay {
+        capacities,
+        flights,
+        closing,
+    };
+    code_of(plan_text::write_plan(day, holds, text, place))
 }
 
 pub fn hold_desk_read_plan(
@@ -223,7 +269,12 @@ pub fn hold_desk_read_plan(
 ) -> Code
     ensures { ReadExported (lent capacities.entry flights.entry closing) text.now result holds.old holds.new }
 {
-    code_of(plan_reader::read_plan(capacities, flights, closing, text, holds))
+    let day = LentDay {
+        capacities,
+        flights,
+        closing,
+    };
+    code_of(plan_reader::read_plan(day, text, holds))
 }
 
 pub fn hold_desk_forecast_plan(
@@ -239,7 +290,10 @@ pub fn hold_desk_forecast_plan(
     ensures value { result ≡ code_of (forecast_plan (lent capacities.entry flights.entry closing) (forecasts count factor weights.entry rows.entry) holds.old).answer }
     ensures holds_after { holds.new ≡ (forecast_plan (lent capacities.entry flights.entry closing) (forecasts count factor weights.entry rows.entry) holds.old).holds }
 {
-    code_of(forecast_plan::forecast_plan(
-        capacities, flights, closing, count, factor, weights, rows, holds,
-    ))
+    let day = LentDay {
+        capacities,
+        flights,
+        closing,
+    };
+    code_of(forecast_plan::forecast_plan(day, count, factor, weights, rows, holds))
 }

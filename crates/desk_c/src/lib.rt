@@ -1,5 +1,6 @@
 // The static library for other languages: each export is the core's call of its name (crate desk), with the same clauses.
 // include/hold_desk.h documents them for C.
+// Kept: twins of the functions of crate desk, since C needs them in a static library, and no crate may use one: crate examples calls desk.
 #![tactic(auto)]
 
 ghost use Rattle.std.specs.Prelude.{◌≡◌, true};

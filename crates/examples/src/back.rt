@@ -3,12 +3,13 @@ use crate::input::{Kind, size_at};
 use crate::rows::{MORE_FLIGHTS, RUBBISH, behind, front_mut, part, show_filled};
 use crate::sheets::run_sheet;
 use crate::show::put_code;
+use day::LentDay;
 
 // ` back number,first,second`, then the holds
-pub fn read_back(capacities: &[u32], flights: &[u32], closing: u32, text: &[u8], count: usize) {
+pub fn read_back(day: LentDay, text: &[u8], count: usize) {
     let mut space = [RUBBISH; MORE_FLIGHTS];
     let holds = front_mut(&mut space, count);
-    let code = desk::hold_desk_read_plan(capacities, flights, closing, text, holds);
+    let code = desk::hold_desk_read_plan(day.capacities, day.flights, day.closing, text, holds);
     put_code(b" back ", code);
     show_filled(code, b" holds", holds);
 }

@@ -1,8 +1,8 @@
 // Rows and buffers of rubbish, made anew for each call, and the comparisons after it. What a call changed though it had to leave it is
 // reported as `CHANGED`.
-use crate::show::{put, put_row};
+use crate::show::{is_accepted, put, put_row};
 use answers::Code;
-use day::{FLIGHT_ROW, FLIGHTS, PERIODS, WIDTH};
+use day::{FLIGHT_ROW, FLIGHTS, LentDay, PERIODS, WIDTH};
 
 pub const RUBBISH: u32 = u32::MAX;
 
@@ -25,11 +25,12 @@ pub const TEXT_ROOM: usize = 4096;
 pub const NO_ROOM: usize = TEXT_ROOM + 1;
 
 // How many prices a day has; for a row that is no day's, some number.
-pub fn price_count(capacities: &[u32], closing: u32) -> usize {
-    if PERIODS < capacities.len() {
+pub fn price_count(day: LentDay) -> usize {
+    let periods = day.capacities.len();
+    if PERIODS < periods {
         return 0;
     }
-    day::counted_of(capacities.len(), closing)
+    day::counted_of(periods, day.closing)
 }
 
 // The first entries of a row; all where it has fewer.
@@ -37,6 +38,7 @@ pub fn front(row: &[u32], count: usize) -> &[u32] {
     &row[..count.min(row.len())]
 }
 
+// Kept: beside `front`, since one function cannot lend both for reading and for writing.
 pub fn front_mut(row: &mut [u32], count: usize) -> &mut [u32] {
     let end = count.min(row.len());
     &mut row[..end]
@@ -76,7 +78,7 @@ pub fn expect_kept<T: Copy + Eq>(items: &[T], rubbish: T) {
 
 // A row that a call was to fill: printed where it was accepted, and still rubbish where it was turned down.
 pub fn show_filled(code: Code, name: &[u8], row: &[u32]) {
-    if code.number == 0 {
+    if is_accepted(code.number) {
         put_row(name, row);
     } else {
         expect_kept(row, RUBBISH);
@@ -87,7 +89,7 @@ pub fn show_filled(code: Code, name: &[u8], row: &[u32]) {
 // everywhere where it was turned down.
 pub fn expect_around(code: Code, text: &[u8], place: usize) {
     let length = code.first as usize;
-    if code.number != 0 {
+    if !is_accepted(code.number) {
         expect_kept(text, RUBBISH_BYTE);
         return;
     }
@@ -99,7 +101,7 @@ pub fn expect_around(code: Code, text: &[u8], place: usize) {
 pub fn expect_written(code: Code, text: &[u8], place: usize, expected: &[u8]) {
     expect_around(code, text, place);
     let length = code.first as usize;
-    if code.number == 0 {
+    if is_accepted(code.number) {
         if part(text, place, length) == expected {
             put(b" same");
         } else {

@@ -6,15 +6,15 @@ use crate::input::Kind;
 use crate::plans::run_day;
 use crate::refused::{run_lengths, run_values};
 use crate::rows::{LONGER_ROW, MORE_PERIODS, RUBBISH, behind, expect_kept, front, front_mut};
-use crate::show::{put_number, put_reading};
-use day::{FLIGHT_ROW, FLIGHTS, PERIODS, WIDTH};
+use crate::show::{is_accepted, put_number, put_reading};
+use day::{FLIGHT_ROW, FLIGHTS, LentDay, PERIODS, WIDTH};
 use desk::ReadingCode;
 
-// Past the day the rows are as they were; of a sheet that was refused, all of them.
+// Past the day the rows are as they were; of a sheet that was refused, all of them. Kept: two rows, since there need be no day.
 fn expect_rest_kept(code: ReadingCode, capacities: &[u32], flights: &[u32]) {
     let periods = code.first as usize;
     let count = code.second as usize;
-    if code.number != 0 {
+    if !is_accepted(code.number) {
         expect_kept(capacities, RUBBISH);
         expect_kept(flights, RUBBISH);
         return;
@@ -58,27 +58,14 @@ pub fn run_reader(sheet: &[u8]) {
 }
 
 // What the example's kind asks for a day that was read; the text is for the kind `text`.
-fn run_read(
-    kind: Kind,
-    capacities: &[u32],
-    flights: &[u32],
-    closing: u32,
-    sheet: &[u8],
-    text: &[u8],
-) {
+fn run_read(kind: Kind, day: LentDay, sheet: &[u8], text: &[u8]) {
     match kind {
-        Kind::Day => run_day(capacities, flights, closing, sheet),
-        Kind::Lengths => run_lengths(capacities, flights, closing),
-        Kind::Values => run_values(capacities, flights, closing),
-        Kind::Odds => run_forecasts(capacities, flights, closing),
-        Kind::Growth => run_growths(capacities, flights, closing),
-        Kind::Text => read_back(
-            capacities,
-            flights,
-            closing,
-            text,
-            day::flight_count(flights),
-        ),
+        Kind::Day => run_day(day, sheet),
+        Kind::Lengths => run_lengths(day),
+        Kind::Values => run_values(day),
+        Kind::Odds => run_forecasts(day),
+        Kind::Growth => run_growths(day),
+        Kind::Text => read_back(day, text, day::flight_count(day.flights)),
         Kind::Factors | Kind::Program | Kind::Read | Kind::Unfit => (),
     }
 }
@@ -99,12 +86,14 @@ pub fn run_sheet(kind: Kind, sheet: &[u8], text: &[u8]) {
     expect_rest_kept(code, capacities, flights);
     let periods = code.first as usize;
     let count = code.second as usize;
-    if code.number == 0 && count <= FLIGHTS {
+    if is_accepted(code.number) && count <= FLIGHTS {
         run_read(
             kind,
-            front(capacities, periods),
-            front(flights, count * WIDTH),
-            closing_of(code),
+            LentDay {
+                capacities: front(capacities, periods),
+                flights: front(flights, count * WIDTH),
+                closing: closing_of(code),
+            },
             sheet,
             text,
         );

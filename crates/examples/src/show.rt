@@ -3,6 +3,11 @@
 use answers::Code;
 use desk::ReadingCode;
 
+// Kept: an answer is told by its number, since the examples call what C calls.
+pub fn is_accepted(number: u64) -> bool {
+    number == 0
+}
+
 pub fn put(text: &[u8]) {
     io::write_all(1, text);
 }

@@ -1,18 +1,18 @@
 -- What the program's rows hold while flights get their holds. Only inner contracts cite it.
 -- Assumes nothing.
 use Rattle.std.specs.Prelude.{◌≡◌, List, ℕ, ◌+◌, ◌-◌, ◌*◌, ◌≤◌, ◌<◌, length}
-use Rattle.std.specs.Borrow.{Bor}
 use Rattle.assignment.specs.Sum.{sum}
 use Rattle.assignment.specs.Rows.{el}
 use Rattle.day.specs.Day.{Day, P, N, most_periods, most_flights, period_row, latest_of, hold}
 use Rattle.day.specs.Valid.{Valid}
 use Rattle.day.specs.declared.Flight.{Flight}
 use Rattle.forecast_plan.specs.declared.Chosen.{Chosen}
+use Rattle.forecast_plan.specs.declared.Odds.{Odds}
 use Rattle.forecast_plan.specs.Forecast.{Forecasts, forecasts, weight, forecast_at, held, waiting, first_room, expected, least_hold, forecast_holds}
 
--- forecasts as many as there are weights
-abbrev pub odds : ℕ → (weights rows : Bor (List ℕ)) → Forecasts
-odds factor weights rows = forecasts (length weights.now) factor weights rows
+-- the odds that inner calls pass on: forecasts as many as there are weights
+abbrev pub odds_of : Odds → Forecasts
+odds_of o = forecasts (length o.weights.now) o.factor o.weights o.rows
 
 -- a day and forecasts that no refusal stops, but for jumps and the forecasts' capacities, which the program need not know of
 pub record Fit (d : Day) (f : Forecasts) : Type 0 where

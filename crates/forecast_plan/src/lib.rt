@@ -4,15 +4,16 @@
 
 ghost use Rattle.std.specs.Prelude.{◌≡◌, true, cond, ◌+◌, ◌-◌, ◌*◌, ◌≤◌, ◌<◌, min, length, set, ltb};
 ghost use Rattle.assignment.specs.Rows.{el};
-ghost use Rattle.day.specs.Day.{lent, unlimited, N, valid, most_periods, most_flights, period_row, of_period, last_of};
+ghost use Rattle.day.specs.Day.{N, most_periods, most_flights, period_row, of_period, last_of};
+ghost use Rattle.day.specs.Checked.{lent_day, day_of};
 ghost use Rattle.forecast_plan.specs.Forecast.{forecasts, forecast_at, left_over, waiting, first_room, forecast_holds, expected_total};
 ghost use Rattle.forecast_plan.specs.Calls.{no_jumps, terms_fit, all_weights, forecasts_fit, rows_plan, forecast_plan};
-ghost use Rattle.forecast_plan.specs.Loop.{Stays, Behind, Turn, Turns, Adding, airborne, Weighed, weighed, Low, Chooses, Ready, odds, Fit, Placed};
+ghost use Rattle.forecast_plan.specs.Loop.{Stays, Behind, Turn, Turns, Adding, airborne, Weighed, weighed, Low, Chooses, Ready, odds_of, Fit, Placed};
 
 use answers::Refusal;
 use day::{
-    Flight, PERIOD_ROW, UNLIMITED, capacities_fit, flight_at, flight_count, is_inside, is_valid,
-    last_of,
+    Flight, LentDay, PERIOD_ROW, UNLIMITED, ValidDay, capacities_fit, flight_at, flight_count,
+    is_inside, last_of,
 };
 
 // The most forecasts, and a row that has a part for each.
@@ -22,6 +23,14 @@ const WAITS: usize = FORECASTS * PERIOD_ROW;
 
 // What their weights add up to.
 const ALL_WEIGHTS: usize = 1000;
+
+// What a call gives of the odds: the air factor, the forecasts' weights, and the forecasts in one row.
+#[derive(Clone, Copy)]
+struct Odds<'a> {
+    factor: usize,
+    weights: &'a [u32],
+    rows: &'a [u32],
+}
 
 // A hold, and what it is expected to cost in thousandths.
 #[derive(Clone, Copy)]
@@ -104,19 +113,12 @@ fn refresh_one(held: &[usize], forecast: &[u32], waits: &mut [usize], from: usiz
 }
 
 // The same for all forecasts.
-fn refresh(
-    periods: usize,
-    count: usize,
-    rows: &[u32],
-    held: &[usize],
-    waits: &mut [usize],
-    from: usize,
-)
-    requires { Turns periods count rows.now held.now waits.old from × (1 ≤ from) × (from ≤ periods + 1) × (1 ≤ periods) }
-    ensures { Turns periods count rows.now held.now waits.new (periods + 1) }
+fn refresh(odds: Odds, periods: usize, held: &[usize], waits: &mut [usize], from: usize)
+    requires { Turns periods (length odds.weights.now) odds.rows.now held.now waits.old from × (1 ≤ from) × (from ≤ periods + 1) × (1 ≤ periods) }
+    ensures { Turns periods (length odds.entry.weights.now) odds.entry.rows.now held.now waits.new (periods + 1) }
 {
-    for s in 0..count {
-        let forecast = forecast_at(rows, periods, s);
+    for s in 0..odds.weights.len() {
+        let forecast = forecast_at(odds.rows, periods, s);
         let place = s * PERIOD_ROW;
         refresh_one(held, forecast, &mut waits[place..place + PERIOD_ROW], from);
     }
@@ -147,20 +149,13 @@ fn add_air(forecast: &[u32], waits: &[usize], weight: usize, due: usize, air: &m
     }
 }
 
-// The same for all forecasts.
-fn weigh_air(
-    periods: usize,
-    weights: &[u32],
-    rows: &[u32],
-    waits: &[usize],
-    due: usize,
-    air: &mut [usize],
-)
-    requires { Weighed periods weights.now rows.now waits.now due air.old 0 }
-    ensures { Weighed periods weights.now rows.now waits.now due air.new (length weights.now) }
+// The same for all forecasts. Kept: a loop beside that of `refresh`, since one lends its part of the waits for writing, and one for reading.
+fn weigh_air(odds: Odds, periods: usize, waits: &[usize], due: usize, air: &mut [usize])
+    requires { Weighed periods odds.weights.now odds.rows.now waits.now due air.old 0 }
+    ensures { Weighed periods odds.entry.weights.now odds.entry.rows.now waits.now due air.new (length odds.entry.weights.now) }
 {
-    for (s, weight) in weights.iter().enumerate() {
-        let forecast = forecast_at(rows, periods, s);
+    for (s, weight) in odds.weights.iter().enumerate() {
+        let forecast = forecast_at(odds.rows, periods, s);
         let place = s * PERIOD_ROW;
         add_air(
             forecast,
@@ -203,47 +198,37 @@ fn least_hold(f: Flight, factor: usize, air: &[usize], last: usize) -> Chosen
 }
 
 // A flight's hold, from who waits under each forecast.
-fn hold_of(
-    f: Flight,
-    factor: usize,
-    periods: usize,
-    weights: &[u32],
-    rows: &[u32],
-    waits: &[usize],
-) -> Chosen
-    requires { Ready f factor periods weights.now rows.now waits.now }
-    ensures { Chooses (last_of periods f - f.due) (weighed f factor (airborne periods weights.now rows.now waits.now (length weights.now))) result }
+fn hold_of(f: Flight, odds: Odds, periods: usize, waits: &[usize]) -> Chosen
+    requires { Ready f odds.factor periods odds.weights.now odds.rows.now waits.now }
+    ensures { Chooses (last_of periods f - f.due) (weighed f odds.entry.factor (airborne periods odds.entry.weights.now odds.entry.rows.now waits.now (length odds.entry.weights.now))) result }
 {
     let due = f.due as usize;
     let mut air = [0; PERIOD_ROW];
-    weigh_air(periods, weights, rows, waits, due, &mut air);
-    least_hold(f, factor, &air, last_of(periods, f))
+    weigh_air(odds, periods, waits, due, &mut air);
+    least_hold(f, odds.factor, &air, last_of(periods, f))
 }
 
 // Holds the flights one after another and sums what they are expected to cost, with rows in which those held to each period are counted
 // and those who wait there under each forecast are kept.
 fn hold_all(
-    capacities: &[u32],
-    flights: &[u32],
-    factor: usize,
-    weights: &[u32],
-    rows: &[u32],
+    day: ValidDay,
+    odds: Odds,
     holds: &mut [u32],
     held: &mut [usize],
     waits: &mut [usize],
 ) -> usize
-    requires { Placed (lent capacities flights unlimited) (odds factor weights rows) holds.old held.old waits.old 0 0 }
-    ensures value { result ≡ expected_total (lent capacities.entry flights.entry unlimited) (odds factor weights.entry rows.entry) (forecast_holds (lent capacities.entry flights.entry unlimited) (odds factor weights.entry rows.entry)) }
-    ensures holds_after { holds.new ≡ forecast_holds (lent capacities.entry flights.entry unlimited) (odds factor weights.entry rows.entry) }
+    requires { Placed (day_of day) (odds_of odds) holds.old held.old waits.old 0 0 }
+    ensures value { result ≡ expected_total (day_of day.entry) (odds_of odds.entry) (forecast_holds (day_of day.entry) (odds_of odds.entry)) }
+    ensures holds_after { holds.new ≡ forecast_holds (day_of day.entry) (odds_of odds.entry) }
 {
-    let periods = capacities.len();
+    let periods = day.capacities.len();
     let mut total = 0;
     for i in 0..holds.len() {
-        let f = flight_at(flights, i);
-        let chosen = hold_of(f, factor, periods, weights, rows, waits);
+        let f = day.flight_at(i);
+        let chosen = hold_of(f, odds, periods, waits);
         let held_to = f.due as usize + chosen.hold;
         held[held_to] += 1;
-        refresh(periods, weights.len(), rows, held, waits, held_to);
+        refresh(odds, periods, held, waits, held_to);
         holds[i] = chosen.hold as u32;
         total += chosen.cost;
     }
@@ -251,23 +236,14 @@ fn hold_all(
 }
 
 // The same, with rows of its own.
-fn hold_flights(
-    capacities: &[u32],
-    flights: &[u32],
-    factor: usize,
-    weights: &[u32],
-    rows: &[u32],
-    holds: &mut [u32],
-) -> usize
-    requires { Fit (lent capacities flights unlimited) (odds factor weights rows) × (length holds.old ≡ N (lent capacities flights unlimited)) }
-    ensures value { result ≡ expected_total (lent capacities.entry flights.entry unlimited) (odds factor weights.entry rows.entry) (forecast_holds (lent capacities.entry flights.entry unlimited) (odds factor weights.entry rows.entry)) }
-    ensures holds_after { holds.new ≡ forecast_holds (lent capacities.entry flights.entry unlimited) (odds factor weights.entry rows.entry) }
+fn hold_flights(day: ValidDay, odds: Odds, holds: &mut [u32]) -> usize
+    requires { Fit (day_of day) (odds_of odds) × (length holds.old ≡ N (day_of day)) }
+    ensures value { result ≡ expected_total (day_of day.entry) (odds_of odds.entry) (forecast_holds (day_of day.entry) (odds_of odds.entry)) }
+    ensures holds_after { holds.new ≡ forecast_holds (day_of day.entry) (odds_of odds.entry) }
 {
     let mut held = [0; PERIOD_ROW];
     let mut waits = [0; WAITS];
-    hold_all(
-        capacities, flights, factor, weights, rows, holds, &mut held, &mut waits,
-    )
+    hold_all(day, odds, holds, &mut held, &mut waits)
 }
 
 // No flight has a jump.
@@ -305,34 +281,26 @@ fn forecasts_fit(weights: &[u32], rows: &[u32]) -> bool
 
 // The plan for a day and terms that fit, if its rows do: refusals 7 and 12.
 #[tactic(auto, unfolding(crate::specs::Calls::rows_plan))]
-fn plan_rows(
-    capacities: &[u32],
-    flights: &[u32],
-    count: usize,
-    factor: usize,
-    weights: &[u32],
-    rows: &[u32],
-    holds: &mut [u32],
-) -> Result<usize, Refusal>
-    requires { (valid (lent capacities flights unlimited) ≡ true) × (terms_fit flights.now count factor ≡ true) }
-    ensures value { result ≡ (rows_plan (lent capacities.entry flights.entry unlimited) (forecasts count factor weights.entry rows.entry) holds.old).answer }
-    ensures holds_after { holds.new ≡ (rows_plan (lent capacities.entry flights.entry unlimited) (forecasts count factor weights.entry rows.entry) holds.old).holds }
+fn plan_rows(day: ValidDay, count: usize, odds: Odds, holds: &mut [u32]) -> Result<usize, Refusal>
+    requires { terms_fit day.flights.now count odds.factor ≡ true }
+    ensures value { result ≡ (rows_plan (day_of day.entry) (forecasts count odds.entry.factor odds.entry.weights odds.entry.rows) holds.old).answer }
+    ensures holds_after { holds.new ≡ (rows_plan (day_of day.entry) (forecasts count odds.entry.factor odds.entry.weights odds.entry.rows) holds.old).holds }
 {
-    let n = flight_count(flights);
+    let n = day.flight_count();
     if holds.len() != n {
         return Err(Refusal::BadLength { needed: n });
     }
-    if weights.len() != count {
+    if odds.weights.len() != count {
         return Err(Refusal::BadLength { needed: count });
     }
-    let entries = count * capacities.len();
-    if rows.len() != entries {
+    let entries = count * day.capacities.len();
+    if odds.rows.len() != entries {
         return Err(Refusal::BadLength { needed: entries });
     }
-    if !forecasts_fit(weights, rows) {
+    if !forecasts_fit(odds.weights, odds.rows) {
         return Err(Refusal::BadForecasts);
     }
-    Ok(hold_flights(capacities, flights, factor, weights, rows, holds))
+    Ok(hold_flights(day, odds, holds))
 }
 
 // Fills the hold row with the forecast plan and answers its expected total, in thousandths. Refusals, in this order: 6, a bad day; 13, a
@@ -340,36 +308,28 @@ fn plan_rows(
 // forecasts; 12, weights that do not add up to 1,000, or a capacity out of range. They leave the row as it was.
 #[tactic(auto, unfolding(crate::specs::Calls::forecast_plan))]
 pub fn forecast_plan(
-    capacities: &[u32],
-    flights: &[u32],
-    closing: u32,
+    day: LentDay,
     count: u32,
     factor: u32,
     weights: &[u32],
     rows: &[u32],
     holds: &mut [u32],
 ) -> Result<usize, Refusal>
-    ensures value { result ≡ (forecast_plan (lent capacities.entry flights.entry closing) (forecasts count factor weights.entry rows.entry) holds.old).answer }
-    ensures holds_after { holds.new ≡ (forecast_plan (lent capacities.entry flights.entry closing) (forecasts count factor weights.entry rows.entry) holds.old).holds }
+    ensures value { result ≡ (forecast_plan (lent_day day.entry) (forecasts count factor weights.entry rows.entry) holds.old).answer }
+    ensures holds_after { holds.new ≡ (forecast_plan (lent_day day.entry) (forecasts count factor weights.entry rows.entry) holds.old).holds }
 {
-    if !is_valid(capacities, flights, closing) {
-        return Err(Refusal::BadDay);
-    }
-    if closing != UNLIMITED {
+    let day = day.check()?;
+    if day.closing != UNLIMITED {
         return Err(Refusal::BadTerms);
     }
     let forecast_count = count as usize;
-    let air_factor = factor as usize;
-    if !terms_fit(flights, forecast_count, air_factor) {
-        return Err(Refusal::BadTerms);
-    }
-    plan_rows(
-        capacities,
-        flights,
-        forecast_count,
-        air_factor,
+    let odds = Odds {
+        factor: factor as usize,
         weights,
         rows,
-        holds,
-    )
+    };
+    if !terms_fit(day.flights, forecast_count, odds.factor) {
+        return Err(Refusal::BadTerms);
+    }
+    plan_rows(day, forecast_count, odds, holds)
 }

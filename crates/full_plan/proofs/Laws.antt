@@ -78,10 +78,9 @@ module _ (c f : List ℕ) (closing : ℕ) (h p : List ℕ) where
 
   module _ (good : valid d ≡ true) {n : ℕ} (count : n ≡ N d) (holds : length h ≡ n) {m : ℕ} (priced : m ≡ counted d) (prices : length p ≡ m)
       (clear : (a b : ℕ) → Short d a b → ⊥) where
-    pub can_plan : CanPlan c f h p
+    pub can_plan : CanPlan (day c f unlimited) h p
     can_plan = record {
       can = record {
-        valid = open_valid (valid_means good);
         none_short = λ a b s. clear a b (short_with c f closing s);
         holds_row = holds ∙ count;
         prices_row = length-take-le (length c) p (omega (arith, counted_from (length c) closing));
@@ -90,7 +89,7 @@ module _ (c f : List ℕ) (closing : ℕ) (h p : List ℕ) where
     }
 
     -- with a line the prices are those without it and the added 0, else it is the same day
-    best_made : {t : ℕ} {h' p' : List ℕ} → Made c f t h' p p' → BestPlan d (Ok t) h' p'
+    best_made : {t : ℕ} {h' p' : List ℕ} → Made (day c f unlimited) t h' p p' → BestPlan d (Ok t) h' p'
     best_made {t} {h'} {p'} made = elim (lt? closing unlimited) [
       | inl line ↦
           let one : length p - length c ≡ 1 = omega (arith, counted_line (length c) closing line) in
@@ -114,5 +113,5 @@ module _ (c f : List ℕ) (closing : ℕ) (h p : List ℕ) where
           })
     ]
 
-    pub found_plan : {t : ℕ} {h' p' : List ℕ} → Made c f t h' p p' → FullPlan d (Ok t) h p h' p'
+    pub found_plan : {t : ℕ} {h' p' : List ℕ} → Made (day c f unlimited) t h' p p' → FullPlan d (Ok t) h p h' p'
     found_plan made = solved d h p good count holds priced prices (plan (best_made made))

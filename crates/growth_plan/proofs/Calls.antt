@@ -28,38 +28,41 @@ pub refused : (a : ℕ) (d : Day) (h : List ℕ) {answer : Refusal} → quick_ch
 unfolding growth_plan
 refused a d h e = rw e
 
--- `within` is what the program found of the growth
-module _ (a : ℕ) (d : Day) (h : List ℕ) (e : quick_check d h ≡ Ok tt) {within : Bool} (ew : within ≡ growth_fits a (P d)) where
+-- the day that passed the check is the day that was lent; `within` is what the program found of the growth
+module _ (a : ℕ) (d : Day) (h : List ℕ) (e : quick_check d h ≡ Ok tt) {checked : Day} (same : checked ≡ d) {within : Bool} (found : within ≡ growth_fits a (P checked)) where
+  ew : within ≡ growth_fits a (P d)
+  ew = rw same at found
+
   pub bad_growth : within ≡ false → growth_plan a d h ≡ outcome (Err BadGrowth) h
   unfolding growth_plan
   bad_growth o = rw (e, ← ew, o)
 
   module _ (o : within ≡ true) where
-    pub can_make : fits (Growing a) (P d) ≡ true
+    pub can_make : fits (Growing a) (P checked) ≡ true
     unfolding fits
-    can_make = sym ew ∙ o
+    can_make = sym found ∙ o
 
     abbrev plan : Outcome
     plan = outcome (Ok (growing_total a d.flights (growing_quick a d))) (growing_quick a d)
 
-    pub no_plan_lem : {first last : ℕ} → Picked d first last → growth_plan a d h ≡ outcome (Err (NoPlan first last)) h
+    pub no_plan_lem : {first last : ℕ} → Picked checked first last → growth_plan a d h ≡ outcome (Err (NoPlan first last)) h
     unfolding growth_plan
-    no_plan_lem p = rw (e, ← ew, o) (let w = can_plan d h e in found_short d w.good w.plain (growing a d) h plan p)
+    no_plan_lem p = rw (e, ← ew, o) (let w = can_plan d h e in found_short d w.good w.plain (growing a d) h plan (rw same at p))
 
-    module _ {x : List ℕ} (made : x ≡ row_to (without_line d) (growing a d) (P d)) where
+    module _ {x : List ℕ} (made : x ≡ row_to (without_line checked) (growing a checked) (P checked)) where
       -- the row made for all periods is the growing plan
       made_plan : x ≡ growing_quick a d
-      made_plan = made_quick d (growing a d) (can_plan d h e).good made
+      made_plan = made_quick d (growing a d) (can_plan d h e).good (rw same at made)
 
-      pub can_add : CanSum a d.flights x
+      pub can_add : CanSum a checked.flights x
       can_add =
           let good = (can_plan d h e).good in
           let r = growth_within a (P d) (sym ew ∙ o) in
-          rw made_plan (can_sum a d (growing_quick a d) r.0 r.1 good (quick_length d (growing a d) good) (quick_to d (growing a d) good))
+          rw (same, made_plan) (can_sum a d (growing_quick a d) r.0 r.1 good (quick_length d (growing a d) good) (quick_to d (growing a d) good))
 
-      pub planned : ((first last : ℕ) → Short d first last → ⊥) → {t : ℕ} → t ≡ growing_total a d.flights x
+      pub planned : ((first last : ℕ) → Short checked first last → ⊥) → {t : ℕ} → t ≡ growing_total a checked.flights x
           → growth_plan a d h ≡ outcome (Ok t) x
       unfolding growth_plan
       planned none q =
           let w = can_plan d h e in
-          rw (e, ← ew, o, q, made_plan) (none_short d w.good w.plain (growing a d) h plan none)
+          rw (e, ← ew, o, rw same at q, made_plan) (none_short d w.good w.plain (growing a d) h plan (rw same at none))

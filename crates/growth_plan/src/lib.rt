@@ -2,18 +2,19 @@
 #![tactic(auto)]
 
 ghost use Rattle.std.specs.Prelude.{◌≡◌};
-ghost use Rattle.day.specs.Day.{lent};
+ghost use Rattle.day.specs.Checked.{lent_day};
 ghost use Rattle.growth.specs.Growth.{growth_fits};
 ghost use Rattle.growth_plan.specs.Growing.{growing_total, growth_plan};
 ghost use Rattle.growth_plan.specs.Loop.{CanSum};
 
 use answers::Refusal;
-use day::rate_of;
+use day::{LentDay, rate_of};
 use growth::{GROWTH, GROWTH_PERIODS, factor_table, growth_cost};
 use quick_plan::{NextCost, check_quick, plan_to};
 use stretch::{Stretch, find_short};
 
-// What a row of holds costs, in millionths.
+// What a row of holds costs, in millionths. Kept: beside the total of legality, since a function of the cost would have to ask of it what
+// bounds the sum, which is longer than both loops.
 fn total_in_millionths(growth: usize, flights: &[u32], holds: &[u32]) -> usize
     requires { CanSum growth flights.now holds.now }
     ensures { result ≡ growing_total growth flights.now holds.now }
@@ -37,30 +38,23 @@ fn growth_fits(growth: usize, periods: usize) -> bool
 // Fills the hold row with the growing plan for a growth in tenths, and answers its total in millionths. Refusals, in this order: 6, 7 and 8
 // as the quick plan; 14, a growth or a number of periods out of range; 9, more flights left than the closing period takes. They leave the
 // row as it was.
-pub fn growth_plan(
-    capacities: &[u32],
-    flights: &[u32],
-    closing: u32,
-    growth: u32,
-    holds: &mut [u32],
-) -> Result<usize, Refusal>
-    ensures value { result ≡ (growth_plan growth (lent capacities.entry flights.entry closing) holds.old).answer }
-    ensures holds_after { holds.new ≡ (growth_plan growth (lent capacities.entry flights.entry closing) holds.old).holds }
+pub fn growth_plan(day: LentDay, growth: u32, holds: &mut [u32]) -> Result<usize, Refusal>
+    ensures value { result ≡ (growth_plan growth (lent_day day.entry) holds.old).answer }
+    ensures holds_after { holds.new ≡ (growth_plan growth (lent_day day.entry) holds.old).holds }
 {
-    check_quick(capacities, flights, closing, holds)?;
+    let day = check_quick(day, holds)?;
     let growth = growth as usize;
-    if !growth_fits(growth, capacities.len()) {
+    if !growth_fits(growth, day.capacities.len()) {
         return Err(Refusal::BadGrowth);
     }
-    if let Some(Stretch { first, last }) = find_short(capacities, flights, closing) {
+    if let Some(Stretch { first, last }) = find_short(day) {
         return Err(Refusal::NoPlan { first, last });
     }
     plan_to(
         NextCost::Growing { growth },
-        capacities,
-        flights,
+        day,
         holds,
-        capacities.len(),
+        day.capacities.len(),
     );
-    Ok(total_in_millionths(growth, flights, holds))
+    Ok(total_in_millionths(growth, day.flights, holds))
 }

@@ -19,9 +19,10 @@ use Rattle.assignment.proofs.Chains.{chained_start}
 use Rattle.assignment.proofs.Closed.{Tied, priced, lands_open, opened_total}
 use Rattle.assignment.proofs.Permuted.{Stands, permuted_stands, permuted_sound, permuted_total}
 use Rattle.day.specs.Day.{Day, P, N, most_flights, period_row, unlimited, of_period, due, capacity, counted, cost as cost-of, Window, hold, land, total}
+use Rattle.day.specs.Valid.{Valid}
+use Rattle.day.proofs.Valid.{valid_flights}
 use Rattle.day.specs.Instance.{instance, last_to}
 use Rattle.day.proofs.Costs.{period_out, takes_in, takes_closing, counted_open}
-use Rattle.day.proofs.Valid.{valid_flights}
 use Rattle.day.proofs.Instance.{cost_le, window_in, in_window, total_instance}
 use Rattle.day.proofs.Prices.{sound_saves, sound_smallest}
 use Rattle.closed_prices.specs.ClosedPrices.{paid, Sets, CanPrice, Priced}
@@ -57,14 +58,14 @@ none_placed : (d : A.Instance) (x : ℕ → ℕ) → d.n ≡ 0 → A.total d x �
 unfolding A.total sum
 none_placed d x e = rw e
 
-module _ {d : Day} {holds prices : List ℕ} (c : CanInsert d holds prices) where
+module _ {d : Day} (v : Valid d) {holds prices : List ℕ} (c : CanInsert d holds prices) where
   pub building_start : d.closing ≡ unlimited → {places prices₀ : List ℕ} → length places ≡ length (replicate {A = ℕ} most_flights 0)
       → DueOrder d.flights places → prices₀ ≡ replicate (length prices) 0
       → Building d places holds prices₀ (replicate period_row 0) (replicate chain_row 0) (replicate period_row far) (replicate period_row 0) 0 0
   building_start no_line {places} row o none = record {
     places_row = row ∙ length-replicate {A = ℕ} most_flights 0;
     placed = record {
-      table = record { valid = c.valid; row = o.row; permuted = o.permuted };
+      table = record { valid = v; row = o.row; permuted = o.permuted };
       no_line = no_line;
       falling = λ s t le _ b. o.falling s t le b;
       none_short = c.none_short;

@@ -9,7 +9,6 @@ use Rattle.assignment.specs.Orders.{Permuted}
 use Rattle.assignment.specs.Insertion.{Sound, Going}
 use Rattle.day.specs.Day.{Day, P, N, most_periods, most_flights, period_row, width, flight_count, of_period, due, total, unlimited, takes_of, due_of}
 use Rattle.day.specs.Plan.{Smallest, PricesSave, Short}
-use Rattle.day.specs.Valid.{Valid}
 use Rattle.path.specs.Path.{far, away, begun, landing, Table, Chained}
 
 -- the flights at the first n places are placed: the hold row has their holds, the price row their prices; the others follow, due falling,
@@ -150,9 +149,8 @@ pub record Inserted (d : Day) (places places₂ holds holds₂ prices₂ : List 
   pub placed : Placed d places₂ holds₂ prices₂ (n + 1)
   pub adds : cost_of_placed d places₂ holds₂ (n + 1) ≡ cost_of_placed d places holds n + added
 
--- a day that passes the check and has no short stretch, and rows of its sizes
+-- a day that has no short stretch, and rows of its sizes
 pub record CanInsert (d : Day) (holds prices : List ℕ) : Type 0 where
-  pub valid : Valid d
   pub none_short : (a b : ℕ) → Short d a b → ⊥
   pub holds_row : length holds ≡ N d
   pub prices_row : length prices ≡ P d

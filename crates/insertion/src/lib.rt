@@ -7,12 +7,13 @@
 #![tactic(auto)]
 
 ghost use Rattle.std.specs.Prelude.{◌≡◌, ◌+◌, ◌-◌, ◌*◌, ◌<◌, ◌≤◌, length, set};
-ghost use Rattle.day.specs.Day.{lent, unlimited, most_flights, period_row, width, N, due_of};
+ghost use Rattle.day.specs.Day.{most_flights, period_row, width, N, due_of};
+ghost use Rattle.day.specs.Checked.{open_day};
 ghost use Rattle.assignment.specs.Rows.{el};
 ghost use Rattle.insertion.specs.Insertion.{Added, CanFind, FirstRoom, CanWalk, Walked, CanRaise, Raised, CanForget, Forgotten, Placed, Kept, Inserted, CanInsert, Planned};
 
 use closed_prices::price_closed;
-use day::{FLIGHTS, PERIOD_ROW, UNLIMITED, capacity_of, due_of, land_of};
+use day::{FLIGHTS, PERIOD_ROW, UNLIMITED, ValidDay, capacity_of, due_of, land_of};
 use due_order::order_flights;
 use path::{CHAIN_ROW, FAR, find_path};
 
@@ -95,8 +96,7 @@ fn forget(dist: &mut [usize], first: usize, target: usize)
 
 // Takes the flight at place n into the plan of those before it; what that adds to the cost.
 fn insert(
-    capacities: &[u32],
-    flights: &[u32],
+    day: ValidDay,
     places: &mut [u32],
     holds: &mut [u32],
     prices: &mut [u32],
@@ -106,37 +106,30 @@ fn insert(
     via: &mut [usize],
     n: usize,
 ) -> usize
-    requires placed { Placed (lent capacities flights unlimited) places.old holds.old prices.old n }
-    requires kept { Kept (lent capacities flights unlimited) places.old holds.old loads.old links.old dist.old via.old n }
-    requires n_bound { n < N (lent capacities flights unlimited) }
-    ensures inserted { Inserted (lent capacities.entry flights.entry unlimited) places.old places.new holds.old holds.new prices.new n result }
-    ensures kept { Kept (lent capacities.entry flights.entry unlimited) places.new holds.new loads.new links.new dist.new via.new (n + 1) }
+    requires placed { Placed (open_day day) places.old holds.old prices.old n }
+    requires kept { Kept (open_day day) places.old holds.old loads.old links.old dist.old via.old n }
+    requires n_bound { n < N (open_day day) }
+    ensures inserted { Inserted (open_day day.entry) places.old places.new holds.old holds.new prices.new n result }
+    ensures kept { Kept (open_day day.entry) places.new holds.new loads.new links.new dist.new via.new (n + 1) }
 {
-    let first = due_of(flights, places[n] as usize);
-    let target = first_with_room(capacities, loads, first);
-    find_path(
-        capacities, flights, places, links, prices, dist, via, n, target,
-    );
+    let first = day.due_of(places[n] as usize);
+    let target = first_with_room(day.capacities, loads, first);
+    find_path(day, places, links, prices, dist, via, n, target);
     let added = dist[target];
-    walk(flights, places, holds, via, n, target);
+    walk(day.flights, places, holds, via, n, target);
     raise(prices, dist, first, target);
     forget(dist, first, target);
     add_place(loads, links, n, target);
     added
 }
 
-// Plans all flights of a day without a closing line that has no short stretch; the total. Whatever the two rows have, they are filled.
-pub fn insert_all(
-    capacities: &[u32],
-    flights: &[u32],
-    holds: &mut [u32],
-    prices: &mut [u32],
-) -> usize
-    requires { CanInsert (lent capacities flights unlimited) holds.old prices.old }
-    ensures { Planned (lent capacities.entry flights.entry unlimited) holds.new prices.new result }
+// Plans all flights of a day without its closing line, if no stretch is short then; the total. Whatever the two rows have, they are filled.
+pub fn insert_all(day: ValidDay, holds: &mut [u32], prices: &mut [u32]) -> usize
+    requires { CanInsert (open_day day) holds.old prices.old }
+    ensures { Planned (open_day day.entry) holds.new prices.new result }
 {
     let mut places = [0; FLIGHTS];
-    order_flights(capacities.len(), flights, &mut places);
+    order_flights(day.capacities.len(), day.flights, &mut places);
     prices.fill(0);
     let mut loads = [0; PERIOD_ROW];
     let mut links = [0; CHAIN_ROW];
@@ -145,8 +138,7 @@ pub fn insert_all(
     let mut total = 0;
     for n in 0..holds.len() {
         let added = insert(
-            capacities,
-            flights,
+            day,
             &mut places,
             holds,
             prices,
@@ -158,6 +150,6 @@ pub fn insert_all(
         );
         total += added;
     }
-    price_closed(capacities, flights, holds, prices);
+    price_closed(day.capacities, day.flights, holds, prices);
     total
 }

@@ -12,13 +12,13 @@ use lib.ListN.{length, get_or, set, length-set, replicate}
 use lib.Seq.{get_or-set_same, get_or-set_other}
 use Rattle.std.specs.Prelude.{Some, None, Ok, Err}
 use lib.Dec.{ltb}
-use borrow.Author.Tests.{ltb-false, le-ltb, lt-leb, le-leb, eq-eqb, ne_eqb}
+use borrow.Author.Tests.{ltb-false, lt-ltb, le-ltb, lt-leb, le-leb, eq-eqb, ne_eqb}
 use Rattle.assignment.specs.Sum.{gate, sum, count}
 use Rattle.assignment.proofs.Tests.{lt?, eq?, gate_eq, gate_ne}
 use Rattle.assignment.proofs.Rows.{blank_at}
 use Rattle.assignment.proofs.Sums.{count_suc, count_zero, count_le}
 use Rattle.day.specs.declared.Flight.{Flight}
-use Rattle.day.specs.Day.{Day, day, P, N, period_row, most_flights, column, flight_count, flight_at, unlimited, takes_of, counted_of, latest, land, hold, hold_cost, total_of, total, valid, width}
+use Rattle.day.specs.Day.{takes, Day, day, P, N, period_row, most_flights, column, flight_count, flight_at, unlimited, takes_of, counted_of, latest, land, hold, hold_cost, total_of, total, valid, width}
 use Rattle.day.specs.Plan.{too_long_of, too_long, over_capacity, breaks, first_break}
 use Rattle.day.proofs.Costs.{takes_closing, counted_from, uncounted, cost_most}
 use Rattle.day.proofs.Tests.{first_at, first_none}
@@ -131,6 +131,13 @@ over_taken capacities closing k m by few = elim (lt? (counted_of (length capacit
       ∙ rw (lt-leb k (counted_of (length capacities) closing) past)
   | inr in_day ↦ rw (le-leb k (counted_of (length capacities) closing) in_day)
 ]
+
+-- what a period takes less than m, or not
+pub over_if : (d : Day) (k m room : ℕ) → k ≤ P d + 1 → m ≤ most_flights + 1 → room ≡ takes d k → room < m → over_capacity d.capacities d.closing k m ≡ true
+over_if d k m room by few is l = sym (over_taken d.capacities d.closing k m by few) ∙ lt-ltb _ _ (rw is at l)
+
+pub not_over : (d : Day) (k m room : ℕ) → k ≤ P d + 1 → m ≤ most_flights + 1 → room ≡ takes d k → m ≤ room → over_capacity d.capacities d.closing k m ≡ false
+not_over d k m room by few is l = sym (over_taken d.capacities d.closing k m by few) ∙ le-ltb _ _ (rw is at l)
 
 -- ---- costs
 

@@ -2,15 +2,14 @@
 #![tactic(auto)]
 
 ghost use Rattle.std.specs.Prelude.{◌≡◌, true, ◌+◌, ◌*◌, ◌<◌, ◌≤◌, length};
-ghost use Rattle.day.specs.Day.{lent, most_periods, most_flights, width, N, total_of, valid};
-ghost use Rattle.day.specs.Plan.{too_long_of, over_capacity};
+ghost use Rattle.day.specs.Day.{most_periods, N, total_of};
+ghost use Rattle.day.specs.Checked.{lent_day, day_of};
+ghost use Rattle.day.specs.Plan.{too_long_of};
 ghost use Rattle.legality.specs.Check.{plan_check};
 ghost use Rattle.legality.specs.Loop.{Walked, FirstBreak, CanSum};
 
 use answers::Refusal;
-use day::{
-    Flight, PERIOD_ROW, capacity_of, cost_of, flight_at, flight_count, is_valid, land_of, latest_of,
-};
+use day::{Flight, LentDay, PERIOD_ROW, ValidDay, cost_of, latest_of};
 
 // A landing of a flight in period k is after the closing period or over its limit, on a day of so many periods.
 pub fn is_too_long(periods: usize, f: Flight, k: usize) -> bool
@@ -20,32 +19,19 @@ pub fn is_too_long(periods: usize, f: Flight, k: usize) -> bool
     periods + 1 < k || latest_of(periods, f) < k
 }
 
-// The m-th landing in period k is over its capacity. No day has the landings that would fill a closing period without a line.
-fn is_over(capacities: &[u32], closing: u32, k: usize, m: usize) -> bool
-    requires { (length capacities.now ≤ most_periods) × (k ≤ length capacities.now + 1) × (m ≤ most_flights + 1) }
-    ensures { result ≡ over_capacity capacities.now closing k m }
-{
-    capacity_of(capacities, closing, k) < m
-}
-
-// The walk of refusal 10, with a row in which landings are counted by period on the way: the first flight that breaks the hold row.
-fn walk(
-    capacities: &[u32],
-    flights: &[u32],
-    closing: u32,
-    holds: &[u32],
-    loads: &mut [usize],
-) -> Option<usize>
-    requires { Walked (lent capacities flights closing) holds.now loads.old 0 }
-    ensures { FirstBreak (lent capacities.entry flights.entry closing) holds.now result }
+// The walk of refusal 10, with a row in which landings are counted by period on the way: the first flight that breaks the hold row. No day
+// has the landings that would fill a closing period without a line.
+fn walk(day: ValidDay, holds: &[u32], loads: &mut [usize]) -> Option<usize>
+    requires { Walked (day_of day) holds.now loads.old 0 }
+    ensures { FirstBreak (day_of day.entry) holds.now result }
 {
     for place in 0..holds.len() {
-        let k = land_of(flights, holds, place);
-        if is_too_long(capacities.len(), flight_at(flights, place), k) {
+        let k = day.land_of(holds, place);
+        if is_too_long(day.capacities.len(), day.flight_at(place), k) {
             return Some(place);
         }
         let load = loads[k] + 1;
-        if is_over(capacities, closing, k, load) {
+        if day.capacity_of(k) < load {
             return Some(place);
         }
         loads[k] = load;
@@ -54,13 +40,12 @@ fn walk(
 }
 
 // The first flight that breaks a row of N holds.
-fn first_break(capacities: &[u32], flights: &[u32], closing: u32, holds: &[u32]) -> Option<usize>
-    requires valid_day { valid (lent capacities flights closing) ≡ true }
-    requires holds_len { length holds.now ≡ N (lent capacities flights closing) }
-    ensures { FirstBreak (lent capacities.entry flights.entry closing) holds.now result }
+fn first_break(day: ValidDay, holds: &[u32]) -> Option<usize>
+    requires { length holds.now ≡ N (day_of day) }
+    ensures { FirstBreak (day_of day.entry) holds.now result }
 {
     let mut loads = [0; PERIOD_ROW];
-    walk(capacities, flights, closing, holds, &mut loads)
+    walk(day, holds, &mut loads)
 }
 
 // The plan's total.
@@ -75,24 +60,23 @@ pub fn total_of(flights: &[u32], holds: &[u32]) -> usize
     sum
 }
 
-// The total of a legal plan, or the refusal, for a day and a hold row of any content and length.
-pub fn check_plan(
-    capacities: &[u32],
-    flights: &[u32],
-    closing: u32,
-    holds: &[u32],
-) -> Result<usize, Refusal>
-    ensures { result ≡ plan_check (lent capacities.entry flights.entry closing) holds.now }
+// The total of a legal plan, or the refusal, for a valid day and a hold row of any content and length.
+pub fn check_holds(day: ValidDay, holds: &[u32]) -> Result<usize, Refusal>
+    ensures { result ≡ plan_check (day_of day.entry) holds.now }
 {
-    if !is_valid(capacities, flights, closing) {
-        return Err(Refusal::BadDay);
+    let needed = day.flight_count();
+    if holds.len() != needed {
+        return Err(Refusal::BadLength { needed });
     }
-    let n = flight_count(flights);
-    if holds.len() != n {
-        return Err(Refusal::BadLength { needed: n });
-    }
-    if let Some(place) = first_break(capacities, flights, closing, holds) {
+    if let Some(place) = first_break(day, holds) {
         return Err(Refusal::NotLegal { place });
     }
-    Ok(total_of(flights, holds))
+    Ok(total_of(day.flights, holds))
+}
+
+// The same for a day of any content and length.
+pub fn check_plan(day: LentDay, holds: &[u32]) -> Result<usize, Refusal>
+    ensures { result ≡ plan_check (lent_day day.entry) holds.now }
+{
+    check_holds(day.check()?, holds)
 }

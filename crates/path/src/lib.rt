@@ -3,10 +3,11 @@
 
 ghost use Rattle.std.specs.Prelude.{◌≡◌, ◌+◌, ◌<◌, length};
 ghost use Rattle.assignment.specs.Rows.{el};
-ghost use Rattle.day.specs.Day.{lent, unlimited, period_row};
+ghost use Rattle.day.specs.Day.{period_row};
+ghost use Rattle.day.specs.Checked.{open_day};
 ghost use Rattle.path.specs.Path.{away, CanList, Filled, Removed, CanNear, NearestIn, CanLevel, Levelled, NextLevel, Nearer, FirstFrom, CanOffer, Offers, CanExpandSome, ExpandedAll, CanSearchSome, SearchedAll};
 
-use day::{FLIGHTS, Flight, PERIOD_ROW, flight_at, hold_cost, latest_of, of_period};
+use day::{FLIGHTS, Flight, PERIOD_ROW, ValidDay, flight_at, hold_cost, latest_of, of_period};
 
 // A distance that no chain of moves has.
 pub const FAR: usize = 4611686018427387904;
@@ -223,8 +224,7 @@ fn expand(
 // are reached again and again, until the target is as near as they are. What is equally near leaves the list, to which flights offer, at once
 // and is reached from the queue. All is far at the start; `via` names the new flight by its place.
 pub fn find_path(
-    capacities: &[u32],
-    flights: &[u32],
+    day: ValidDay,
     places: &[u32],
     links: &[usize],
     prices: &[u32],
@@ -233,13 +233,14 @@ pub fn find_path(
     n: usize,
     target: usize,
 )
-    requires { CanSearchSome (lent capacities flights unlimited) places.now links.now prices.now dist.old via.old n target }
-    ensures { SearchedAll (lent capacities.entry flights.entry unlimited) places.now links.now prices.now dist.old dist.new via.old via.new n target }
+    requires { CanSearchSome (open_day day) places.now links.now prices.now dist.old via.old n target }
+    ensures { SearchedAll (open_day day.entry) places.now links.now prices.now dist.old dist.new via.old via.new n target }
 {
     let mut list = [0u8; PERIOD_ROW];
     let mut queue = [0u8; PERIOD_ROW];
+    let flights = day.flights;
     let f = flight_at(flights, places[n] as usize);
-    let all = list_periods(capacities, &mut list, f.due as usize, target);
+    let all = list_periods(day.capacities, &mut list, f.due as usize, target);
     let o = Origin {
         who: n,
         from: 0,

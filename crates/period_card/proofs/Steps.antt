@@ -5,7 +5,7 @@ use mathlib.Core.Path.{◌≡◌, refl, sym, ap, ◌∙◌}
 use mathlib.Core.Logic.{◌⊎◌, inl, inr}
 use mathlib.Core.Bool.{Bool, true, false}
 use mathlib.Core.List.{List}
-use Prim.Native.Nat.{ℕ, suc, ◌≤◌, ◌<◌, ◌+◌, ◌-◌, ◌*◌, ◌^◌, min}
+use Prim.Native.Nat.{ℕ, suc, ◌≤◌, ◌<◌, ◌+◌, ◌-◌, ◌^◌, min}
 use native.Mathlib.Omega.{arith}
 use Rattle.std.specs.Prelude.{Option, Some, None}
 use lib.ListN.{length, take, length-take}
@@ -15,13 +15,12 @@ use borrow.Author.Tests.{lt-ltb, le-ltb, le-leb, lt-leb}
 use Rattle.assignment.specs.Sum.{gate}
 use Rattle.assignment.proofs.Sums.{sum_ext}
 use Rattle.answers.specs.declared.Refusal.TheVariants.{BadDay, JumpOrLimit, NoSuchPeriod}
-use Rattle.day.specs.Day.{Day, P, N, width, valid, most_periods, most_flights}
+use Rattle.day.specs.Day.{Day, P, N, valid, most_flights}
 use Rattle.day.specs.Plan.{first_jump_or_limit}
 use Rattle.day.proofs.Valid.{valid_means}
 use Rattle.quick_plan.specs.Quick.{eligible, rates}
 use Rattle.quick_plan.specs.Calls.{place_if}
 use Rattle.quick_plan.specs.Loop.{without_line, waiting, row_to}
-use Rattle.day.proofs.Flights.{there}
 use Rattle.quick_plan.proofs.Places.{some_place, no_place}
 use Rattle.quick_plan.proofs.Rows.{row_eligible, row_to_length}
 use Rattle.quick_plan.proofs.Same.{eligible_any}
@@ -45,11 +44,11 @@ unfolding word
 marked_start v e = record { is_valid = v; rows = e; within = omega arith; low_marks = refl; high_marks = refl }
 
 module _ {d : Day} {h : List ℕ} {j i low high : ℕ} (s : Marked d h j i low high) where
-  pub marked_there : i < length h → (i + 1) * width ≤ length d.flights
-  marked_there l = there d.flights i (omega (arith, s.rows))
+  pub marked_there : i < length h → i < N d
+  marked_there l = omega (arith, s.rows)
 
-  pub marked_small : (length h ≤ most_flights) × (P d ≤ most_periods)
-  marked_small = let v = valid_means s.is_valid in (omega (arith, s.rows, v.flights_to), v.periods_to)
+  pub marked_small : length h ≤ most_flights
+  marked_small = omega (arith, s.rows, (valid_means s.is_valid).flights_to)
 
   module _ (l : i < length h) {r : Bool} (er : r ≡ waiting d h j i) where
     pub marked_low : r ≡ true → i < 64 → {x : ℕ} → x ≡ bit_or low (2 ^ i) → Marked d h j (i + 1) x high
@@ -113,9 +112,6 @@ card_any d {j = j} l =
     )
 
 -- ---- the call
-
-pub few_flights : (d : Day) {n : ℕ} → valid d ≡ true → n ≡ N d → n ≤ most_flights
-few_flights d v size = omega (arith, (valid_means v).flights_to)
 
 module _ (d : Day) (j : ℕ) where
   pub bad_day : valid d ≡ false → period_card d j ≡ Err BadDay

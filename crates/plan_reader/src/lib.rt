@@ -4,7 +4,8 @@
 ghost use Rattle.std.specs.Prelude.{◌≡◌, ◌+◌, ◌*◌, ◌≤◌, length};
 ghost use Rattle.answers.specs.declared.Refusal.TheVariants.{BadPlanText};
 ghost use Rattle.answers.specs.Decides.{Decides};
-ghost use Rattle.day.specs.Day.{lent, most_flights, width};
+ghost use Rattle.day.specs.Day.{most_flights, width};
+ghost use Rattle.day.specs.Checked.{lent_day, day_of};
 ghost use Rattle.plan_text.specs.PlanText.{plan_names};
 ghost use Rattle.completion.specs.Loop.{Partial};
 ghost use Rattle.plan_reader.specs.PlanReading.{TextRead, ReadPlan};
@@ -12,7 +13,7 @@ ghost use Rattle.plan_reader.specs.Loop.{Shows, HoldRead, front_lines, Read, Lin
 
 use answers::Refusal;
 use completion::{all_places, most_completed, take_landing};
-use day::{FLIGHTS, PERIODS, cost_of, due_of, flight_count, is_valid, number_of};
+use day::{FLIGHTS, LentDay, PERIODS, ValidDay, cost_of, due_of, number_of};
 use legality::total_of;
 use plan_text::{PLAN_NAMES, TOTAL_NAME, plan_lines_len};
 use text::{LINE_END, Number, field_at, fixed_at, line_at};
@@ -74,25 +75,18 @@ fn hold_at(text: &[u8], at: usize, flights: &[u32], i: usize) -> Option<Number>
 
 // Reads the flights' lines behind the names line, up to the first that is wrong in itself: not a line of its flight, or with a hold that
 // is over its limit or overfills its period.
-fn read_lines(
-    capacities: &[u32],
-    flights: &[u32],
-    closing: u32,
-    text: &[u8],
-    holds: &mut [u32],
-    left: &mut [u32],
-) -> Front
-    requires { Read (lent capacities flights closing) text.now holds.old left.old 0 (length plan_names) }
-    ensures { LinesRead (lent capacities.entry flights.entry closing) text.now holds.new left.new result }
+fn read_lines(day: ValidDay, text: &[u8], holds: &mut [u32], left: &mut [u32]) -> Front
+    requires { Read (day_of day) text.now holds.old left.old 0 (length plan_names) }
+    ensures { LinesRead (day_of day.entry) text.now holds.new left.new result }
 {
-    let n = flight_count(flights);
+    let n = day.flight_count();
     let mut at = PLAN_NAMES.len();
     for i in 0..n {
-        let Some(Number { n: hold, next }) = hold_at(text, at, flights, i) else {
+        let Some(Number { n: hold, next }) = hold_at(text, at, day.flights, i) else {
             return Front { flights: i, at };
         };
         holds[i] = hold;
-        if !take_landing(capacities, flights, closing, holds, i, left) {
+        if !take_landing(day, holds, i, left) {
             return Front { flights: i, at };
         }
         at = next;
@@ -110,19 +104,12 @@ fn place_behind(flights: &[u32], holds: &[u32], m: usize) -> usize
 
 // The place of the line that is the first wrong one where the lines of i flights are right in themselves and the next is not: the one behind
 // the lines that can be completed to a legal plan, or the names line if the day has none.
-fn first_wrong(
-    capacities: &[u32],
-    flights: &[u32],
-    closing: u32,
-    holds: &[u32],
-    i: usize,
-    left: &mut [u32],
-) -> usize
-    requires { Partial (lent capacities flights closing) holds.now left.old i }
-    ensures { BehindMost (lent capacities.entry flights.entry closing) holds.now i result }
+fn first_wrong(day: ValidDay, holds: &[u32], i: usize, left: &mut [u32]) -> usize
+    requires { Partial (day_of day) holds.now left.old i }
+    ensures { BehindMost (day_of day.entry) holds.now i result }
 {
-    match most_completed(capacities, flights, closing, holds, i, left) {
-        Some(m) => place_behind(flights, holds, m),
+    match most_completed(day, holds, i, left) {
+        Some(m) => place_behind(day.flights, holds, m),
         None => 0,
     }
 }
@@ -151,75 +138,54 @@ fn read_end(flights: &[u32], text: &[u8], holds: &[u32], at: usize) -> Result<us
 
 // Reads a text into rows of ours: holds for the day's flights, and the places that they leave.
 fn read_rows(
-    capacities: &[u32],
-    flights: &[u32],
-    closing: u32,
+    day: ValidDay,
     text: &[u8],
     holds: &mut [u32],
     left: &mut [u32],
 ) -> Result<usize, WrongLine>
-    requires { Partial (lent capacities flights closing) holds.old left.old 0 }
-    ensures { RowsRead (lent capacities.entry flights.entry closing) text.now holds.new result }
+    requires { Partial (day_of day) holds.old left.old 0 }
+    ensures { RowsRead (day_of day.entry) text.now holds.new result }
 {
     if !fixed_at(text, 0, PLAN_NAMES) {
         return Err(WrongLine { line: 0 });
     }
-    let Front { flights: i, at } = read_lines(capacities, flights, closing, text, holds, left);
-    if i < flight_count(flights) {
-        let line = first_wrong(capacities, flights, closing, holds, i, left);
+    let Front { flights: i, at } = read_lines(day, text, holds, left);
+    if i < day.flight_count() {
+        let line = first_wrong(day, holds, i, left);
         return Err(WrongLine { line });
     }
-    read_end(flights, text, holds, at)
+    read_end(day.flights, text, holds, at)
 }
 
 // Reads a text into the fronts of rows that are large enough for any day, and fills the lent hold row only where all of it is right.
 fn read_in(
-    capacities: &[u32],
-    flights: &[u32],
-    closing: u32,
+    day: ValidDay,
     text: &[u8],
     holds: &mut [u32],
     row: &mut [u32],
     left: &mut [u32],
 ) -> Result<usize, Refusal>
-    requires { LargeRows (lent capacities flights closing) holds.old row.old left.old }
-    ensures { TextRead (lent capacities.entry flights.entry closing) text.now result holds.old holds.new }
+    requires { LargeRows (day_of day) holds.old row.old left.old }
+    ensures { TextRead (day_of day.entry) text.now result holds.old holds.new }
 {
     let n = holds.len();
-    let counted = all_places(capacities, closing, left);
-    let total = read_rows(
-        capacities,
-        flights,
-        closing,
-        text,
-        &mut row[..n],
-        &mut left[..counted],
-    )?;
+    let counted = all_places(day.capacities, day.closing, left);
+    let total = read_rows(day, text, &mut row[..n], &mut left[..counted])?;
     holds.copy_from_slice(&row[..n]);
     Ok(total)
 }
 
 // Fills the hold row with the legal plan whose text this is, and answers its total, for a day, a text and a row of any content and length.
 // Refusals, in this order: 6; 7; 15 with the first line with which no legal plan's text goes on. They leave the row as it was.
-pub fn read_plan(
-    capacities: &[u32],
-    flights: &[u32],
-    closing: u32,
-    text: &[u8],
-    holds: &mut [u32],
-) -> Result<usize, Refusal>
-    ensures { ReadPlan (lent capacities.entry flights.entry closing) text.now result holds.old holds.new }
+pub fn read_plan(day: LentDay, text: &[u8], holds: &mut [u32]) -> Result<usize, Refusal>
+    ensures { ReadPlan (lent_day day.entry) text.now result holds.old holds.new }
 {
-    if !is_valid(capacities, flights, closing) {
-        return Err(Refusal::BadDay);
-    }
-    let n = flight_count(flights);
+    let day = day.check()?;
+    let n = day.flight_count();
     if holds.len() != n {
         return Err(Refusal::BadLength { needed: n });
     }
     let mut row = [0u32; FLIGHTS];
     let mut left = [0u32; PERIODS + 1];
-    read_in(
-        capacities, flights, closing, text, holds, &mut row, &mut left,
-    )
+    read_in(day, text, holds, &mut row, &mut left)
 }

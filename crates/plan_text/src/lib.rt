@@ -3,11 +3,12 @@
 
 ghost use Rattle.std.specs.Prelude.{◌≡◌, [], ◌∷◌, ◌+◌, ◌*◌, ◌≤◌, ◌<◌, length};
 ghost use Rattle.text.specs.Writing.{Put, text_answer, text_after};
-ghost use Rattle.day.specs.Day.{lent, most_flights, width, number_of, due_of, flight_at, flight_count, hold_cost, hold, land_of, total_of};
+ghost use Rattle.day.specs.Day.{most_flights, width, number_of, due_of, flight_at, flight_count, hold_cost, hold, land_of, total_of};
+ghost use Rattle.day.specs.Checked.{lent_day};
 ghost use Rattle.plan_text.specs.PlanText.{plan_line, plan_lines, plan_text, plan_text_answer, plan_text_after};
 
 use answers::Refusal;
-use day::{cost_of, due_of, land_of, number_of};
+use day::{LentDay, cost_of, due_of, land_of, number_of};
 use legality::check_plan;
 use text::{LINE_END, line_len, number_len, put_fixed_at, put_line_at, put_number_at};
 
@@ -114,16 +115,14 @@ fn write_legal(
 
 // Writes the text of a plan into the buffer from the place on, for a day and rows of any content and length.
 pub fn write_plan(
-    capacities: &[u32],
-    flights: &[u32],
-    closing: u32,
+    day: LentDay,
     holds: &[u32],
     text: &mut [u8],
     place: usize,
 ) -> Result<usize, Refusal>
-    ensures value { result ≡ plan_text_answer (lent capacities.entry flights.entry closing) holds.now text.old place }
-    ensures text_after { text.new ≡ plan_text_after (lent capacities.entry flights.entry closing) holds.now text.old place }
+    ensures value { result ≡ plan_text_answer (lent_day day.entry) holds.now text.old place }
+    ensures text_after { text.new ≡ plan_text_after (lent_day day.entry) holds.now text.old place }
 {
-    let total = check_plan(capacities, flights, closing, holds)?;
-    write_legal(flights, holds, total, text, place)
+    let total = check_plan(day, holds)?;
+    write_legal(day.flights, holds, total, text, place)
 }

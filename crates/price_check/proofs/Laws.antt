@@ -12,20 +12,19 @@ use Rattle.assignment.specs.Sum.{count}
 use Rattle.assignment.proofs.Tests.{eq?, gate_eq, gate_ne}
 use Rattle.assignment.proofs.Sums.{count_suc, count_zero}
 use Rattle.day.specs.declared.Flight.{Flight}
-use Rattle.day.specs.Day.{Day, day, unlimited, N, column, flight_at, hold_cost, last_of, due, of_period, takes, counted, cost, last, hold, land_of, land, landings, valid, width}
+use Rattle.day.specs.Day.{Day, N, column, flight_at, hold_cost, last_of, due, of_period, takes, counted, cost, last, hold, land_of, land, landings, valid, width}
 use Rattle.day.specs.Plan.{Legal, Cheapest, Accepted}
 use Rattle.day.proofs.Flights.{due_read}
 use Rattle.day.proofs.Instance.{hold_le, cost_le, accepted_is_cheapest}
 use Rattle.day.specs.Instance.{last_to}
 use Rattle.day.specs.Valid.{Valid}
-use Rattle.day.proofs.Curfew.{same_window, window_same}
 use Rattle.day.proofs.Valid.{valid_means}
 use Rattle.answers.specs.declared.Refusal.{Refusal}
 use Rattle.legality.specs.Check.{plan_check}
-use Rattle.std.specs.Prelude.{Result, Ok, Err, is_ok}
+use Rattle.std.specs.Prelude.{Result, Ok, Err, is_err}
 use Rattle.legality.proofs.Found.{found_legal, found_refused}
 use Rattle.answers.specs.Decides.{Decides}
-use Rattle.answers.proofs.Decides.{true_false, say_yes, say_no}
+use Rattle.answers.proofs.Decides.{true_false, say_no}
 use Rattle.price_check.specs.Check.{Unsold, Least, Best}
 
 -- ---- counts of landings
@@ -89,10 +88,6 @@ module _ {d : Day} {h p : List ℕ} {k : ℕ} where
   unsold_not a b e some each f g less said = some (e ∙ (said k a b).free (omega (arith, all_counted d h k each f)))
 
 -- ---- least cost and price
-
--- the flight's numbers stand in its row
-pub best_place : {d : Day} {h : List ℕ} {i : ℕ} → valid d ≡ true → Legal d h → i < length h → (i + 1) * width ≤ length d.flights
-best_place good legal l = omega (arith, (valid_means good).whole, legal.each)
 
 pub record Bests (d : Day) (h p : List ℕ) (i k : ℕ) : Type 0 where
   pub good : valid d ≡ true
@@ -166,54 +161,27 @@ module _ {d : Day} {h p : List ℕ} {i k : ℕ} (s : Bests d h p i k) where
 
 -- ---- the whole check
 
-module _ (d : Day) (h p : List ℕ) where
-  abbrev pub Outcome : Bool → Type 0
-  Outcome r = Decides r ((valid d ≡ true) × Accepted d h p) × (r ≡ true → Cheapest d h)
+-- a plan that is not refused, and one that is
+pub plan_legal : {d : Day} {h : List ℕ} {found : Result ℕ Refusal} → found ≡ plan_check d h → false ≡ is_err found → Legal d h
+plan_legal {d} {h} {found = Ok t} e f = (found_legal d h (sym e)).legal
+plan_legal {found = Err a} e f = absurd (true_false (sym f))
 
-  refuse : (((valid d ≡ true) × Accepted d h p) → ⊥) → Outcome false
-  refuse n = (say_no n, λ e. absurd (true_false (sym e)))
+module _ {d : Day} {h p : List ℕ} where
+  pub no_plan_lem : {found : Result ℕ Refusal} → found ≡ plan_check d h → true ≡ is_err found → Decides false ((valid d ≡ true) × Accepted d h p)
+  no_plan_lem {found = Ok t} e f = absurd (true_false f)
+  no_plan_lem {found = Err a} e f = say_no (λ s. found_refused d h (sym e) s.0 s.1.legal)
 
-  pub no_plan_lem : (((valid d ≡ true) × Legal d h) → ⊥) → Outcome false
-  no_plan_lem n = refuse (λ s. n (s.0, s.1.legal))
-
-  pub no_length : (length p ≡ counted d → ⊥) → Outcome false
-  no_length n = refuse (λ s. n s.1.each)
-
-  pub no_unsold : (((k : ℕ) → 1 ≤ k → k ≤ counted d → Unsold d h p k) → ⊥) → Outcome false
-  no_unsold n = refuse (λ s. n (λ k a b. record { free = s.1.unsold k a b }))
-
--- how many may land in the closing period changes nothing of what a flight pays
-best_with : (c f : List ℕ) (closing : ℕ) {h p : List ℕ} {i : ℕ} → Best (day c f unlimited) h p i → Best (day c f closing) h p i
-best_with c f closing best = record { least = λ k w. best.least k (same_window c f closing unlimited (omega arith) w) }
-
-module _ (c f : List ℕ) (closing : ℕ) (h p : List ℕ) where
-  abbrev d : Day
-  d = day c f closing
-
-  pub by_best : (valid d ≡ true) × Legal d h → length p ≡ counted d → ((k : ℕ) → 1 ≤ k → k ≤ counted d → Unsold d h p k) → {r : Bool}
-      → Decides r ((i : ℕ) → i < length h → Best (day c f unlimited) h p i) → Outcome d h p r
-  by_best legal each unsold {r} best = (
-    record { yes = λ e. (legal.0, accept (best.yes e)); no = λ e s. best.no e (λ i b. refuse_with i b s.1) },
-    λ e. accepted_is_cheapest (valid_means legal.0) (accept (best.yes e)),
+  pub by_best : valid d ≡ true → Legal d h → length p ≡ counted d → ((k : ℕ) → 1 ≤ k → k ≤ counted d → Unsold d h p k) → {r : Bool}
+      → Decides r ((i : ℕ) → i < length h → Best d h p i) → Decides r ((valid d ≡ true) × Accepted d h p) × (r ≡ true → Cheapest d h)
+  by_best good legal each unsold {r} best = (
+    record { yes = λ e. (good, accept (best.yes e)); no = λ e s. best.no e (λ i b. record { least = λ k win. s.1.least i k (omega (arith, legal.each)) win }) },
+    λ e. accepted_is_cheapest (valid_means good) (accept (best.yes e)),
   )
     where
-      accept : ((i : ℕ) → i < length h → Best (day c f unlimited) h p i) → Accepted d h p
+      accept : ((i : ℕ) → i < length h → Best d h p i) → Accepted d h p
       accept all = record {
-        legal = legal.1;
+        legal = legal;
         each = each;
         unsold = λ k a b. (unsold k a b).free;
-        least = λ i k b win. (best_with c f closing (all i (omega (arith, legal.1.each)))).least k win;
+        least = λ i k b win. (all i (omega (arith, legal.each))).least k win;
       }
-
-      refuse_with : (i : ℕ) → i < length h → Accepted d h p → Best (day c f unlimited) h p i
-      refuse_with i b said = record { least = λ k win. said.least i k (omega (arith, legal.1.each)) (window_same c f closing unlimited (omega arith) win) }
-
--- ---- the check of the holds
-
-module _ (d : Day) (h : List ℕ) where
-  abbrev pub LegalDay : Bool → Type 0
-  LegalDay r = Decides r ((valid d ≡ true) × Legal d h)
-
-  pub found_decides : {found : Result ℕ Refusal} {r : Bool} → found ≡ plan_check d h → r ≡ is_ok found → LegalDay r
-  found_decides {found = Ok t} e f = let s = found_legal d h (sym e) in rw f (say_yes (s.good, s.legal))
-  found_decides {found = Err a} e f = rw f (say_no (λ s. found_refused d h (sym e) s.0 s.1))

@@ -2,14 +2,15 @@
 #![tactic(auto)]
 
 ghost use Rattle.std.specs.Prelude.{◌≡◌, true, false, ℕ, ◌*◌, ◌<◌, ◌≤◌, length};
-ghost use Rattle.day.specs.Day.{lent, unlimited, N, counted, width, land_of, valid};
+ghost use Rattle.day.specs.Day.{N, counted, width, land_of, valid};
+ghost use Rattle.day.specs.Checked.{lent_day, day_of};
 ghost use Rattle.assignment.specs.Sum.{count};
 ghost use Rattle.day.specs.Plan.{Legal, Cheapest, Accepted};
 ghost use Rattle.answers.specs.Decides.{Decides};
 ghost use Rattle.price_check.specs.Check.{Unsold, Best};
 
-use day::{capacity_of, counted_of, flight_at, hold_cost, land_of, last_of, of_period};
-use legality::check_plan;
+use day::{LentDay, ValidDay, hold_cost, land_of, last_of, of_period};
+use legality::check_holds;
 
 // How many flights land in period k.
 fn landings_of(flights: &[u32], holds: &[u32], k: usize) -> usize
@@ -26,40 +27,30 @@ fn landings_of(flights: &[u32], holds: &[u32], k: usize) -> usize
 }
 
 // Every period that is counted and isn't full has price 0.
-fn are_unsold(
-    capacities: &[u32],
-    flights: &[u32],
-    closing: u32,
-    holds: &[u32],
-    prices: &[u32],
-) -> bool
-    requires valid_day { valid (lent capacities flights closing) ≡ true }
-    requires holds_len { length holds.now ≡ N (lent capacities flights closing) }
-    ensures { Decides result ((k : ℕ) → 1 ≤ k → k ≤ counted (lent capacities.entry flights.entry closing) → Unsold (lent capacities.entry flights.entry closing) holds.now prices.now k) }
+fn are_unsold(day: ValidDay, holds: &[u32], prices: &[u32]) -> bool
+    requires { length holds.now ≡ N (day_of day) }
+    ensures { Decides result ((k : ℕ) → 1 ≤ k → k ≤ counted (day_of day.entry) → Unsold (day_of day.entry) holds.now prices.now k) }
 {
-    let last = counted_of(capacities.len(), closing);
+    let last = day.counted();
     for k in 1..=last {
-        if of_period(prices, k) != 0
-            && landings_of(flights, holds, k) < capacity_of(capacities, closing, k)
-        {
+        if of_period(prices, k) != 0 && landings_of(day.flights, holds, k) < day.capacity_of(k) {
             return false;
         }
     }
     true
 }
 
-// The flight at table place i lands where its cost and the price together are least. How many may land in the closing period does not
-// matter here: its window, its cost and the prices are the same on the day without a closing line.
-fn is_best(capacities: &[u32], flights: &[u32], holds: &[u32], prices: &[u32], i: usize) -> bool
-    requires legal_plan { (valid (lent capacities flights unlimited) ≡ true) × Legal (lent capacities flights unlimited) holds.now }
+// The flight at table place i lands where its cost and the price together are least.
+fn is_best(day: ValidDay, holds: &[u32], prices: &[u32], i: usize) -> bool
+    requires legal_plan { Legal (day_of day) holds.now }
     requires i_bound { i < length holds.now }
-    ensures { Decides result (Best (lent capacities.entry flights.entry unlimited) holds.now prices.now i) }
+    ensures { Decides result (Best (day_of day.entry) holds.now prices.now i) }
 {
-    let flight = flight_at(flights, i);
+    let flight = day.flight_at(i);
     let due = flight.due as usize;
     let hold = holds[i] as usize;
     let here = hold_cost(flight, hold) + of_period(prices, due + hold);
-    let last = last_of(capacities.len(), flight);
+    let last = last_of(day.capacities.len(), flight);
     for k in due..=last {
         if hold_cost(flight, k - due) + of_period(prices, k) < here {
             return false;
@@ -68,44 +59,34 @@ fn is_best(capacities: &[u32], flights: &[u32], holds: &[u32], prices: &[u32], i
     true
 }
 
-fn are_best(capacities: &[u32], flights: &[u32], holds: &[u32], prices: &[u32]) -> bool
-    requires { (valid (lent capacities flights unlimited) ≡ true) × Legal (lent capacities flights unlimited) holds.now }
-    ensures { Decides result ((i : ℕ) → i < length holds.now → Best (lent capacities.entry flights.entry unlimited) holds.now prices.now i) }
+fn are_best(day: ValidDay, holds: &[u32], prices: &[u32]) -> bool
+    requires { Legal (day_of day) holds.now }
+    ensures { Decides result ((i : ℕ) → i < length holds.now → Best (day_of day.entry) holds.now prices.now i) }
 {
     for i in 0..holds.len() {
-        if !is_best(capacities, flights, holds, prices, i) {
+        if !is_best(day, holds, prices, i) {
             return false;
         }
     }
     true
 }
 
-// The holds are legal for a valid day.
-fn is_legal(capacities: &[u32], flights: &[u32], closing: u32, holds: &[u32]) -> bool
-    ensures { Decides result ((valid (lent capacities.entry flights.entry closing) ≡ true) × Legal (lent capacities.entry flights.entry closing) holds.now) }
-{
-    check_plan(capacities, flights, closing, holds).is_ok()
-}
-
 // Yes exactly if the day is valid and the prices are accepted. A yes means that no legal plan is cheaper.
-pub fn price_check(
-    capacities: &[u32],
-    flights: &[u32],
-    closing: u32,
-    holds: &[u32],
-    prices: &[u32],
-) -> bool
-    ensures exact { Decides result ((valid (lent capacities.entry flights.entry closing) ≡ true) × Accepted (lent capacities.entry flights.entry closing) holds.now prices.now) }
-    ensures cheapest { result ≡ true → Cheapest (lent capacities.entry flights.entry closing) holds.now }
+pub fn price_check(day: LentDay, holds: &[u32], prices: &[u32]) -> bool
+    ensures exact { Decides result ((valid (lent_day day.entry) ≡ true) × Accepted (lent_day day.entry) holds.now prices.now) }
+    ensures cheapest { result ≡ true → Cheapest (lent_day day.entry) holds.now }
 {
-    if !is_legal(capacities, flights, closing, holds) {
+    let Ok(day) = day.check() else {
+        return false;
+    };
+    if check_holds(day, holds).is_err() {
         return false;
     }
-    if prices.len() != counted_of(capacities.len(), closing) {
+    if prices.len() != day.counted() {
         return false;
     }
-    if !are_unsold(capacities, flights, closing, holds, prices) {
+    if !are_unsold(day, holds, prices) {
         return false;
     }
-    are_best(capacities, flights, holds, prices)
+    are_best(day, holds, prices)
 }

@@ -3,12 +3,14 @@
 
 ghost use Rattle.std.specs.Prelude.{◌≡◌, true, ◌+◌, ◌*◌, ◌≤◌, length, take};
 ghost use Rattle.day.specs.Day.{lent, day, width, counted, N, valid};
+ghost use Rattle.day.specs.Checked.{lent_day};
 ghost use Rattle.day.specs.Plan.{Legal};
 ghost use Rattle.plan_text.specs.PlanText.{plan_text};
 ghost use Rattle.program.specs.Program.{Front, refusal_of, PrintsDay, InRows, Prints, Answered};
 
 use answers::{Code, Refusal};
-use day::{FLIGHT_ROW, FLIGHTS, PERIODS, WIDTH, counted_of};
+use day::{FLIGHT_ROW, FLIGHTS, LentDay, PERIODS, WIDTH, counted_of};
+use sheet::SheetRead;
 
 // Every answer fits this many bytes.
 const ROOM: usize = 4096;
@@ -29,60 +31,40 @@ fn put_refusal(refusal: Refusal, text: &mut [u8]) -> usize
 }
 
 // The text of a legal plan, at the front of the text; how many bytes.
-fn put_plan(
-    capacities: &[u32],
-    flights: &[u32],
-    closing: u32,
-    holds: &[u32],
-    text: &mut [u8],
-) -> usize
-    requires { (valid (lent capacities flights closing) ≡ true) × Legal (lent capacities flights closing) holds.now × (4096 ≤ length text.old) }
-    ensures { Front text.new result (plan_text flights.now holds.now) }
+fn put_plan(day: LentDay, holds: &[u32], text: &mut [u8]) -> usize
+    requires { (valid (lent_day day) ≡ true) × Legal (lent_day day) holds.now × (4096 ≤ length text.old) }
+    ensures { Front text.new result (plan_text day.entry.flights.now holds.now) }
 {
-    plan_text::write_plan(capacities, flights, closing, holds, text, 0).unwrap()
+    plan_text::write_plan(day, holds, text, 0).unwrap()
 }
 
-// The full plan of a valid day, or the stretch that leaves none, at the front of the text; how many bytes.
-fn plan_day(
-    capacities: &[u32],
-    flights: &[u32],
-    closing: u32,
-    holds: &mut [u32],
-    prices: &mut [u32],
-    text: &mut [u8],
-) -> usize
-    requires { (valid (lent capacities flights closing) ≡ true) × (length holds.old ≡ N (lent capacities flights closing)) × (length prices.old ≡ counted (lent capacities flights closing)) × (4096 ≤ length text.old) }
-    ensures { (result ≤ length text.new) × PrintsDay (lent capacities.entry flights.entry closing) (take result text.new) }
+// The full plan of a valid day, or the stretch that leaves none, at the front of the text; how many bytes. Kept: a lent day and a clause,
+// since the two calls below take a day before its check.
+fn plan_day(day: LentDay, holds: &mut [u32], prices: &mut [u32], text: &mut [u8]) -> usize
+    requires { (valid (lent_day day) ≡ true) × (length holds.old ≡ N (lent_day day)) × (length prices.old ≡ counted (lent_day day)) × (4096 ≤ length text.old) }
+    ensures { (result ≤ length text.new) × PrintsDay (lent_day day.entry) (take result text.new) }
 {
-    match full_plan::full_plan(capacities, flights, closing, holds, prices) {
-        Ok(_) => put_plan(capacities, flights, closing, holds, text),
+    match full_plan::full_plan(day, holds, prices) {
+        Ok(_) => put_plan(day, holds, text),
         Err(refusal) => put_refusal(refusal, text),
     }
 }
 
-// The same for a day that stands at the front of two rows, with a hold row and a price row of its own.
-fn plan_rows(
-    capacities: &[u32],
-    flights: &[u32],
-    closing: u32,
-    periods: usize,
-    count: usize,
-    text: &mut [u8],
-) -> usize
-    requires { InRows periods count closing capacities.now flights.now × (4096 ≤ length text.old) }
-    ensures { (result ≤ length text.new) × PrintsDay (day (take periods capacities.now) (take (count * width) flights.now) closing) (take result text.new) }
+// The same for a sheet's day that was read into the front of two rows, with a hold row and a price row of its own. Kept: two
+// rows, since they are longer than the day.
+fn plan_rows(read: SheetRead, capacities: &[u32], flights: &[u32], text: &mut [u8]) -> usize
+    requires { InRows read.periods read.flights read.closing capacities.now flights.now × (4096 ≤ length text.old) }
+    ensures { (result ≤ length text.new) × PrintsDay (day (take read.periods capacities.now) (take (read.flights * width) flights.now) read.closing) (take result text.new) }
 {
+    let day = LentDay {
+        capacities: &capacities[..read.periods],
+        flights: &flights[..read.flights * WIDTH],
+        closing: read.closing,
+    };
     let mut holds = [0; FLIGHTS];
     let mut prices = [0; PRICES];
-    let priced = counted_of(periods, closing);
-    plan_day(
-        &capacities[..periods],
-        &flights[..count * WIDTH],
-        closing,
-        &mut holds[..count],
-        &mut prices[..priced],
-        text,
-    )
+    let priced = counted_of(read.periods, read.closing);
+    plan_day(day, &mut holds[..read.flights], &mut prices[..priced], text)
 }
 
 // The answer to a sheet, at the front of the text; how many bytes.
@@ -93,14 +75,7 @@ fn answer_sheet(sheet: &[u8], text: &mut [u8]) -> usize
     let mut capacities = [0; PERIODS];
     let mut flights = [0; FLIGHT_ROW];
     match sheet_reader::read_sheet(sheet, &mut capacities, &mut flights) {
-        Ok(read) => plan_rows(
-            &capacities,
-            &flights,
-            read.closing,
-            read.periods,
-            read.flights,
-            text,
-        ),
+        Ok(read) => plan_rows(read, &capacities, &flights, text),
         Err(refusal) => put_refusal(refusal, text),
     }
 }

@@ -28,23 +28,23 @@ use Rattle.quick_plan.proofs.Closing.{found_short, none_short}
 -- ---- the check
 
 module _ (d : Day) (h : List ℕ) where
-  pub bad_day : valid d ≡ false → Err BadDay ≡ quick_check d h
+  pub bad_day : valid d ≡ false → quick_check d h ≡ Err BadDay
   unfolding quick_check
   bad_day e = rw e
 
   module _ (v : valid d ≡ true) {n : ℕ} (size : n ≡ N d) where
-    pub bad_length : length h ≢ n → Err (BadLength n) ≡ quick_check d h
+    pub bad_length : length h ≢ n → quick_check d h ≡ Err (BadLength n)
     unfolding quick_check
     bad_length o = rw (v, size, ne_eqb (length h) (N d) (λ e. o (e ∙ sym size)))
 
     module _ (each : length h ≡ n) {found : Option ℕ} (e : found ≡ place_if (N d) (first_jump_or_limit d.flights)) where
-      pub jump_or_limit_lem : {place : ℕ} → found ≡ Some place → Err (JumpOrLimit place) ≡ quick_check d h
+      pub jump_or_limit_lem : {place : ℕ} → found ≡ Some place → quick_check d h ≡ Err (JumpOrLimit place)
       unfolding quick_check
       jump_or_limit_lem q =
           let w = some_place (sym e ∙ q) in
           rw (v, w.0, eq-eqb (length h) (N d) (each ∙ size), lt-ltb (first_jump_or_limit d.flights) (N d) w.1)
 
-      pub applies : found ≡ None → Ok tt ≡ quick_check d h
+      pub applies : found ≡ None → quick_check d h ≡ Ok tt
       unfolding quick_check
       applies q = rw (v, eq-eqb (length h) (N d) (each ∙ size), le-ltb (first_jump_or_limit d.flights) (N d) (no_place (sym e ∙ q)))
 
@@ -98,17 +98,21 @@ module _ (d : Day) where
   pub made_quick : (next : ℕ → ℕ → ℕ) → valid d ≡ true → {x : List ℕ} → x ≡ row_to (without_line d) next (P d) → x ≡ quick_by d next
   made_quick next good made = made ∙ row_to_quick (without_line d) next (valid_rows d good) ∙ any_closing d next
 
-  module _ (h : List ℕ) (e : quick_check d h ≡ Ok tt) where
+  -- the day that passed the check is the day that was lent
+  module _ (h : List ℕ) (e : quick_check d h ≡ Ok tt) {checked : Day} (same : checked ≡ d) where
+    pub can_fill : length h ≡ N checked
+    can_fill = rw same (can_plan d h e).each
+
     abbrev plan : Outcome
     plan = outcome (Ok (total d (quick d))) (quick d)
 
-    pub no_plan_lem : {a b : ℕ} → Picked d a b → quick_plan d h ≡ outcome (Err (NoPlan a b)) h
+    pub no_plan_lem : {a b : ℕ} → Picked checked a b → quick_plan d h ≡ outcome (Err (NoPlan a b)) h
     unfolding quick_plan
-    no_plan_lem p = rw e (let can = can_plan d h e in found_short d can.good can.plain (rates d) h plan p)
+    no_plan_lem p = rw e (let can = can_plan d h e in found_short d can.good can.plain (rates d) h plan (rw same at p))
 
-    pub planned : ((a b : ℕ) → Short d a b → ⊥) → {x : List ℕ} {t : ℕ} → x ≡ row_to (without_line d) (rates d) (P d) → t ≡ total d x
+    pub planned : ((a b : ℕ) → Short checked a b → ⊥) → {x : List ℕ} {t : ℕ} → x ≡ row_to (without_line checked) (rates checked) (P checked) → t ≡ total checked x
         → quick_plan d h ≡ outcome (Ok t) x
     unfolding quick_plan
     planned none made q =
         let can = can_plan d h e in
-        rw (e, q, made_quick (rates d) can.good made) (none_short d can.good can.plain (rates d) h plan none)
+        rw (e, rw same at q, made_quick (rates d) can.good (rw same at made)) (none_short d can.good can.plain (rates d) h plan (rw same at none))

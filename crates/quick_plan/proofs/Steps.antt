@@ -70,11 +70,8 @@ pub best_there : {d : Day} {costs : ℕ → ℕ} {h : List ℕ} {j i : ℕ} {w :
 best_there {d} {w = w} s = there d.flights w.place s.is_best.2
 
 module _ {d : Day} {costs : ℕ → ℕ} {h : List ℕ} {j i : ℕ} {best : Option Waiting} (s : Scan d costs h j i best) where
-  pub scan_periods : P d ≤ most_periods
-  scan_periods = (valid_means s.is_valid).periods_to
-
   module _ (l : i < length h) where
-    in_row : i < N d
+    pub in_row : i < N d
     in_row = omega (arith, s.rows)
 
     pub scan_there : (i + 1) * width ≤ length d.flights
@@ -177,10 +174,10 @@ module _ {d : Day} {costs : ℕ → ℕ} {j m left : ℕ} {h₀ h : List ℕ} (s
     at_top = let w = some_place found in (w.0, λ q. omega (arith, w.1, s.same_length, s.rows))
 
     -- the flight found is one of the row, and due by now
-    pub landing_flight : (i < length h) × ((i + 1) * width ≤ length d.flights) × (due d i ≤ j)
+    pub landing_flight : (i < length h) × (i < N d) × (due d i ≤ j)
     landing_flight =
         let w = top_lands d costs h j at_top.0 (λ e. at_top.1 (sym at_top.0 ∙ e)) in
-        (omega (arith, w.0, s.same_length, s.rows), there d.flights i w.0, w.1)
+        (omega (arith, w.0, s.same_length, s.rows), w.0, w.1)
 
     pub landing_more : {from after : ℕ} → from ≡ due d i → suc after ≡ left → Landing d costs j m h₀ after (set h i (j - from))
     landing_more {after = after} ed up = record {
@@ -217,11 +214,8 @@ module _ {d : Day} {h₀ h : List ℕ} {i : ℕ} (s : Started d h₀ h i) where
   pub started_periods : P d ≤ 96
   started_periods = (valid_means s.is_valid).periods_to
 
-  pub started_there : i < length h → (i + 1) * width ≤ length d.flights
-  started_there l = there d.flights i (omega (arith, s.same_length, s.rows))
-
-  pub started_due : {from : ℕ} → i < length h → from ≡ due d i → from ≤ P d + 1
-  started_due l e = omega (arith, ((valid_means s.is_valid).flight i (omega (arith, s.same_length, s.rows))).due_to)
+  pub started_there : i < length h → i < N d
+  started_there l = omega (arith, s.same_length, s.rows)
 
   pub started_more : {from : ℕ} → i < length h → from ≡ due d i → Started d h₀ (set h i (P d + 1 - from)) (i + 1)
   unfolding row

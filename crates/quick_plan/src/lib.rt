@@ -2,18 +2,21 @@
 // would cost most. A hold row starts with every flight at the closing period, so that a flight that stands there has yet to land.
 #![tactic(auto)]
 
-ghost use Rattle.std.specs.Prelude.{◌≡◌, true, ◌+◌, ◌*◌, ◌<◌, ◌≤◌, length};
+ghost use Rattle.std.specs.Prelude.{◌≡◌, true, ◌+◌, ◌*◌, ◌<◌, ◌≤◌, length, MatchResult, Ok, Err};
 ghost use Rattle.assignment.specs.Rows.{row};
-ghost use Rattle.day.specs.Day.{lent, N, most_periods, width, flight_count, capacity, valid};
+ghost use Rattle.day.specs.Day.{N, P, width, flight_count, capacity};
+ghost use Rattle.day.specs.Checked.{lent_day, day_of};
 ghost use Rattle.day.specs.Plan.{jump_or_limit, first_jump_or_limit};
 ghost use Rattle.growth.specs.Growth.{HoldsFactors};
 ghost use Rattle.quick_plan.specs.NextCost.{next_cost, fits};
 ghost use Rattle.quick_plan.specs.Quick.{before};
-ghost use Rattle.quick_plan.specs.Loop.{lent_rows, DueBy, at_closing, waiting, top, land_all, row_to};
+ghost use Rattle.quick_plan.specs.Loop.{without_line, DueBy, at_closing, waiting, top, land_all, row_to};
 ghost use Rattle.quick_plan.specs.Calls.{place_if, quick_check, quick_plan};
 
 use answers::Refusal;
-use day::{Flight, MISSING, due_of, flight_at, flight_count, is_valid, of_period, rate_of};
+use day::{
+    Flight, LentDay, MISSING, ValidDay, due_of, flight_at, flight_count, of_period, rate_of,
+};
 use growth::{FactorTable, factor_table, further_cost};
 use legality::total_of;
 use stretch::{Stretch, find_short};
@@ -59,33 +62,32 @@ fn goes_before(flights: &[u32], one: Waiting, other: Waiting) -> bool
 
 // Flight i is due by period j, and stands at the closing period yet.
 #[tactic(auto, unfolding(crate::specs::Loop::waiting))]
-pub fn is_waiting(capacities: &[u32], flights: &[u32], holds: &[u32], j: usize, i: usize) -> bool
-    requires { ((i + 1) * width ≤ length flights.now) × (i < length holds.now) × (length capacities.now ≤ most_periods) }
-    ensures { result ≡ waiting (lent_rows capacities.entry flights.entry) holds.now j i }
+pub fn is_waiting(day: ValidDay, holds: &[u32], j: usize, i: usize) -> bool
+    requires { (i < N (day_of day)) × (i < length holds.now) }
+    ensures { result ≡ waiting (without_line (day_of day.entry)) holds.now j i }
 {
-    let due = due_of(flights, i);
-    due <= j && due + holds[i] as usize == capacities.len() + 1
+    let due = day.due_of(i);
+    due <= j && due + holds[i] as usize == day.capacities.len() + 1
 }
 
 // The flight that goes first of those that wait in period j. The next cost of the best one so far is kept, so that each is worked out once.
 fn first_waiting(
     next: NextCost,
     factors: &FactorTable,
-    capacities: &[u32],
-    flights: &[u32],
+    day: ValidDay,
     holds: &[u32],
     j: usize,
 ) -> Option<usize>
-    requires { (valid (lent_rows capacities flights) ≡ true) × (length holds.now ≡ N (lent_rows capacities flights)) × HoldsFactors factors.now × (fits next j ≡ true) }
-    ensures { result ≡ place_if (length holds.now) (top (lent_rows capacities.entry flights.entry) (next_cost next flights.now j) j holds.now) }
+    requires { (length holds.now ≡ N (day_of day)) × HoldsFactors factors.now × (fits next j ≡ true) }
+    ensures { result ≡ place_if (length holds.now) (top (without_line (day_of day.entry)) (next_cost next day.entry.flights.now j) j holds.now) }
 {
     let mut best: Option<Waiting> = None;
     for place in 0..holds.len() {
-        if is_waiting(capacities, flights, holds, j, place) {
-            let cost = next_cost(next, factors, flights, j, place);
+        if is_waiting(day, holds, j, place) {
+            let cost = next_cost(next, factors, day.flights, j, place);
             let one = Waiting { place, cost };
             match best {
-                Some(other) if !goes_before(flights, one, other) => {}
+                Some(other) if !goes_before(day.flights, one, other) => {}
                 _ => best = Some(one),
             }
         }
@@ -94,45 +96,37 @@ fn first_waiting(
 }
 
 // Lands as many flights as period j takes, or all that wait.
-fn land_period(
-    next: NextCost,
-    factors: &FactorTable,
-    capacities: &[u32],
-    flights: &[u32],
-    holds: &mut [u32],
-    j: usize,
-)
-    requires { (valid (lent_rows capacities flights) ≡ true) × (length holds.old ≡ N (lent_rows capacities flights)) × HoldsFactors factors.now × (fits next j ≡ true) × (j ≤ length capacities.now) }
-    ensures { holds.new ≡ land_all (lent_rows capacities.entry flights.entry) (next_cost next flights.now j) j (capacity (lent_rows capacities.entry flights.entry) j) holds.old }
+fn land_period(next: NextCost, factors: &FactorTable, day: ValidDay, holds: &mut [u32], j: usize)
+    requires { (length holds.old ≡ N (day_of day)) × HoldsFactors factors.now × (fits next j ≡ true) × (j ≤ P (day_of day)) }
+    ensures { holds.new ≡ land_all (without_line (day_of day.entry)) (next_cost next day.entry.flights.now j) j (capacity (day_of day.entry) j) holds.old }
 {
-    for _ in 0..of_period(capacities, j) {
-        let Some(i) = first_waiting(next, factors, capacities, flights, holds, j) else {
+    for _ in 0..of_period(day.capacities, j) {
+        let Some(i) = first_waiting(next, factors, day, holds, j) else {
             return;
         };
-        holds[i] = (j - due_of(flights, i)) as u32;
+        holds[i] = (j - day.due_of(i)) as u32;
     }
 }
 
 // Every flight at the closing period.
-fn start_row(capacities: &[u32], flights: &[u32], holds: &mut [u32])
-    requires { (valid (lent_rows capacities flights) ≡ true) × (length holds.old ≡ N (lent_rows capacities flights)) }
-    ensures { holds.new ≡ row (N (lent_rows capacities.entry flights.entry)) (at_closing (lent_rows capacities.entry flights.entry)) }
+fn start_row(day: ValidDay, holds: &mut [u32])
+    requires { length holds.old ≡ N (day_of day) }
+    ensures { holds.new ≡ row (N (day_of day.entry)) (at_closing (day_of day.entry)) }
 {
     for (i, hold) in holds.iter_mut().enumerate() {
-        *hold = (capacities.len() + 1 - due_of(flights, i)) as u32;
+        *hold = (day.capacities.len() + 1 - day.due_of(i)) as u32;
     }
 }
 
 // The row after the periods 1 to stop.
-pub fn plan_to(next: NextCost, capacities: &[u32], flights: &[u32], holds: &mut [u32], stop: usize)
-    requires valid_day { (valid (lent_rows capacities flights) ≡ true) × (length holds.old ≡ N (lent_rows capacities flights)) }
-    requires within { (fits next (length capacities.now) ≡ true) × (stop ≤ length capacities.now) }
-    ensures { holds.new ≡ row_to (lent_rows capacities.entry flights.entry) (next_cost next flights.now) stop }
+pub fn plan_to(next: NextCost, day: ValidDay, holds: &mut [u32], stop: usize)
+    requires { (length holds.old ≡ N (day_of day)) × (fits next (P (day_of day)) ≡ true) × (stop ≤ P (day_of day)) }
+    ensures { holds.new ≡ row_to (without_line (day_of day.entry)) (next_cost next day.entry.flights.now) stop }
 {
     let factors = factor_table();
-    start_row(capacities, flights, holds);
+    start_row(day, holds);
     for j in 1..=stop {
-        land_period(next, &factors, capacities, flights, holds, j);
+        land_period(next, &factors, day, holds, j);
     }
 }
 
@@ -151,44 +145,32 @@ pub fn first_jump_or_limit(flights: &[u32]) -> Option<usize>
     (0..flight_count(flights)).find(|&place| has_jump_or_limit(flight_at(flights, place)))
 }
 
-// What every quick plan tests first. Refusals, in this order: 6, a bad day; 7, a row that has not one entry for each flight; 8, the first
-// flight with a jump or a limit.
-pub fn check_quick(
-    capacities: &[u32],
-    flights: &[u32],
-    closing: u32,
-    holds: &[u32],
-) -> Result<(), Refusal>
-    ensures { result ≡ quick_check (lent capacities.entry flights.entry closing) holds.now }
+// What every quick plan tests first; the valid day. Refusals, in this order: 6, a bad day; 7, a row that has not one entry for each flight; 8,
+// the first flight with a jump or a limit.
+pub fn check_quick<'a>(day: LentDay<'a>, holds: &[u32]) -> Result<ValidDay<'a>, Refusal>
+    ensures { MatchResult result (λ valid. (day_of valid ≡ lent_day day.entry) × (quick_check (lent_day day.entry) holds.now ≡ Ok tt)) (λ refusal. quick_check (lent_day day.entry) holds.now ≡ Err refusal) }
 {
-    if !is_valid(capacities, flights, closing) {
-        return Err(Refusal::BadDay);
-    }
-    let needed = flight_count(flights);
+    let day = day.check()?;
+    let needed = day.flight_count();
     if holds.len() != needed {
         return Err(Refusal::BadLength { needed });
     }
-    match first_jump_or_limit(flights) {
+    match first_jump_or_limit(day.flights) {
         Some(place) => Err(Refusal::JumpOrLimit { place }),
-        None => Ok(()),
+        None => Ok(day),
     }
 }
 
 // Fills the hold row with the quick plan and answers its total; or refuses, and leaves the row as it was. The plan leaves more flights than
 // the closing period takes exactly where a stretch is short: then 9 is answered before anything is stored.
-pub fn quick_plan(
-    capacities: &[u32],
-    flights: &[u32],
-    closing: u32,
-    holds: &mut [u32],
-) -> Result<usize, Refusal>
-    ensures value { result ≡ (quick_plan (lent capacities.entry flights.entry closing) holds.old).answer }
-    ensures holds_after { holds.new ≡ (quick_plan (lent capacities.entry flights.entry closing) holds.old).holds }
+pub fn quick_plan(day: LentDay, holds: &mut [u32]) -> Result<usize, Refusal>
+    ensures value { result ≡ (quick_plan (lent_day day.entry) holds.old).answer }
+    ensures holds_after { holds.new ≡ (quick_plan (lent_day day.entry) holds.old).holds }
 {
-    check_quick(capacities, flights, closing, holds)?;
-    if let Some(Stretch { first, last }) = find_short(capacities, flights, closing) {
+    let day = check_quick(day, holds)?;
+    if let Some(Stretch { first, last }) = find_short(day) {
         return Err(Refusal::NoPlan { first, last });
     }
-    plan_to(NextCost::Rate, capacities, flights, holds, capacities.len());
-    Ok(total_of(flights, holds))
+    plan_to(NextCost::Rate, day, holds, day.capacities.len());
+    Ok(total_of(day.flights, holds))
 }

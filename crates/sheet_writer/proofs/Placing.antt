@@ -99,21 +99,27 @@ length_sheet : (caps : List ℕ) (fs : List Flight) (k : ℕ)
 unfolding sheet_text
 length_sheet caps fs k = simp length-append (omega (arith, length_top, length_names))
 
-pub sheet_room : (caps : List ℕ) (fs : List Flight) (k : ℕ) {m : ℕ} → length (sheet_text caps fs k) ≤ m
-    → length period_names + length (periods_text 1 caps) + length (closing_text k) + length flight_names + length (flights_text fs) ≤ m
-sheet_room caps fs k h = omega (arith, length_sheet caps fs k, length_top, length_names)
+-- the parts of a day's sheet
+module _ (d : Day) where
+  pub length_parts : length (sheet_of d) ≡ length (periods_text 1 d.capacities) + length (flights_text (first_flights (N d) d.flights)) + length (closing_text d.closing) + 54
+  unfolding sheet_of flights_of
+  length_parts = length_sheet d.capacities (first_flights (N d) d.flights) d.closing
 
-pub sheet_put : {o o1 o2 o3 o4 o5 : List ℕ} {a1 a2 a3 a4 a5 : ℕ} (caps : List ℕ) (fs : List Flight) (k : ℕ) → length (sheet_text caps fs k) ≤ length o
-    → Put o 0 period_names a1 o1 → Put o1 a1 (periods_text 1 caps) a2 o2 → Put o2 a2 (closing_text k) a3 o3 → Put o3 a3 flight_names a4 o4
-    → Put o4 a4 (flights_text fs) a5 o5 → Put o 0 (sheet_text caps fs k) a5 o5
-unfolding sheet_text
-sheet_put {o} caps fs k h d1 e2 e3 e4 e5 =
-    let g = sheet_room caps fs k h in
-    let d2 = then (omega arith) d1 e2 in
-    let d3 = then (simp length-append (omega arith)) d2 e3 in
-    let d4 = then (simp length-append (omega arith)) d3 e4 in
-    let d5 = then (simp length-append (omega arith)) d4 e5 in
-    simp append_assoc at d5
+  pub sheet_room : {m : ℕ} → length (sheet_of d) ≤ m
+      → length period_names + length (periods_text 1 d.capacities) + length (closing_text d.closing) + length flight_names + length (flights_text (first_flights (N d) d.flights)) ≤ m
+  sheet_room h = omega (arith, length_parts, length_top, length_names)
+
+  pub sheet_put : {o o1 o2 o3 o4 o5 : List ℕ} {a1 a2 a3 a4 a5 : ℕ} → length (sheet_of d) ≤ length o
+      → Put o 0 period_names a1 o1 → Put o1 a1 (periods_text 1 d.capacities) a2 o2 → Put o2 a2 (closing_text d.closing) a3 o3 → Put o3 a3 flight_names a4 o4
+      → Put o4 a4 (flights_text (first_flights (N d) d.flights)) a5 o5 → Put o 0 (sheet_of d) a5 o5
+  unfolding sheet_text sheet_of flights_of
+  sheet_put {o} h d1 e2 e3 e4 e5 =
+      let g = sheet_room h in
+      let d2 = then (omega arith) d1 e2 in
+      let d3 = then (simp length-append (omega arith)) d2 e3 in
+      let d4 = then (simp length-append (omega arith)) d3 e4 in
+      let d5 = then (simp length-append (omega arith)) d4 e5 in
+      simp append_assoc at d5
 
 -- the outcomes of the call
 module _ (d : Day) (buffer : List ℕ) (place : ℕ) where
@@ -126,19 +132,7 @@ module _ (d : Day) (buffer : List ℕ) (place : ℕ) where
     unfolding write_answer write_after
     too_short e h = rw (v, e) (not_fits buffer (sheet_of d) place (rw e at h))
 
-    pub all_written : {k r : ℕ} {t out : List ℕ} → t ≡ sheet_of d → k ≡ length t → place + k ≤ length buffer → Put buffer place t r out
+    pub all_written : {k r : ℕ} {out : List ℕ} → k ≡ length (sheet_of d) → place + k ≤ length buffer → Put buffer place (sheet_of d) r out
         → (Ok k ≡ write_answer d buffer place) × (out ≡ write_after d buffer place)
     unfolding write_answer write_after
-    all_written {k = k} q e h p =
-        let z : k ≡ length (sheet_of d) = e ∙ ap length q in
-        rw (v, z) (it_fits buffer (sheet_of d) place (rw z at h) (rw q at p))
-
--- what the writer's lines sum up to
-pub needed_is : (d : Day) {p f k : ℕ} → p ≡ length (periods_text 1 d.capacities) → f ≡ length (flights_text (first_flights (N d) d.flights))
-    → k ≡ length (closing_text d.closing) → p + f + k + 54 ≡ length (sheet_of d)
-unfolding sheet_of flights_of
-needed_is d e g h = omega (arith, length_sheet d.capacities (first_flights (N d) d.flights) d.closing, e, g, h)
-
-pub text_of : (d : Day) (n : ℕ) → n ≡ N d → sheet_text d.capacities (first_flights n d.flights) d.closing ≡ sheet_of d
-unfolding sheet_of flights_of
-text_of d n e = rw e
+    all_written e h p = rw (v, e) (it_fits buffer (sheet_of d) place (rw e at h) p)

@@ -3,13 +3,14 @@
 
 ghost use Rattle.std.specs.Prelude.{◌≡◌, ◌+◌, ◌*◌, ◌≤◌, length};
 ghost use Rattle.text.specs.Writing.{Put};
-ghost use Rattle.day.specs.Day.{lent, has_line, width, most_periods, most_flights};
+ghost use Rattle.day.specs.Day.{has_line, width, most_periods, most_flights};
+ghost use Rattle.day.specs.Checked.{lent_day, day_of};
 ghost use Rattle.day.specs.Flights.{first_flights};
-ghost use Rattle.sheet.specs.Text.{closing_text, limit_text, period_text, before_limit, flight_text, periods_text, flights_text, sheet_text};
+ghost use Rattle.sheet.specs.Text.{closing_text, limit_text, period_text, before_limit, flight_text, periods_text, flights_text, sheet_of};
 ghost use Rattle.sheet_writer.specs.Write.{write_answer, write_after};
 
 use answers::Refusal;
-use day::{Flight, MISSING, UNLIMITED, flight_at, flight_count, is_valid};
+use day::{Flight, LentDay, MISSING, UNLIMITED, ValidDay, flight_at};
 use sheet::{CLOSING_NAME, DASH, FLIGHT_NAMES, PERIOD_NAMES};
 use text::{
     COMMA, LINE_END, line_len, number_len, put_fixed_at, put_line_at, put_number_at,
@@ -159,39 +160,36 @@ fn closing_len(closing: u32) -> usize
 }
 
 // The whole sheet, at the front of out.
-fn fill_sheet(out: &mut [u8], capacities: &[u32], flights: &[u32], n: usize, closing: u32) -> usize
-    requires { (length (sheet_text capacities.now (first_flights n flights.now) closing) ≤ length out.old) × (length capacities.now ≤ most_periods) × (n ≤ most_flights) × (n * width ≤ length flights.now) }
-    ensures { Put out.old 0 (sheet_text capacities.now (first_flights n flights.now) closing) result out.new }
+fn fill_sheet(out: &mut [u8], day: ValidDay) -> usize
+    requires { length (sheet_of (day_of day)) ≤ length out.old }
+    ensures { Put out.old 0 (sheet_of (day_of day.entry)) result out.new }
 {
+    let n = day.flight_count();
     let a = put_fixed_at(out, 0, PERIOD_NAMES);
-    let b = put_periods(out, a, capacities);
-    let c = put_closing(out, b, closing);
+    let b = put_periods(out, a, day.capacities);
+    let c = put_closing(out, b, day.closing);
     let d = put_fixed_at(out, c, FLIGHT_NAMES);
-    put_flights(out, d, flights, n)
+    put_flights(out, d, day.flights, n)
+}
+
+// How many bytes the sheet takes.
+fn sheet_len(day: ValidDay) -> usize
+    ensures { result ≡ length (sheet_of (day_of day.entry)) }
+{
+    let n = day.flight_count();
+    periods_len(day.capacities) + flights_len(day.flights, n) + closing_len(day.closing) + NAMES_LEN
 }
 
 // Writes the sheet of a day into the buffer from the place on. The line writers get the part of it that starts there.
-pub fn write_sheet(
-    capacities: &[u32],
-    flights: &[u32],
-    closing: u32,
-    text: &mut [u8],
-    place: usize,
-) -> Result<usize, Refusal>
-    ensures value { result ≡ write_answer (lent capacities.entry flights.entry closing) text.old place }
-    ensures text_after { text.new ≡ write_after (lent capacities.entry flights.entry closing) text.old place }
+pub fn write_sheet(day: LentDay, text: &mut [u8], place: usize) -> Result<usize, Refusal>
+    ensures value { result ≡ write_answer (lent_day day.entry) text.old place }
+    ensures text_after { text.new ≡ write_after (lent_day day.entry) text.old place }
 {
-    if !is_valid(capacities, flights, closing) {
-        return Err(Refusal::BadDay);
-    }
-    let n = flight_count(flights);
-    let needed = periods_len(capacities)
-        + flights_len(flights, n)
-        + closing_len(closing)
-        + NAMES_LEN;
+    let day = day.check()?;
+    let needed = sheet_len(day);
     if text.len() < place || text.len() - place < needed {
         return Err(Refusal::BadLength { needed });
     }
-    fill_sheet(&mut text[place..], capacities, flights, n, closing);
+    fill_sheet(&mut text[place..], day);
     Ok(needed)
 }

@@ -7,7 +7,8 @@ use lib.ListN.{length-take}
 use Rattle.std.specs.Prelude.{Option, Some, None}
 use Rattle.std.specs.Option.{is_some}
 use Rattle.answers.specs.Decides.{Decides}
-use Rattle.day.specs.Day.{Day, valid}
+use Rattle.day.specs.Checked.{day_of}
+use Rattle.day.specs.Day.{Day, P, valid}
 use Rattle.day.specs.Plan.{HasPlan}
 use Rattle.day.proofs.Costs.{counted_from}
 use Rattle.stretch.specs.declared.Stretch.{Stretch}
@@ -22,11 +23,8 @@ decided {none = false} (Some s) good picked e = short_found good picked
 decided {none = false} None good clear e = absurd cc
 decided {none = true} (Some s) good picked e = absurd cc
 
-pub slice_bounds-find_short-end : goal.slice_bounds-find_short-end
-slice_bounds-find_short-end c = simp length-take (omega (arith, c.requires, counted_from c.args.periods c.args.closing))
-
-pub find_short-requires : goal.find_short-requires
-find_short-requires c = rw (c.closing_left-open.ensures, part_is) c.requires.3
+pub slice_bounds-rest-end : goal.slice_bounds-rest-end
+slice_bounds-rest-end c = simp length-take (omega (arith, c.requires, counted_from (P (day_of c.args.day)) c.args.day.closing))
 
 pub returns : goal.returns
-returns c = decided _ c.requires.3 (rw (c.closing_left-open.ensures, part_is) at c.find_short.ensures) c.is_none.ensures
+returns c = decided _ c.requires.2 (rw (c.closing_left-open.ensures, part_is) at c.find_short.ensures) c.is_none.ensures

@@ -3,6 +3,9 @@ use native.Mathlib.Omega.{arith}
 use Rattle.forecast_plan.proofs.Placing.{placed_ready, placed_lands, placed_due, placed_total, placed_cost_most, placed_turns, placed_next, placed_all}
 use Rattle.forecast_plan.proofs.hold_all.Goals as goal
 
+pub flight_at-f-requires : goal.flight_at-f-requires
+flight_at-f-requires c = omega (arith, c.loop-i.invariant.each)
+
 pub hold_of-chosen-requires : goal.hold_of-chosen-requires
 hold_of-chosen-requires c = placed_ready c.loop-i.invariant (omega arith) c.flight_at-f.ensures
 

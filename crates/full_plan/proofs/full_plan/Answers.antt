@@ -1,34 +1,29 @@
--- The refusals in order; then the stretch that is found, or the plan that is made.
+-- A day that fails the check is refused, then rows of other lengths; then the stretch that is found, or the plan that is made.
 -- Assumes nothing.
-use mathlib.Core.Path.{sym, ◌∙◌}
-use Rattle.day.proofs.Valid.{valid_means}
+use Rattle.std.proofs.lemmas.Result.{err_from_is_err_and}
 use Rattle.full_plan.proofs.Laws.{bad_day, bad_holds, bad_prices, found_none, can_plan, found_plan}
 use Rattle.full_plan.proofs.full_plan.Goals as goal
 
-pub returns-then-not-is_valid : goal.returns-then-not-is_valid
-returns-then-not-is_valid c = bad_day _ _ _ (sym c.is_valid.ensures ∙ c.if-not-is_valid.true)
+pub returns-in_err-day : goal.returns-in_err-day
+returns-in_err-day c =
+    let p = err_from_is_err_and c.from_residual.result c.from_residual.ensures.1 in
+    let no = c.in_err-day.ensures in rw (p.1, p.2, no.0) (bad_day _ _ _ no.1)
 
 pub returns-then-holds-n : goal.returns-then-holds-n
-returns-then-holds-n c = bad_holds _ _ _ (sym c.is_valid.ensures ∙ c.if-not-is_valid.false) c.flight_count-n.ensures c.if-holds-n.true
-
-pub counted_of-priced-requires : goal.counted_of-priced-requires
-counted_of-priced-requires c = (valid_means (sym c.is_valid.ensures ∙ c.if-not-is_valid.false)).periods_to
+returns-then-holds-n c = rw (← c.in_ok-day.ensures) (bad_holds _ _ _ c.in_ok-day.day.good c.flight_count-n.ensures.0 c.if-holds-n.true)
 
 pub returns-then-prices-priced : goal.returns-then-prices-priced
 returns-then-prices-priced c =
-    bad_prices _ _ _ (sym c.is_valid.ensures ∙ c.if-not-is_valid.false) c.flight_count-n.ensures c.if-holds-n.false c.counted_of-priced.ensures c.if-prices-priced.true
-
-pub find_short-requires : goal.find_short-requires
-find_short-requires c = sym c.is_valid.ensures ∙ c.if-not-is_valid.false
+    rw (← c.in_ok-day.ensures) (bad_prices _ _ _ c.in_ok-day.day.good c.flight_count-n.ensures.0 c.if-holds-n.false c.counted-priced.ensures c.if-prices-priced.true)
 
 pub returns-in-Some : goal.returns-in-Some
 returns-in-Some c =
-    found_none _ _ _ (sym c.is_valid.ensures ∙ c.if-not-is_valid.false) c.flight_count-n.ensures c.if-holds-n.false c.counted_of-priced.ensures c.if-prices-priced.false c.in-Some.ensures
+    rw (← c.in_ok-day.ensures) (found_none _ _ _ c.in_ok-day.day.good c.flight_count-n.ensures.0 c.if-holds-n.false c.counted-priced.ensures c.if-prices-priced.false c.in-Some.ensures)
 
 pub plan_day-requires : goal.plan_day-requires
 plan_day-requires c =
-    can_plan _ _ _ _ _ (sym c.is_valid.ensures ∙ c.if-not-is_valid.false) c.flight_count-n.ensures c.if-holds-n.false c.counted_of-priced.ensures c.if-prices-priced.false c.in_default.ensures
+    can_plan _ _ _ _ _ c.in_ok-day.day.good c.flight_count-n.ensures.0 c.if-holds-n.false c.counted-priced.ensures c.if-prices-priced.false c.in_default.ensures
 
 pub returns : goal.returns
 returns c =
-    found_plan _ _ _ _ _ (sym c.is_valid.ensures ∙ c.if-not-is_valid.false) c.flight_count-n.ensures c.if-holds-n.false c.counted_of-priced.ensures c.if-prices-priced.false c.in_default.ensures c.plan_day.ensures
+    rw (← c.in_ok-day.ensures) (found_plan _ _ _ _ _ c.in_ok-day.day.good c.flight_count-n.ensures.0 c.if-holds-n.false c.counted-priced.ensures c.if-prices-priced.false c.in_default.ensures c.plan_day.ensures)

@@ -9,7 +9,7 @@ use Rattle.full_plan.proofs.plan_day.Goals as goal
 
 pub returns : goal.returns
 returns c =
-    let size : length c.split_at_mut-front.result.1.now ≡ length c.args.prices.now - length c.args.capacities.now = omega (arith, c.split_at_mut-front.ensures.back_len) in
+    let size : length c.split_at_mut-front.result.1.now ≡ length c.args.prices.now - length c.args.day.capacities.now = omega (arith, c.split_at_mut-front.ensures.back_len) in
     record {
       front = c.insert_all.new.prices;
       planned = c.insert_all.ensures;

@@ -4,4 +4,4 @@ use Rattle.legality.proofs.Laws.{walk_start}
 use Rattle.legality.proofs.first_break.Goals as goal
 
 pub walk-requires : goal.walk-requires
-walk-requires c = walk_start c.requires.valid_day c.requires.holds_len
+walk-requires c = walk_start c.args.day.good c.requires

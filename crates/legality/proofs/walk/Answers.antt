@@ -1,14 +1,15 @@
 use native.Mathlib.Omega.{arith}
 use mathlib.Core.Path.{sym, ◌∙◌}
+use Rattle.day.specs.Checked.{day_of}
 use Rattle.day.proofs.Valid.{valid_means}
-use Rattle.legality.proofs.Laws.{long_of, walk_place, walk_long, walk_by, walk_in, walk_fits, walk_over, walk_next, walk_end}
+use Rattle.legality.proofs.Laws.{long_of, walk_long, walk_by, walk_in, walk_fits, walk_over, walk_next, walk_end, over_if, not_over}
 use Rattle.legality.proofs.walk.Goals as goal
 
 pub land_of-k-requires : goal.land_of-k-requires
-land_of-k-requires c = (c.loop-place-test.true, walk_place c.loop-place.invariant c.loop-place-test.true)
+land_of-k-requires c = omega (arith, c.loop-place.invariant.each)
 
 pub flight_at-requires : goal.flight_at-requires
-flight_at-requires c = walk_place c.loop-place.invariant c.loop-place-test.true
+flight_at-requires c = omega (arith, c.loop-place.invariant.each)
 
 pub is_too_long-requires : goal.is_too_long-requires
 is_too_long-requires c = (valid_means c.loop-place.invariant.good).periods_to
@@ -27,18 +28,13 @@ overflow_add-load c =
     let short = long_of _ _ c.is_too_long.ensures c.flight_at.ensures c.if-is_too_long.false in
     omega (arith, walk_fits c.loop-place.invariant c.loop-place-test.true c.land_of-k.ensures.0 short)
 
-pub is_over-requires : goal.is_over-requires
-is_over-requires c =
-    let short = long_of _ _ c.is_too_long.ensures c.flight_at.ensures c.if-is_too_long.false in (
-      (valid_means c.loop-place.invariant.good).periods_to,
-      walk_by c.loop-place.invariant c.loop-place-test.true c.land_of-k.ensures.0 short,
-      omega (arith, walk_fits c.loop-place.invariant c.loop-place-test.true c.land_of-k.ensures.0 short),
-    )
-
-pub returns-then-is_over : goal.returns-then-is_over
-returns-then-is_over c =
+pub returns-then-capacity_of-load : goal.returns-then-capacity_of-load
+returns-then-capacity_of-load c =
     let short = long_of _ _ c.is_too_long.ensures c.flight_at.ensures c.if-is_too_long.false in
-    walk_over c.loop-place.invariant c.loop-place-test.true c.land_of-k.ensures.0 short (sym c.is_over.ensures ∙ c.if-is_over.true)
+    let by = walk_by c.loop-place.invariant c.loop-place-test.true c.land_of-k.ensures.0 short in
+    let few = walk_fits c.loop-place.invariant c.loop-place-test.true c.land_of-k.ensures.0 short in
+    walk_over c.loop-place.invariant c.loop-place-test.true c.land_of-k.ensures.0 short
+    (over_if (day_of c.args.day) _ _ _ by (omega (arith, few)) c.capacity_of.ensures c.if-capacity_of-load.true)
 
 pub bounds-loads-k-in-loop-place : goal.bounds-loads-k-in-loop-place
 bounds-loads-k-in-loop-place c =
@@ -48,7 +44,10 @@ bounds-loads-k-in-loop-place c =
 pub loop-place-preserved : goal.loop-place-preserved
 loop-place-preserved c =
     let short = long_of _ _ c.is_too_long.ensures c.flight_at.ensures c.if-is_too_long.false in
-    walk_next c.loop-place.invariant c.loop-place-test.true c.land_of-k.ensures.0 short (sym c.is_over.ensures ∙ c.if-is_over.false)
+    let by = walk_by c.loop-place.invariant c.loop-place-test.true c.land_of-k.ensures.0 short in
+    let few = walk_fits c.loop-place.invariant c.loop-place-test.true c.land_of-k.ensures.0 short in
+    walk_next c.loop-place.invariant c.loop-place-test.true c.land_of-k.ensures.0 short
+    (not_over (day_of c.args.day) _ _ _ by (omega (arith, few)) c.capacity_of.ensures c.if-capacity_of-load.false)
 
 pub returns : goal.returns
 returns c = walk_end c.loop-place.invariant c.loop-place-test.false

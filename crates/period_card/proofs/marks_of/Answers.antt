@@ -1,17 +1,17 @@
-use borrow.Author.Rules.{rules}
 use native.Mathlib.Omega.{arith}
+use Rattle.quick_plan.proofs.Same.{valid_rows}
 use Rattle.period_card.proofs.Steps.{marked_start, marked_there, marked_small, marked_low, marked_high, marked_skip, marked_end}
 use Rattle.period_card.proofs.marks_of.Goals as goal
 use Rattle.period_card.proofs.marks_of.Goals.{then-is_waiting+then-i-lt64, then-is_waiting+else-i-lt64, else-is_waiting}
 
 pub loop-i-init : goal.loop-i-init
-loop-i-init c = marked_start c.requires.0 c.requires.1
+loop-i-init c = marked_start (valid_rows _ c.args.day.good) c.requires
 
 pub is_waiting-requires : goal.is_waiting-requires
-is_waiting-requires c = (marked_there c.loop-i.invariant c.loop-i-test.true, search rules, (marked_small c.loop-i.invariant).1)
+is_waiting-requires c = (marked_there c.loop-i.invariant c.loop-i-test.true, c.loop-i-test.true)
 
 pub mark-high-requires : goal.mark-high-requires
-mark-high-requires c = omega (arith, (marked_small c.loop-i.invariant).0)
+mark-high-requires c = omega (arith, marked_small c.loop-i.invariant)
 
 pub loop-i-preserved : goal.loop-i-preserved
 loop-i-preserved c =

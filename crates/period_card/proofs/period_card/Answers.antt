@@ -1,34 +1,36 @@
--- Each way out is one case of the card.
+-- Each way out is one case of the card; the day that passed the check is the day that was lent.
 -- Assumes nothing.
 use Rattle.std.proofs.Common.{Ok}
-use Rattle.period_card.proofs.Steps.{bad_day, jump_or_limit_lem, no_period, is_card, few_flights, part_length, card_any}
-use Rattle.quick_plan.proofs.Same.{valid_rows}
+use Rattle.std.proofs.lemmas.Result.{err_from_is_err_and}
+use Rattle.period_card.proofs.Steps.{bad_day, jump_or_limit_lem, no_period, is_card, part_length}
 use mathlib.Core.Path.{sym, ap, ◌∙◌}
 use mathlib.Core.Logic.{inl, inr}
 use native.Mathlib.Omega.{arith}
 use Rattle.period_card.proofs.period_card.Goals as goal
 
-pub returns-then-not-is_valid : goal.returns-then-not-is_valid
-returns-then-not-is_valid c = sym (bad_day _ _ (sym c.is_valid.ensures ∙ c.if-not-is_valid.true))
+pub returns-in_err-day : goal.returns-in_err-day
+returns-in_err-day c =
+    let p = err_from_is_err_and c.from_residual.result c.from_residual.ensures.1 in
+    let no = c.in_err-day.ensures in rw (p.1, p.2, no.0) (sym (bad_day _ _ no.1))
 
 pub returns-in-Some : goal.returns-in-Some
-returns-in-Some c = sym (jump_or_limit_lem _ _ (sym c.is_valid.ensures ∙ c.if-not-is_valid.false) c.first_jump_or_limit.ensures c.in-Some.is)
+returns-in-Some c = rw (← c.in_ok-day.ensures) (sym (jump_or_limit_lem _ _ c.in_ok-day.day.good c.first_jump_or_limit.ensures c.in-Some.is))
 
 pub returns-then-j-eq0 : goal.returns-then-j-eq0
 returns-then-j-eq0 c =
-    sym (no_period _ _ (sym c.is_valid.ensures ∙ c.if-not-is_valid.false) c.first_jump_or_limit.ensures c.in_default.is (elim c.then-j-eq0.either [ inl q ↦ inl q | inr w ↦ inr w.1 ]))
+    rw (← c.in_ok-day.ensures)
+    (sym (no_period _ _ c.in_ok-day.day.good c.first_jump_or_limit.ensures c.in_default.is (elim c.then-j-eq0.either [ inl q ↦ inl q | inr w ↦ inr w.1 ])))
 
 pub slice_bounds-row-end : goal.slice_bounds-row-end
-slice_bounds-row-end c = few_flights _ (sym c.is_valid.ensures ∙ c.if-not-is_valid.false) c.flight_count.ensures
+slice_bounds-row-end c = c.flight_count.ensures.1
 
 pub slice_bounds-card_in-end : goal.slice_bounds-card_in-end
-slice_bounds-card_in-end c = sym (part_length _ _ (few_flights _ (sym c.is_valid.ensures ∙ c.if-not-is_valid.false) c.flight_count.ensures))
+slice_bounds-card_in-end c = sym (part_length _ _ c.flight_count.ensures.1)
 
 pub card_in-requires : goal.card_in-requires
-card_in-requires c =
-    let good = sym c.is_valid.ensures ∙ c.if-not-is_valid.false in
-    (valid_rows _ good, part_length _ _ (few_flights _ good c.flight_count.ensures) ∙ c.flight_count.ensures, omega arith, omega arith)
+card_in-requires c = (part_length _ _ c.flight_count.ensures.1 ∙ c.flight_count.ensures.0, omega arith, omega arith)
 
 pub returns : goal.returns
 returns c =
-    ap Ok (c.card_in.ensures ∙ card_any _ (omega arith)) ∙ sym (is_card _ _ (sym c.is_valid.ensures ∙ c.if-not-is_valid.false) c.first_jump_or_limit.ensures c.in_default.is (omega arith) (omega arith))
+    rw (← c.in_ok-day.ensures)
+    (ap Ok c.card_in.ensures ∙ sym (is_card _ _ c.in_ok-day.day.good c.first_jump_or_limit.ensures c.in_default.is (omega arith) (omega arith)))

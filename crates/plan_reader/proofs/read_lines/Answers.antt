@@ -9,7 +9,7 @@ use Rattle.plan_reader.proofs.read_lines.Goals as goal
 
 pub loop-i-init : goal.loop-i-init
 loop-i-init c =
-    (rw length_plan_names at c.requires, c.flight_count-n.ensures)
+    (rw length_plan_names at c.requires, c.flight_count-n.ensures.0)
 
 pub hold_at-requires : goal.hold_at-requires
 hold_at-requires c = (read_inside c.loop-i.invariant.0, read_place c.loop-i.invariant.0 (omega (arith, c.loop-i-test.true, c.loop-i.invariant.1)))

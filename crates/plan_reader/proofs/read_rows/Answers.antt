@@ -17,12 +17,12 @@ read_lines-i-requires c =
 
 pub returns-then-i-flight_count : goal.returns-then-i-flight_count
 returns-then-i-flight_count c =
-    lines_stopped c.read_lines-i.ensures c.flight_count.ensures c.if-i-flight_count.true c.first_wrong-line.ensures
+    lines_stopped c.read_lines-i.ensures c.flight_count.ensures.0 c.if-i-flight_count.true c.first_wrong-line.ensures
 
 pub read_end-requires : goal.read_end-requires
 read_end-requires c =
-    can_end (lines_all c.read_lines-i.ensures c.flight_count.ensures c.if-i-flight_count.false)
+    can_end (lines_all c.read_lines-i.ensures c.flight_count.ensures.0 c.if-i-flight_count.false)
 
 pub returns : goal.returns
 returns c =
-    rows_ended (lines_all c.read_lines-i.ensures c.flight_count.ensures c.if-i-flight_count.false) c.read_end.result c.read_end.ensures
+    rows_ended (lines_all c.read_lines-i.ensures c.flight_count.ensures.0 c.if-i-flight_count.false) c.read_end.result c.read_end.ensures

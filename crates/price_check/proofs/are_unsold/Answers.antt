@@ -6,38 +6,32 @@ use Rattle.price_check.proofs.Laws.{unsold_free_lem, unsold_full, unsold_not}
 use Rattle.price_check.proofs.are_unsold.Goals as goal
 use Rattle.price_check.proofs.are_unsold.Goals.{else-of_period-ne0-via-then-of_period-ne0+else-landings_of-capacity_of, else-of_period-ne0-via-else-of_period-ne0}
 
-pub counted_of-last-requires : goal.counted_of-last-requires
-counted_of-last-requires c = (valid_means c.requires.valid_day).periods_to
-
 pub loop-k-init : goal.loop-k-init
 loop-k-init c = λ j a b. absurd (omega arith)
 
 pub landings_of-requires : goal.landings_of-requires
-landings_of-requires c = omega (arith, c.requires.holds_len, (valid_means c.requires.valid_day).whole)
-
-pub capacity_of-requires : goal.capacity_of-requires
-capacity_of-requires c = (valid_means c.requires.valid_day).periods_to
+landings_of-requires c = omega (arith, c.requires, (valid_means c.args.day.good).whole)
 
 pub returns-then-landings_of-capacity_of : goal.returns-then-landings_of-capacity_of
 returns-then-landings_of-capacity_of c =
-    say_no (unsold_not c.loop-k.auto.k (omega (arith, c.counted_of-last.ensures)) c.of_period.ensures.0 c.if-of_period-ne0.true c.requires.holds_len c.landings_of.ensures c.capacity_of.ensures c.if-landings_of-capacity_of.true)
+    say_no (unsold_not c.loop-k.auto.k (omega (arith, c.counted-last.ensures)) c.of_period.ensures.0 c.if-of_period-ne0.true c.requires c.landings_of.ensures c.capacity_of.ensures c.if-landings_of-capacity_of.true)
 
 pub loop-k-preserved : goal.loop-k-preserved
 loop-k-preserved c = elim c.else-of_period-ne0.branch [
   | else-of_period-ne0-via-then-of_period-ne0+else-landings_of-capacity_of w ↦
-      unsold_full c.loop-k.invariant c.requires.holds_len w.landings_of.ensures w.capacity_of.ensures w.if-landings_of-capacity_of.false
+      unsold_full c.loop-k.invariant c.requires w.landings_of.ensures w.capacity_of.ensures w.if-landings_of-capacity_of.false
   | else-of_period-ne0-via-else-of_period-ne0 w ↦ unsold_free_lem c.loop-k.invariant c.of_period.ensures.0 w.if-of_period-ne0.false
 ]
 
 pub returns : goal.returns
-returns c = say_yes (λ j a b. c.loop-k.invariant j a (omega (arith, c.counted_of-last.ensures)))
+returns c = say_yes (λ j a b. c.loop-k.invariant j a (omega (arith, c.counted-last.ensures)))
 
 pub returns-else-of_period-ne0 : goal.returns-else-of_period-ne0
 returns-else-of_period-ne0 c = elim c.else-of_period-ne0.branch [
   | else-of_period-ne0-via-then-of_period-ne0+else-landings_of-capacity_of w ↦
-      let upto = unsold_full c.loop-k.invariant c.requires.holds_len w.landings_of.ensures w.capacity_of.ensures w.if-landings_of-capacity_of.false in
-      say_yes (λ j a b. upto j a (omega (arith, c.counted_of-last.ensures)))
+      let upto = unsold_full c.loop-k.invariant c.requires w.landings_of.ensures w.capacity_of.ensures w.if-landings_of-capacity_of.false in
+      say_yes (λ j a b. upto j a (omega (arith, c.counted-last.ensures)))
   | else-of_period-ne0-via-else-of_period-ne0 w ↦
       let upto = unsold_free_lem c.loop-k.invariant c.of_period.ensures.0 w.if-of_period-ne0.false in
-      say_yes (λ j a b. upto j a (omega (arith, c.counted_of-last.ensures)))
+      say_yes (λ j a b. upto j a (omega (arith, c.counted-last.ensures)))
 ]

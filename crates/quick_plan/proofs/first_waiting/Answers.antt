@@ -3,19 +3,20 @@ use native.Mathlib.Omega.{arith}
 use borrow.Author.Rules.{rules}
 use Rattle.std.specs.Option.{option_map}
 use Rattle.quick_plan.specs.declared.Waiting.{Waiting}
-use Rattle.quick_plan.proofs.Steps.{scan_start, scan_there, scan_periods, scan_due, best_there, scan_skip, scan_fresh, scan_better, scan_worse, scan_end}
+use Rattle.quick_plan.proofs.Same.{valid_rows}
+use Rattle.quick_plan.proofs.Steps.{scan_start, in_row, scan_there, scan_due, best_there, scan_skip, scan_fresh, scan_better, scan_worse, scan_end}
 use Rattle.quick_plan.proofs.first_waiting.Goals as goal
 use Rattle.quick_plan.proofs.first_waiting.Goals.{then-is_waiting+in-Some, then-is_waiting+in_default-2, then-is_waiting+in_default, else-is_waiting}
 
 pub loop-place-init : goal.loop-place-init
-loop-place-init c = scan_start _ c.requires.0 c.requires.1
+loop-place-init c = scan_start _ (valid_rows _ c.args.day.good) c.requires.0
 
 pub is_waiting-requires : goal.is_waiting-requires
-is_waiting-requires c = (scan_there c.loop-place.invariant c.loop-place-test.true, c.loop-place-test.true, scan_periods c.loop-place.invariant)
+is_waiting-requires c = (in_row c.loop-place.invariant c.loop-place-test.true, c.loop-place-test.true)
 
 pub next_cost-cost-requires : goal.next_cost-cost-requires
 next_cost-cost-requires c =
-    (c.requires.2, c.requires.3, scan_due c.loop-place.invariant c.loop-place-test.true c.is_waiting.ensures c.if-is_waiting.true)
+    (c.requires.1, c.requires.2, scan_due c.loop-place.invariant c.loop-place-test.true c.is_waiting.ensures c.if-is_waiting.true)
 
 pub goes_before-requires : goal.goes_before-requires
 goes_before-requires c = (scan_there c.loop-place.invariant c.loop-place-test.true, best_there (rw c.in-Some.is at c.loop-place.invariant))

@@ -1,7 +1,11 @@
 use mathlib.Core.Path.{sym, ◌∙◌}
 use native.Mathlib.Omega.{arith}
-use Rattle.quick_plan.proofs.Steps.{landing_early, landing_stop, landing_flight, landing_more, landing_end}
+use Rattle.quick_plan.proofs.Same.{valid_rows}
+use Rattle.quick_plan.proofs.Steps.{landing_start, landing_early, landing_stop, landing_flight, landing_more, landing_end}
 use Rattle.quick_plan.proofs.land_period.Goals as goal
+
+pub loop-init : goal.loop-init
+loop-init c = landing_start _ (valid_rows _ c.args.day.good) c.requires.3 c.requires.0 (omega (arith, c.of_period-end.ensures))
 
 pub returns-in_default : goal.returns-in_default
 returns-in_default c = landing_stop c.loop.invariant (sym c.first_waiting.ensures ∙ c.in_default.is)

@@ -2,35 +2,27 @@
 -- is the quick plan.
 -- Assumes nothing.
 use Rattle.std.proofs.lemmas.Result.{err_from_is_err_and}
-use mathlib.Core.Path.{sym, ◌∙◌}
+use mathlib.Core.Path.{◌∙◌}
+use native.Mathlib.Omega.{arith}
 use Rattle.answers.proofs.Outcomes.{says}
 use Rattle.quick_plan.proofs.NextCosts.{rate_fits}
-use Rattle.quick_plan.proofs.Same.{valid_rows}
-use Rattle.quick_plan.proofs.Calls.{can_plan, refused, no_plan_lem, planned}
+use Rattle.quick_plan.proofs.Calls.{can_fill, refused, no_plan_lem, planned}
 use Rattle.legality.proofs.Laws.{can_sum}
-use borrow.Author.Rules.{rules}
 use Rattle.quick_plan.proofs.quick_plan.Goals as goal
 
-pub returns-in_err-check_quick : goal.returns-in_err-check_quick
-returns-in_err-check_quick c =
+pub returns-in_err-day : goal.returns-in_err-day
+returns-in_err-day c =
     let p = err_from_is_err_and c.from_residual.result c.from_residual.ensures.1 in
-    let all = says (refused _ _ (sym c.check_quick.ensures ∙ c.in_err-check_quick.was)) in record { value = rw (p.1, p.2) all.0; holds_after = all.1 }
-
-pub find_short-requires : goal.find_short-requires
-find_short-requires c = (can_plan _ _ (sym c.check_quick.ensures ∙ c.in_ok-check_quick.was)).good
+    let all = says (refused _ _ c.in_err-day.ensures) in record { value = rw (p.1, p.2) all.0; holds_after = all.1 }
 
 pub plan_to-requires : goal.plan_to-requires
-plan_to-requires c =
-    let w = can_plan _ _ (sym c.check_quick.ensures ∙ c.in_ok-check_quick.was) in
-    record { valid_day = (valid_rows _ w.good, w.each); within = (rate_fits _, search rules) }
+plan_to-requires c = (can_fill _ _ c.in_ok-day.ensures.1 c.in_ok-day.ensures.0, rate_fits _, omega arith)
 
 pub total_of-requires : goal.total_of-requires
-total_of-requires c =
-    let w = can_plan _ _ (sym c.check_quick.ensures ∙ c.in_ok-check_quick.was) in
-    can_sum _ w.good (c.plan_to.auto.holds ∙ w.each)
+total_of-requires c = can_sum _ c.in_ok-day.day.good (c.plan_to.auto.holds ∙ can_fill _ _ c.in_ok-day.ensures.1 c.in_ok-day.ensures.0)
 
 pub returns-in-Some : goal.returns-in-Some
-returns-in-Some c = let all = says (no_plan_lem _ _ (sym c.check_quick.ensures ∙ c.in_ok-check_quick.was) c.in-Some.ensures) in record { value = all.0; holds_after = all.1 }
+returns-in-Some c = let all = says (no_plan_lem _ _ c.in_ok-day.ensures.1 c.in_ok-day.ensures.0 c.in-Some.ensures) in record { value = all.0; holds_after = all.1 }
 
 pub returns : goal.returns
-returns c = let all = says (planned _ _ (sym c.check_quick.ensures ∙ c.in_ok-check_quick.was) c.in_default.ensures c.plan_to.ensures c.total_of.ensures) in record { value = all.0; holds_after = all.1 }
+returns c = let all = says (planned _ _ c.in_ok-day.ensures.1 c.in_ok-day.ensures.0 c.in_default.ensures c.plan_to.ensures c.total_of.ensures) in record { value = all.0; holds_after = all.1 }

@@ -1,5 +1,6 @@
 -- The five parts, one behind the other.
-use Rattle.day.specs.Flights.{first_flights}
+use Rattle.day.specs.Checked.{day_of}
+use Rattle.day.proofs.Valid.{valid_means}
 use Rattle.sheet.specs.Text.{period_names, flight_names}
 use Rattle.sheet.proofs.Grammar.{length_top, length_names}
 use Rattle.sheet_writer.proofs.Placing.{sheet_room, sheet_put}
@@ -7,21 +8,21 @@ use native.Mathlib.Omega.{arith}
 use Rattle.sheet_writer.proofs.fill_sheet.Goals as goal
 
 pub put_fixed_at-a-requires : goal.put_fixed_at-a-requires
-put_fixed_at-a-requires c = omega (arith, length_top, sheet_room c.args.capacities.now (first_flights c.args.n c.args.flights.now) c.args.closing c.requires.0)
+put_fixed_at-a-requires c = omega (arith, length_top, sheet_room (day_of c.args.day) c.requires)
 
 pub put_periods-b-requires : goal.put_periods-b-requires
 put_periods-b-requires c =
-    let room = sheet_room c.args.capacities.now (first_flights c.args.n c.args.flights.now) c.args.closing c.requires.0 in
-    (omega (arith, room, length_top, c.put_fixed_at-a.ensures.place, c.put_fixed_at-a.auto), c.requires.1)
+    let room = sheet_room (day_of c.args.day) c.requires in
+    (omega (arith, room, length_top, c.put_fixed_at-a.ensures.place, c.put_fixed_at-a.auto), (valid_means c.args.day.good).periods_to)
 
 pub put_closing-c-requires : goal.put_closing-c-requires
 put_closing-c-requires c =
-    let room = sheet_room c.args.capacities.now (first_flights c.args.n c.args.flights.now) c.args.closing c.requires.0 in
+    let room = sheet_room (day_of c.args.day) c.requires in
     omega (arith, room, length_top, c.put_fixed_at-a.ensures.place, c.put_fixed_at-a.auto, c.put_periods-b.ensures.place, c.put_periods-b.auto)
 
 pub put_fixed_at-d-requires : goal.put_fixed_at-d-requires
 put_fixed_at-d-requires c =
-    let room = sheet_room c.args.capacities.now (first_flights c.args.n c.args.flights.now) c.args.closing c.requires.0 in
+    let room = sheet_room (day_of c.args.day) c.requires in
     omega (
       arith,
       room,
@@ -37,8 +38,9 @@ put_fixed_at-d-requires c =
 
 pub put_flights-requires : goal.put_flights-requires
 put_flights-requires c =
-    let room = sheet_room c.args.capacities.now (first_flights c.args.n c.args.flights.now) c.args.closing c.requires.0 in (
-      omega (
+    let room = sheet_room (day_of c.args.day) c.requires in
+    let n = c.flight_count-n.ensures in (
+      rw n.0 (omega (
         arith,
         room,
         length_top,
@@ -51,12 +53,12 @@ put_flights-requires c =
         c.put_closing-c.auto,
         c.put_fixed_at-d.ensures.place,
         c.put_fixed_at-d.auto,
-      ),
-      c.requires.2,
-      c.requires.3,
+      )),
+      n.1,
+      omega (arith, n.0, (valid_means c.args.day.good).whole),
     )
 
 pub returns : goal.returns
 unfolding period_names flight_names
 returns c =
-    sheet_put _ _ _ c.requires.0 c.put_fixed_at-a.ensures c.put_periods-b.ensures c.put_closing-c.ensures c.put_fixed_at-d.ensures c.put_flights.ensures
+    sheet_put (day_of c.args.day) c.requires c.put_fixed_at-a.ensures c.put_periods-b.ensures c.put_closing-c.ensures c.put_fixed_at-d.ensures (rw c.flight_count-n.ensures.0 at c.put_flights.ensures)
