@@ -3,12 +3,12 @@
 use mathlib.Core.Path.{◌≡◌, sym, ap, ◌∙◌}
 use mathlib.Core.Logic.{inl, inr, ◌≢◌}
 use mathlib.Core.Bool.{Bool, true, false}
-use mathlib.Core.List.{List, ◌++◌}
+use mathlib.Core.List.{List, ◌++◌, append_assoc}
 use Prim.Native.Nat.{ℕ, suc, ◌+◌, ◌-◌, ◌*◌, ◌≤◌, ◌<◌}
 use native.Mathlib.Numerals.{add-one}
 use native.Mathlib.Omega.{arith}
 use lib.ListN.{length, get_or, set, take, drop, length-append, length-set, length-drop, get_or-append}
-use lib.Seq.{take_all, get_or-set_same, get_or-set_other}
+use lib.Seq.{take_all, take-suc, drop-cons, set_at, length-take-le, get_or-set_same, get_or-set_other}
 use borrow.Author.Tests.{lt-ltb, le-ltb, le-leb, lt-leb}
 use Rattle.answers.specs.Decides.{Decides}
 use Rattle.answers.proofs.Decides.{say_yes, say_no}
@@ -28,6 +28,23 @@ use Rattle.completion.specs.Loop.{AllPlaces, Partial}
 use Rattle.completion.proofs.Completion.{left_length, left_at, left_same, left_from, rest_valid, completed_by_rest}
 
 -- ---- the places of the whole day
+
+-- one entry more is copied
+pub copy_step : (from to₀ to : List ℕ) (i : ℕ) → i < length from → i < length to₀ → to ≡ take i from ++ drop i to₀
+    → set to i (get_or from i 0) ≡ take (i + 1) from ++ drop (i + 1) to₀
+copy_step from to₀ to i h g e =
+    rw (
+      e,
+      add-one,
+      drop-cons to₀ i 0 g,
+      set_at (take i from) (get_or to₀ i 0) (drop (suc i) to₀) (get_or from i 0) i (length-take-le i from (omega arith)),
+      take-suc from i 0 h,
+      append_assoc,
+    )
+
+-- all entries are copied
+pub copied_whole : (from to₀ to : List ℕ) (i : ℕ) → i ≡ length from → to ≡ take i from ++ drop i to₀ → to ≡ from ++ drop (length from) to₀
+copied_whole from to₀ to i end e = e ∙ rw (end, take_all (length from) from (omega arith))
 
 -- the capacities are copied to the front of a row, and the closing number stands behind them
 pub places_made : {c row : List ℕ} (left : List ℕ) (closing : ℕ) {n : ℕ} → row ≡ c ++ drop (length c) left → length c < length left

@@ -20,7 +20,10 @@ pub fn all_places(capacities: &[u32], closing: u32, left: &mut [u32]) -> usize
     ensures { AllPlaces capacities.now closing left.new result }
 {
     let periods = capacities.len();
-    left[..periods].copy_from_slice(capacities);
+    // Kept: entry by entry. Where nothing says that two rows lie apart, copy_from_slice makes the library need memmove.
+    for k in 0..periods {
+        left[k] = capacities[k];
+    }
     left[periods] = closing;
     counted_of(periods, closing)
 }

@@ -1,12 +1,17 @@
 -- The capacities copied, and the closing number behind them.
 -- Assumes nothing.
-use mathlib.Core.List.{◌++◌}
-use mathlib.Core.Path.{ap}
-use lib.ListN.{length, drop}
-use Rattle.completion.proofs.Steps.{places_made}
+use native.Mathlib.Omega.{arith}
+use Rattle.completion.proofs.Steps.{copy_step, copied_whole, places_made}
 use Rattle.completion.proofs.all_places.Goals as goal
+
+pub loop-k-preserved : goal.loop-k-preserved
+loop-k-preserved c =
+    let a = c.args in
+    let l = c.loop-k in
+    copy_step a.capacities.now a.left.now l.left l.k (omega arith) (omega arith) l.invariant
 
 pub returns : goal.returns
 returns c =
     let a = c.args in
-    places_made a.left.now a.closing (ap (λ front. front ++ drop (length a.capacities.now) a.left.now) c.copy_from_slice.ensures.after) c.requires.1 c.counted_of.ensures
+    let l = c.loop-k in
+    places_made a.left.now a.closing (copied_whole a.capacities.now a.left.now l.left l.k (omega arith) l.invariant) c.requires.1 c.counted_of.ensures
