@@ -40,10 +40,13 @@ module _ (f : List ℕ) (ck ci k i : ℕ) where
   before_costs ne = rw (ne_eqb ci ck ne) (or_false (ltb ci ck))
 
   module _ {di dk : ℕ} (ed : di ≡ due_of f i) (el : dk ≡ due_of f k) (e : ci ≡ ck) where
-    -- the due decides, or the place
-    pub before_ties : {r : Bool} → r ≡ ltb dk di || eqb dk di && ltb k i → r ≡ before f ck ci k i
+    pub before_dues : dk ≢ di → ltb dk di ≡ before f ck ci k i
     unfolding before
-    before_ties q = rw (← ed, ← el, le-ltb ci ck (omega arith), eq-eqb ci ck e) q
+    before_dues ne = rw (← ed, ← el, le-ltb ci ck (omega arith), eq-eqb ci ck e, ne_eqb dk di ne) (or_false (ltb dk di))
+
+    pub before_places : dk ≡ di → ltb k i ≡ before f ck ci k i
+    unfolding before
+    before_places q = rw (← ed, ← el, le-ltb ci ck (omega arith), eq-eqb ci ck e, le-ltb dk di (omega arith), eq-eqb dk di q)
 
 -- ---- the best one
 
