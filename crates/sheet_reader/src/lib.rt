@@ -78,10 +78,10 @@ fn flight_line(s: &[u8], at: usize) -> Option<FlightLine>
 
 // The lines up to the second names line read: how many periods, where the flight lines begin, and the closing number.
 #[derive(Clone, Copy)]
-struct Periods {
-    count: usize,
-    at: usize,
-    closing: u32,
+pub struct Periods {
+    pub count: usize,
+    pub at: usize,
+    pub closing: u32,
 }
 
 // A line that ends the period lines: the second names line, or one that begins as a closing line.
