@@ -2,6 +2,7 @@
 -- Assumes nothing.
 use mathlib.Core.Path.{◌≡◌, refl, ap, ◌∙◌}
 use mathlib.Core.Logic.{◌⊎◌, inl, inr, ◌↔◌}
+use mathlib.Core.Bool.{true}
 use mathlib.Core.List.{List, [], ◌∷◌, ◌++◌}
 use Prim.Native.Nat.{ℕ, zero, suc, ◌+◌, ◌-◌, ◌*◌, ◌≤◌, ◌<◌}
 use native.Mathlib.Omega.{arith}
@@ -13,12 +14,12 @@ use Rattle.assignment.specs.Moves.{put}
 use Rattle.assignment.proofs.Tests.{lt?, eq?, gate_lt, gate_eq, gate_ne, gate_le, gate_mul_le, gate_mul_ge}
 use Rattle.assignment.proofs.Sums.{sum_le, exchange_all}
 use Rattle.assignment.proofs.Moves.{moved_count, moved_total, moved_window, put_moved}
-use Rattle.day.specs.Day.{Day, day, P, N, unlimited, due, of_period, takes, counted, Window, land, landings, total}
+use Rattle.day.specs.Day.{Day, day, P, N, unlimited, due, of_period, takes, counted, Window, land, landings, total, valid}
 use Rattle.day.specs.Plan.{Legal, Cheapest, Accepted, Smallest, one_more, PricesSave}
 use Rattle.day.specs.Valid.{ValidFlights, Valid}
 use Rattle.day.specs.Instance.{last_to, instance}
 use Rattle.day.proofs.Costs.{period_out, takes_in, counted_line, counted_open, counted_from, counted_to, cost_grows}
-use Rattle.day.proofs.Valid.{valid_flights}
+use Rattle.day.proofs.Valid.{valid_flights, valid_means, means_valid}
 use Rattle.day.proofs.Instance.{total_instance, legal_instance, holds_of, holds_legal, holds_total, accepted_is_cheapest}
 use Rattle.day.proofs.Prices.{same_periods, legal_more, saves_price, saved_smallest}
 
@@ -134,6 +135,10 @@ open_valid v = record {
   flight = v.flight;
   distinct = v.distinct;
 }
+
+-- so the day check passes it too
+pub valid_open : (d : Day) → valid d ≡ true → valid (day d.capacities d.flights unlimited) ≡ true
+valid_open d v = means_valid (open_valid (valid_means v))
 
 cheapest_instance : {d : Day} {h : List ℕ} → ValidFlights (P d) d.flights → Cheapest d h → A.Cheapest (instance d) (land d h)
 cheapest_instance {d} {h} v best = record {

@@ -3,7 +3,7 @@
 
 ghost use Rattle.std.specs.Prelude.{◌≡◌, true, false, ◌&&◌, ◌+◌, ◌*◌, ◌/◌, ◌%◌, ◌^◌, ◌<◌, ◌≤◌, ◌++◌, length, take, drop, MatchResult};
 ghost use Rattle.day.specs.Day.{lent, unlimited, most_periods, most_flights, column, number_of, due_of, rate_of, limit_of, width, flight_at, flight_count, of_period, takes_of, counted_of, hold_cost, land_of, latest_of, last_of, all, inside, flight_fits, capacities_fit, in_range, is_new, valid, P, N, takes, counted, cost};
-ghost use Rattle.day.specs.Checked.{lent_day, day_of};
+ghost use Rattle.day.specs.Checked.{lent_day, day_of, open_day};
 ghost use Rattle.day.specs.Flights.{with_flight};
 ghost use Rattle.day.specs.Chains.{chains, Linked, Passed};
 
@@ -409,5 +409,16 @@ impl<'a> ValidDay<'a> {
         ensures { result ≡ counted (day_of self.entry) }
     {
         counted_of(self.capacities.len(), self.closing)
+    }
+
+    // The same day without its closing line: who plans without the number is handed this.
+    pub fn open(self) -> ValidDay<'a>
+        ensures { day_of result ≡ open_day self.entry }
+    {
+        ValidDay {
+            capacities: self.capacities,
+            flights: self.flights,
+            closing: UNLIMITED,
+        }
     }
 }

@@ -55,6 +55,11 @@ module _ (d : Day) (h p : List ℕ) where
 
 -- ---- the plan of the day without a closing line
 
+-- the planner is handed the day without its line, and speaks of the day of its rows
+pub open_again : (d : Day) {opened : Day} → opened ≡ day d.capacities d.flights unlimited
+    → day opened.capacities opened.flights unlimited ≡ day d.capacities d.flights unlimited
+open_again d same = ap (λ e. day e.capacities e.flights unlimited) same
+
 -- a stretch that is short without the line ends by P, and is as short with it
 short_with : (c f : List ℕ) (closing : ℕ) {a b : ℕ} → Short (day c f unlimited) a b → Short (day c f closing) a b
 unfolding room must_land

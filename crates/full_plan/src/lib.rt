@@ -12,7 +12,7 @@ use insertion::insert_all;
 use stretch::{Stretch, find_short};
 
 // Plans a day that has a legal plan, and answers the total. A closing line then changes no cheapest plan and no price, and the closing
-// period's price is 0; so the insertion does not ask its number.
+// period's price is 0; so the insertion does not know its number.
 fn plan_day(day: ValidDay, holds: &mut [u32], prices: &mut [u32]) -> usize
     requires { CanPlan (open_day day) holds.old prices.old }
     ensures { Made (open_day day.entry) result holds.new prices.old prices.new }
@@ -38,5 +38,5 @@ pub fn full_plan(day: LentDay, holds: &mut [u32], prices: &mut [u32]) -> Result<
     if let Some(Stretch { first, last }) = find_short(day) {
         return Err(Refusal::NoPlan { first, last });
     }
-    Ok(plan_day(day, holds, prices))
+    Ok(plan_day(day.open(), holds, prices))
 }

@@ -52,7 +52,7 @@ pub fn growth_plan(day: LentDay, growth: u32, holds: &mut [u32]) -> Result<usize
     }
     plan_to(
         NextCost::Growing { growth },
-        day,
+        day.open(),
         holds,
         day.capacities.len(),
     );

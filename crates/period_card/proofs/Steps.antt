@@ -111,6 +111,10 @@ card_any d {j = j} l =
       sum_ext (N d) (λ i. gate (eligible (without_line d) (rates d) j i) 1) (λ i. gate (eligible d (rates d) j i) 1) (λ i b. ap (λ t. gate t 1) (same i b)),
     )
 
+-- so the card may be made of the day without its line
+pub card_opened : (d : Day) {opened : Day} {j : ℕ} → opened ≡ without_line d → j ≤ P d → card opened j ≡ card d j
+card_opened d same l = rw same (card_any d l)
+
 -- ---- the call
 
 module _ (d : Day) (j : ℕ) where

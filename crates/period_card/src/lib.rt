@@ -43,7 +43,7 @@ fn marks_of(day: ValidDay, holds: &[u32], j: usize) -> Marks
     let mut low: u64 = 0;
     let mut high: u64 = 0;
     for i in 0..holds.len() {
-        if is_waiting(day, holds, j, i) {
+        if is_waiting(day.capacities, day.flights, holds, j, i) {
             if i < 64 {
                 low = mark(low, i);
             } else {
@@ -84,5 +84,5 @@ pub fn period_card(day: LentDay, period: u32) -> Result<Card, Refusal>
         return Err(Refusal::NoSuchPeriod { periods });
     }
     let mut row = [0; FLIGHTS];
-    Ok(card_in(day, &mut row[..day.flight_count()], j))
+    Ok(card_in(day.open(), &mut row[..day.flight_count()], j))
 }

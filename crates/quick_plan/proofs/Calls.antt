@@ -1,7 +1,7 @@
 -- What the check and the call come to, a law for each of their ways.
 -- Assumes nothing.
 use Rattle.std.proofs.Common.{Result, Ok, Err}
-use mathlib.Core.Path.{◌≡◌, refl, sym, ◌∙◌}
+use mathlib.Core.Path.{◌≡◌, refl, sym, ap, ◌∙◌}
 use mathlib.Core.Logic.{◌≢◌}
 use mathlib.Core.Bool.{Bool, true, false, cond, not}
 use mathlib.Core.List.{List}
@@ -92,6 +92,18 @@ same_outcome d h one other same = by (quick_check d h) (can_plan d h)
 pub refused : (d : Day) (h : List ℕ) {answer : Refusal} → quick_check d h ≡ Err answer → quick_plan d h ≡ outcome (Err answer) h
 unfolding quick_plan
 refused d h e = rw e
+
+-- the planner is handed the day without its line, and its row is that of the day
+module _ (d : Day) {opened : Day} (same : opened ≡ without_line d) where
+  pub same_count : N opened ≡ N d
+  same_count = ap (λ e. N e) same
+
+  pub same_periods : P opened ≡ P d
+  same_periods = ap (λ e. P e) same
+
+  pub made_open : (next : List ℕ → ℕ → ℕ → ℕ) (stop : ℕ) {x : List ℕ} → x ≡ row_to (without_line opened) (next opened.flights) stop
+      → x ≡ row_to (without_line d) (next d.flights) stop
+  made_open next stop made = rw same at made
 
 module _ (d : Day) where
   -- the row made for all periods, whatever the closing number, is the plan

@@ -11,8 +11,7 @@ use Rattle.assignment.specs.Rows.{row}
 use Rattle.assignment.proofs.Sums.{sum_ext}
 use Rattle.assignment.proofs.Rows.{row_ext}
 use Rattle.day.specs.Day.{Day, day, unlimited, P, N, due, capacity, valid}
-use Rattle.day.proofs.Curfew.{open_valid}
-use Rattle.day.proofs.Valid.{valid_means, means_valid}
+use Rattle.day.proofs.Curfew.{valid_open}
 use Rattle.quick_plan.specs.Quick.{ahead, going_before, highest, eligible, operates, lands, quick_by}
 use Rattle.quick_plan.specs.Loop.{without_line}
 
@@ -74,4 +73,4 @@ module _ (d : Day) (next : ℕ → ℕ → ℕ) where
 
 -- and a valid day is valid without it
 pub valid_rows : (d : Day) → valid d ≡ true → valid (without_line d) ≡ true
-valid_rows d v = means_valid (open_valid (valid_means v))
+valid_rows = valid_open

@@ -2,13 +2,18 @@
 -- quick plan.
 -- Assumes nothing.
 use Rattle.std.specs.Prelude.{Bool, cond, ◌&&◌, ◌||◌, List, ℕ, zero, suc, ◌+◌, ◌-◌, ◌*◌, ◌≤◌, length, set, leb, eqb}
-use Rattle.day.specs.Day.{Day, day, unlimited, P, N, width, due_of, due, capacity, land}
+use Rattle.std.specs.Borrow.{Bor}
+use Rattle.day.specs.Day.{Day, day, lent, unlimited, P, N, width, due_of, due, capacity, land}
 use Rattle.assignment.specs.Rows.{row}
 use Rattle.quick_plan.specs.Quick.{ahead}
 
 -- the day without its closing line: how the flights land period by period does not depend on it
 abbrev pub without_line : Day → Day
 without_line d = day d.capacities d.flights unlimited
+
+-- such a day, in two lent rows
+abbrev pub lent_rows : (capacities flights : Bor (List ℕ)) → Day
+lent_rows capacities flights = lent capacities flights unlimited
 
 -- flight i stands in the row, and is due by period j
 pub record DueBy (flights : List ℕ) (j i : ℕ) : Type 0 where

@@ -4,13 +4,13 @@
 
 ghost use Rattle.std.specs.Prelude.{◌≡◌, true, ◌+◌, ◌*◌, ◌<◌, ◌≤◌, length, MatchResult, Ok, Err};
 ghost use Rattle.assignment.specs.Rows.{row};
-ghost use Rattle.day.specs.Day.{N, P, width, flight_count, capacity};
+ghost use Rattle.day.specs.Day.{N, P, most_periods, width, flight_count, capacity};
 ghost use Rattle.day.specs.Checked.{lent_day, day_of};
 ghost use Rattle.day.specs.Plan.{jump_or_limit, first_jump_or_limit};
 ghost use Rattle.growth.specs.Growth.{HoldsFactors};
 ghost use Rattle.quick_plan.specs.NextCost.{next_cost, fits};
 ghost use Rattle.quick_plan.specs.Quick.{before};
-ghost use Rattle.quick_plan.specs.Loop.{without_line, DueBy, at_closing, waiting, top, land_all, row_to};
+ghost use Rattle.quick_plan.specs.Loop.{without_line, lent_rows, DueBy, at_closing, waiting, top, land_all, row_to};
 ghost use Rattle.quick_plan.specs.Calls.{place_if, quick_check, quick_plan};
 
 use answers::Refusal;
@@ -67,14 +67,14 @@ fn goes_before(flights: &[u32], one: Waiting, other: Waiting) -> bool
     one.place < other.place
 }
 
-// Flight i is due by period j, and stands at the closing period yet.
+// Flight i is due by period j, and stands at the closing period yet. Kept: two rows, since it asks less than a valid day.
 #[tactic(auto, unfolding(crate::specs::Loop::waiting))]
-pub fn is_waiting(day: ValidDay, holds: &[u32], j: usize, i: usize) -> bool
-    requires { (i < N (day_of day)) × (i < length holds.now) }
-    ensures { result ≡ waiting (without_line (day_of day.entry)) holds.now j i }
+pub fn is_waiting(capacities: &[u32], flights: &[u32], holds: &[u32], j: usize, i: usize) -> bool
+    requires { ((i + 1) * width ≤ length flights.now) × (i < length holds.now) × (length capacities.now ≤ most_periods) }
+    ensures { result ≡ waiting (lent_rows capacities.entry flights.entry) holds.now j i }
 {
-    let due = day.due_of(i);
-    due <= j && due + holds[i] as usize == day.capacities.len() + 1
+    let due = due_of(flights, i);
+    due <= j && due + holds[i] as usize == capacities.len() + 1
 }
 
 // The flight that goes first of those that wait in period j. The next cost of the best one so far is kept, so that each is worked out once.
@@ -90,7 +90,7 @@ fn first_waiting(
 {
     let mut best: Option<Waiting> = None;
     for place in 0..holds.len() {
-        if is_waiting(day, holds, j, place) {
+        if is_waiting(day.capacities, day.flights, holds, j, place) {
             let cost = next_cost(next, factors, day.flights, j, place);
             let one = Waiting { place, cost };
             match best {
@@ -178,6 +178,6 @@ pub fn quick_plan(day: LentDay, holds: &mut [u32]) -> Result<usize, Refusal>
     if let Some(Stretch { first, last }) = find_short(day) {
         return Err(Refusal::NoPlan { first, last });
     }
-    plan_to(NextCost::Rate, day, holds, day.capacities.len());
+    plan_to(NextCost::Rate, day.open(), holds, day.capacities.len());
     Ok(total_of(day.flights, holds))
 }

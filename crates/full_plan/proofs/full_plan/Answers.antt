@@ -1,7 +1,8 @@
 -- A day that fails the check is refused, then rows of other lengths; then the stretch that is found, or the plan that is made.
 -- Assumes nothing.
 use Rattle.std.proofs.lemmas.Result.{err_from_is_err_and}
-use Rattle.full_plan.proofs.Laws.{bad_day, bad_holds, bad_prices, found_none, can_plan, found_plan}
+use Rattle.day.specs.Checked.{day_of}
+use Rattle.full_plan.proofs.Laws.{bad_day, bad_holds, bad_prices, found_none, open_again, can_plan, found_plan}
 use Rattle.full_plan.proofs.full_plan.Goals as goal
 
 pub returns-in_err-day : goal.returns-in_err-day
@@ -22,8 +23,9 @@ returns-in-Some c =
 
 pub plan_day-requires : goal.plan_day-requires
 plan_day-requires c =
-    can_plan _ _ _ _ _ c.in_ok-day.day.good c.flight_count-n.ensures.0 c.if-holds-n.false c.counted-priced.ensures c.if-prices-priced.false c.in_default.ensures
+    rw (open_again (day_of c.in_ok-day.day) c.open.ensures)
+    (can_plan _ _ _ _ _ c.in_ok-day.day.good c.flight_count-n.ensures.0 c.if-holds-n.false c.counted-priced.ensures c.if-prices-priced.false c.in_default.ensures)
 
 pub returns : goal.returns
 returns c =
-    rw (← c.in_ok-day.ensures) (found_plan _ _ _ _ _ c.in_ok-day.day.good c.flight_count-n.ensures.0 c.if-holds-n.false c.counted-priced.ensures c.if-prices-priced.false c.in_default.ensures c.plan_day.ensures)
+    rw (← c.in_ok-day.ensures) (found_plan _ _ _ _ _ c.in_ok-day.day.good c.flight_count-n.ensures.0 c.if-holds-n.false c.counted-priced.ensures c.if-prices-priced.false c.in_default.ensures (rw (open_again (day_of c.in_ok-day.day) c.open.ensures) at c.plan_day.ensures))

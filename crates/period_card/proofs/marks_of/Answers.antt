@@ -1,4 +1,6 @@
 use native.Mathlib.Omega.{arith}
+use Rattle.day.proofs.Flights.{there}
+use Rattle.day.proofs.Valid.{valid_means}
 use Rattle.quick_plan.proofs.Same.{valid_rows}
 use Rattle.period_card.proofs.Steps.{marked_start, marked_there, marked_small, marked_low, marked_high, marked_skip, marked_end}
 use Rattle.period_card.proofs.marks_of.Goals as goal
@@ -8,7 +10,7 @@ pub loop-i-init : goal.loop-i-init
 loop-i-init c = marked_start (valid_rows _ c.args.day.good) c.requires
 
 pub is_waiting-requires : goal.is_waiting-requires
-is_waiting-requires c = (marked_there c.loop-i.invariant c.loop-i-test.true, c.loop-i-test.true)
+is_waiting-requires c = (there _ _ (marked_there c.loop-i.invariant c.loop-i-test.true), c.loop-i-test.true, (valid_means c.args.day.good).periods_to)
 
 pub mark-high-requires : goal.mark-high-requires
 mark-high-requires c = omega (arith, marked_small c.loop-i.invariant)

@@ -2,7 +2,9 @@
 -- Assumes nothing.
 use Rattle.std.proofs.Common.{Ok}
 use Rattle.std.proofs.lemmas.Result.{err_from_is_err_and}
-use Rattle.period_card.proofs.Steps.{bad_day, jump_or_limit_lem, no_period, is_card, part_length}
+use Rattle.day.specs.Checked.{day_of}
+use Rattle.quick_plan.proofs.Calls.{same_count, same_periods}
+use Rattle.period_card.proofs.Steps.{bad_day, jump_or_limit_lem, no_period, card_opened, is_card, part_length}
 use mathlib.Core.Path.{sym, ap, ◌∙◌}
 use mathlib.Core.Logic.{inl, inr}
 use native.Mathlib.Omega.{arith}
@@ -28,9 +30,15 @@ pub slice_bounds-card_in-end : goal.slice_bounds-card_in-end
 slice_bounds-card_in-end c = sym (part_length _ _ c.flight_count.ensures.1)
 
 pub card_in-requires : goal.card_in-requires
-card_in-requires c = (part_length _ _ c.flight_count.ensures.1 ∙ c.flight_count.ensures.0, omega arith, omega arith)
+card_in-requires c =
+    let d = day_of c.in_ok-day.day in
+    (
+      part_length _ _ c.flight_count.ensures.1 ∙ c.flight_count.ensures.0 ∙ sym (same_count d c.open.ensures),
+      omega arith,
+      omega (arith, same_periods d c.open.ensures),
+    )
 
 pub returns : goal.returns
 returns c =
     rw (← c.in_ok-day.ensures)
-    (ap Ok c.card_in.ensures ∙ sym (is_card _ _ c.in_ok-day.day.good c.first_jump_or_limit.ensures c.in_default.is (omega arith) (omega arith)))
+    (ap Ok (c.card_in.ensures ∙ card_opened (day_of c.in_ok-day.day) c.open.ensures (omega arith)) ∙ sym (is_card _ _ c.in_ok-day.day.good c.first_jump_or_limit.ensures c.in_default.is (omega arith) (omega arith)))

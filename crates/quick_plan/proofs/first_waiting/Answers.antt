@@ -2,9 +2,10 @@ use mathlib.Core.Path.{◌≡◌, ◌∙◌}
 use native.Mathlib.Omega.{arith}
 use borrow.Author.Rules.{rules}
 use Rattle.std.specs.Option.{option_map}
+use Rattle.day.proofs.Valid.{valid_means}
 use Rattle.quick_plan.specs.declared.Waiting.{Waiting}
 use Rattle.quick_plan.proofs.Same.{valid_rows}
-use Rattle.quick_plan.proofs.Steps.{scan_start, in_row, scan_there, scan_due, best_there, scan_skip, scan_fresh, scan_better, scan_worse, scan_end}
+use Rattle.quick_plan.proofs.Steps.{scan_start, scan_there, scan_due, best_there, scan_skip, scan_fresh, scan_better, scan_worse, scan_end}
 use Rattle.quick_plan.proofs.first_waiting.Goals as goal
 use Rattle.quick_plan.proofs.first_waiting.Goals.{then-is_waiting+in-Some, then-is_waiting+in_default-2, then-is_waiting+in_default, else-is_waiting}
 
@@ -12,7 +13,7 @@ pub loop-place-init : goal.loop-place-init
 loop-place-init c = scan_start _ (valid_rows _ c.args.day.good) c.requires.0
 
 pub is_waiting-requires : goal.is_waiting-requires
-is_waiting-requires c = (in_row c.loop-place.invariant c.loop-place-test.true, c.loop-place-test.true)
+is_waiting-requires c = (scan_there c.loop-place.invariant c.loop-place-test.true, c.loop-place-test.true, (valid_means c.args.day.good).periods_to)
 
 pub next_cost-cost-requires : goal.next_cost-cost-requires
 next_cost-cost-requires c =
