@@ -2,7 +2,6 @@
 -- Assumes nothing.
 use Rattle.std.proofs.Common.{◌≡◌, true, ◌+◌, ◌*◌, ◌≤◌, ◌<◌, length, arith, ℕ}
 use Rattle.day.specs.Day.{Day, N, width, valid}
-use Rattle.day.specs.Valid.{InRange}
 use Rattle.day.proofs.Valid.{valid_means}
 
 -- the numbers of each of its flights stand in the row

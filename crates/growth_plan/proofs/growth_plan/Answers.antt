@@ -25,8 +25,7 @@ pub plan_to-requires : goal.plan_to-requires
 plan_to-requires c =
     let d = c.in_ok-day.ensures in
     let checked = day_of c.in_ok-day.day in
-    let periods = same_periods checked c.open.ensures in
-    (
+    let periods = same_periods checked c.open.ensures in (
       can_fill _ _ d.1 d.0 ∙ sym (same_count checked c.open.ensures),
       rw periods (can_make _ _ _ d.1 d.0 c.growth_fits.ensures c.if-not-growth_fits.false),
       omega (arith, periods),

@@ -31,8 +31,7 @@ slice_bounds-card_in-end c = sym (part_length _ _ c.flight_count.ensures.1)
 
 pub card_in-requires : goal.card_in-requires
 card_in-requires c =
-    let d = day_of c.in_ok-day.day in
-    (
+    let d = day_of c.in_ok-day.day in (
       part_length _ _ c.flight_count.ensures.1 ∙ c.flight_count.ensures.0 ∙ sym (same_count d c.open.ensures),
       omega arith,
       omega (arith, same_periods d c.open.ensures),

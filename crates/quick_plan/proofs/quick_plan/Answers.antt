@@ -20,8 +20,7 @@ returns-in_err-day c =
 
 pub plan_to-requires : goal.plan_to-requires
 plan_to-requires c =
-    let d = day_of c.in_ok-day.day in
-    (
+    let d = day_of c.in_ok-day.day in (
       can_fill _ _ c.in_ok-day.ensures.1 c.in_ok-day.ensures.0 ∙ sym (same_count d c.open.ensures),
       rate_fits _,
       omega (arith, same_periods d c.open.ensures),
