@@ -1,20 +1,19 @@
 -- How a plan's lines follow one another in the buffer: one line more, and the whole.
 -- Assumes nothing.
-use Rattle.std.proofs.Common.{Ok, Err}
+use Rattle.std.proofs.Common.{Ok}
 use Prim.Native.Nat.{ℕ, zero, suc, ◌≤◌, ◌<◌, ◌+◌, ◌-◌, ◌*◌}
 use native.Mathlib.Omega.{arith}
 use native.Mathlib.Numerals.{add-one}
 use mathlib.Core.Path.{◌≡◌, refl, ap, ◌∙◌}
 use mathlib.Core.List.{List, [], ◌∷◌, ◌++◌, append_assoc, append-nil}
 use lib.ListN.{length, length-append}
-use Rattle.answers.specs.declared.Refusal.{Refusal}
 use Rattle.text.specs.Digits.{ended, line}
 use Rattle.text.specs.Writing.{Put, text_answer, text_after}
 use Rattle.text.proofs.Writing.{then}
 use Rattle.day.specs.Day.{Day, N, most_flights, column, flight_at, flight_count, hold_cost, hold, land_of, total_of, total, width}
 use Rattle.day.proofs.Valid.{valid_means}
 use Rattle.legality.specs.Check.{plan_check}
-use Rattle.std.specs.Prelude.{Ok, Err}
+use Rattle.std.specs.Prelude.{Ok}
 use Rattle.legality.proofs.Found.{found_legal}
 use Rattle.plan_text.specs.PlanText.{plan_names, total_name, plan_line, plan_lines, plan_text, plan_text_answer, plan_text_after}
 
@@ -76,11 +75,6 @@ module _ (f holds : List ℕ) where
 -- the outcomes of the call
 module _ (d : Day) (holds : List ℕ) where
   module _ (buffer : List ℕ) (place : ℕ) where
-    pub on_refused : {a : Refusal} → plan_check d holds ≡ Err a
-        → (Err a ≡ plan_text_answer d holds buffer place) × (buffer ≡ plan_text_after d holds buffer place)
-    unfolding plan_text_answer plan_text_after
-    on_refused e = rw e (refl, refl)
-
     pub on_legal : {t : ℕ} → plan_check d holds ≡ Ok t
         → (text_answer buffer place (plan_text d.flights holds) ≡ plan_text_answer d holds buffer place)
         × (text_after buffer place (plan_text d.flights holds) ≡ plan_text_after d holds buffer place)

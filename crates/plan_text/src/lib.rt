@@ -10,11 +10,15 @@ ghost use Rattle.plan_text.specs.PlanText.{plan_line, plan_lines, plan_text, pla
 use answers::Refusal;
 use day::{LentDay, cost_of, due_of, land_of, number_of};
 use legality::check_plan;
-use text::{LINE_END, line_len, number_len, put_fixed_at, put_line_at, put_number_at};
+use text::{line_len, number_len, put_fixed, put_fixed_at, put_line_at};
 
 pub const PLAN_NAMES: &[u8] = b"flight,due,lands,hold,cost\n";
 
+pub const PLAN_NAMES_LEN: usize = PLAN_NAMES.len();
+
 pub const TOTAL_NAME: &[u8] = b"total\n";
+
+pub const TOTAL_NAME_LEN: usize = TOTAL_NAME.len();
 
 // The numbers of a flight's line but for its cost.
 fn values_of(flights: &[u32], holds: &[u32], i: usize) -> [usize; 4]
@@ -78,10 +82,10 @@ fn fill_plan(out: &mut [u8], flights: &[u32], holds: &[u32], sum: usize) -> usiz
     requires { (length holds.now ≡ flight_count flights.now) × (sum ≡ total_of flights.now holds.now) × (length holds.now * width ≤ length flights.now) × (length (plan_text flights.now holds.now) ≤ length out.old) }
     ensures { Put out.old 0 (plan_text flights.now holds.now) result out.new }
 {
-    let lines_at = put_fixed_at(out, 0, PLAN_NAMES);
+    let lines_at = put_fixed(out, PLAN_NAMES);
     let total_name_at = put_plan_lines(out, lines_at, flights, holds);
     let total_at = put_fixed_at(out, total_name_at, TOTAL_NAME);
-    put_number_at(out, total_at, sum, LINE_END)
+    put_line_at(out, total_at, &[], sum)
 }
 
 // How many bytes the text takes.
@@ -89,10 +93,11 @@ fn plan_len(flights: &[u32], holds: &[u32], sum: usize) -> usize
     requires { (length holds.now ≡ flight_count flights.now) × (sum ≡ total_of flights.now holds.now) × (length holds.now * width ≤ length flights.now) × (length holds.now ≤ most_flights) }
     ensures { result ≡ length (plan_text flights.now holds.now) }
 {
-    PLAN_NAMES.len() + plan_lines_len(flights, holds) + TOTAL_NAME.len() + number_len(sum)
+    PLAN_NAMES_LEN + plan_lines_len(flights, holds) + TOTAL_NAME_LEN + number_len(sum)
 }
 
 // The text of a legal plan, with its total, from the place on. The line writers get the part of the buffer that starts there.
+#[tactic(auto, unfolding(text::specs::Writing::text_answer, text::specs::Writing::text_after, text::specs::Writing::fits))]
 fn write_legal(
     flights: &[u32],
     holds: &[u32],
@@ -114,6 +119,7 @@ fn write_legal(
 }
 
 // Writes the text of a plan into the buffer from the place on, for a day and rows of any content and length.
+#[tactic(auto, using(crate::proofs::Placing::legal_rows), unfolding(crate::specs::PlanText::plan_text_answer, crate::specs::PlanText::plan_text_after))]
 pub fn write_plan(
     day: LentDay,
     holds: &[u32],

@@ -35,8 +35,14 @@ pub const DASH: u8 = b'-';
 // The first names line.
 pub const PERIOD_NAMES: &[u8] = b"period,capacity\n";
 
+pub const PERIOD_NAMES_LEN: usize = PERIOD_NAMES.len();
+
 // The second names line.
 pub const FLIGHT_NAMES: &[u8] = b"flight,due,rate,after,jump,limit,late\n";
 
+pub const FLIGHT_NAMES_LEN: usize = FLIGHT_NAMES.len();
+
 // What the closing line begins with.
 pub const CLOSING_NAME: &[u8] = b"closing,";
+
+pub const CLOSING_NAME_LEN: usize = CLOSING_NAME.len();

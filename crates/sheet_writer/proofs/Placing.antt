@@ -10,10 +10,10 @@ use mathlib.Core.Bool.{true, false}
 use lib.ListN.{length, get_or, take, drop, length-append, take-append-drop}
 use lib.Seq.{take-suc, length-take-le}
 use borrow.Author.Tests.{ltb-true, ltb-false}
-use Rattle.answers.specs.declared.Refusal.TheVariants.{BadDay, BadLength}
+use Rattle.answers.specs.declared.Refusal.TheVariants.{BadDay}
 use Rattle.text.specs.Digits.{ended, separated}
 use Rattle.text.specs.Writing.{Put}
-use Rattle.text.proofs.Writing.{put_none, then, not_fits, it_fits}
+use Rattle.text.proofs.Writing.{put_none, then, it_fits}
 use Rattle.day.specs.declared.Flight.{Flight}
 use Rattle.day.specs.Day.{Day, N, unlimited, has_line, flight_at, valid}
 use Rattle.day.specs.Flights.{first_flights, flights_of}
@@ -128,10 +128,6 @@ module _ (d : Day) (buffer : List ℕ) (place : ℕ) where
   bad_day e = rw e (refl, refl)
 
   module _ (v : valid d ≡ true) where
-    pub too_short : {k : ℕ} → k ≡ length (sheet_of d) → length buffer < place + k → (Err (BadLength k) ≡ write_answer d buffer place) × (buffer ≡ write_after d buffer place)
-    unfolding write_answer write_after
-    too_short e h = rw (v, e) (not_fits buffer (sheet_of d) place (rw e at h))
-
     pub all_written : {k r : ℕ} {out : List ℕ} → k ≡ length (sheet_of d) → place + k ≤ length buffer → Put buffer place (sheet_of d) r out
         → (Ok k ≡ write_answer d buffer place) × (out ≡ write_after d buffer place)
     unfolding write_answer write_after

@@ -11,14 +11,17 @@ ghost use Rattle.sheet_writer.specs.Write.{write_answer, write_after};
 
 use answers::Refusal;
 use day::{Flight, LentDay, MISSING, UNLIMITED, ValidDay, flight_at};
-use sheet::{CLOSING_NAME, DASH, FLIGHT_NAMES, PERIOD_NAMES};
+use sheet::{
+    CLOSING_NAME, CLOSING_NAME_LEN, DASH, FLIGHT_NAMES, FLIGHT_NAMES_LEN, PERIOD_NAMES,
+    PERIOD_NAMES_LEN,
+};
 use text::{
-    COMMA, LINE_END, line_len, number_len, put_fixed_at, put_line_at, put_number_at,
+    COMMA, LINE_END, line_len, number_len, put_fixed, put_fixed_at, put_line, put_number_at,
     put_separated_at, separated_len,
 };
 
 // Both names lines together.
-const NAMES_LEN: usize = PERIOD_NAMES.len() + FLIGHT_NAMES.len();
+const NAMES_LEN: usize = PERIOD_NAMES_LEN + FLIGHT_NAMES_LEN;
 
 // The limit of a flight line from `at` on; the place behind it.
 fn put_limit(out: &mut [u8], at: usize, limit: u32) -> usize
@@ -53,15 +56,25 @@ fn values_of(f: Flight) -> [usize; 5]
     ]
 }
 
-// A flight line from `at` on; the place behind it.
-fn put_flight(out: &mut [u8], at: usize, f: Flight) -> usize
+// A flight line, at the front of out; how many bytes. Kept: beside `put_flight_at`, since docs/01-scope.md has line writers fill the front of a
+// lent part.
+fn put_flight(out: &mut [u8], f: Flight) -> usize
+    requires { length (flight_text f) ≤ length out.old }
+    ensures { Put out.old 0 (flight_text f) result out.new }
+{
+    let values = values_of(f);
+    let next = put_separated_at(out, 0, &values);
+    let last = put_limit(out, next, f.limit);
+    put_number_at(out, last, f.late as usize, LINE_END)
+}
+
+// The same from `at` on: the part that starts there is lent on; the place behind it.
+fn put_flight_at(out: &mut [u8], at: usize, f: Flight) -> usize
     requires { at + length (flight_text f) ≤ length out.old }
     ensures { Put out.old at (flight_text f) result out.new }
 {
-    let values = values_of(f);
-    let next = put_separated_at(out, at, &values);
-    let last = put_limit(out, next, f.limit);
-    put_number_at(out, last, f.late as usize, LINE_END)
+    let k = put_flight(&mut out[at..], f);
+    at + k
 }
 
 fn flight_len(f: Flight) -> usize
@@ -71,13 +84,22 @@ fn flight_len(f: Flight) -> usize
     separated_len(&values) + limit_len(f.limit) + number_len(f.late as usize)
 }
 
-// The line of period j from `at` on; the place behind it.
+// The line of period j, at the front of out; how many bytes. Kept: beside `put_period_at`, for the same reason.
 #[tactic(auto, unfolding(sheet::specs::Text::period_text))]
-fn put_period(out: &mut [u8], at: usize, j: usize, capacity: u32) -> usize
+fn put_period(out: &mut [u8], j: usize, capacity: u32) -> usize
+    requires { length (period_text j capacity) ≤ length out.old }
+    ensures { Put out.old 0 (period_text j capacity) result out.new }
+{
+    put_line(out, &[j], capacity as usize)
+}
+
+// The same from `at` on: the part that starts there is lent on; the place behind it.
+fn put_period_at(out: &mut [u8], at: usize, j: usize, capacity: u32) -> usize
     requires { at + length (period_text j capacity) ≤ length out.old }
     ensures { Put out.old at (period_text j capacity) result out.new }
 {
-    put_line_at(out, at, &[j], capacity as usize)
+    let k = put_period(&mut out[at..], j, capacity);
+    at + k
 }
 
 #[tactic(auto, unfolding(sheet::specs::Text::period_text))]
@@ -93,7 +115,7 @@ fn put_periods(out: &mut [u8], start: usize, capacities: &[u32]) -> usize
 {
     let mut at = start;
     for (i, capacity) in capacities.iter().enumerate() {
-        at = put_period(out, at, i + 1, *capacity);
+        at = put_period_at(out, at, i + 1, *capacity);
     }
     at
 }
@@ -115,7 +137,7 @@ fn put_flights(out: &mut [u8], start: usize, flights: &[u32], n: usize) -> usize
 {
     let mut at = start;
     for i in 0..n {
-        at = put_flight(out, at, flight_at(flights, i));
+        at = put_flight_at(out, at, flight_at(flights, i));
     }
     at
 }
@@ -138,23 +160,32 @@ fn has_line(closing: u32) -> bool
     closing < UNLIMITED
 }
 
-// The closing line from `at` on, if there is one; the place behind it.
-fn put_closing(out: &mut [u8], at: usize, closing: u32) -> usize
+// The closing line, if there is one, at the front of out; how many bytes. Kept: beside `put_closing_at`, for the same reason.
+fn put_closing(out: &mut [u8], closing: u32) -> usize
+    requires { length (closing_text closing) ≤ length out.old }
+    ensures { Put out.old 0 (closing_text closing) result out.new }
+{
+    if has_line(closing) {
+        let number = put_fixed(out, CLOSING_NAME);
+        return put_number_at(out, number, closing as usize, LINE_END);
+    }
+    0
+}
+
+// The same from `at` on: the part that starts there is lent on; the place behind it.
+fn put_closing_at(out: &mut [u8], at: usize, closing: u32) -> usize
     requires { at + length (closing_text closing) ≤ length out.old }
     ensures { Put out.old at (closing_text closing) result out.new }
 {
-    if has_line(closing) {
-        let number = put_fixed_at(out, at, CLOSING_NAME);
-        return put_number_at(out, number, closing as usize, LINE_END);
-    }
-    at
+    let k = put_closing(&mut out[at..], closing);
+    at + k
 }
 
 fn closing_len(closing: u32) -> usize
     ensures { (result ≡ length (closing_text closing)) × (result ≤ 29) }
 {
     if has_line(closing) {
-        return CLOSING_NAME.len() + number_len(closing as usize);
+        return CLOSING_NAME_LEN + number_len(closing as usize);
     }
     0
 }
@@ -165,9 +196,9 @@ fn fill_sheet(out: &mut [u8], day: ValidDay) -> usize
     ensures { Put out.old 0 (sheet_of (day_of day.entry)) result out.new }
 {
     let n = day.flight_count();
-    let a = put_fixed_at(out, 0, PERIOD_NAMES);
+    let a = put_fixed(out, PERIOD_NAMES);
     let b = put_periods(out, a, day.capacities);
-    let c = put_closing(out, b, day.closing);
+    let c = put_closing_at(out, b, day.closing);
     let d = put_fixed_at(out, c, FLIGHT_NAMES);
     put_flights(out, d, day.flights, n)
 }
@@ -181,6 +212,7 @@ fn sheet_len(day: ValidDay) -> usize
 }
 
 // Writes the sheet of a day into the buffer from the place on. The line writers get the part of it that starts there.
+#[tactic(auto, unfolding(crate::specs::Write::write_answer, crate::specs::Write::write_after, text::specs::Writing::text_answer, text::specs::Writing::text_after, text::specs::Writing::fits))]
 pub fn write_sheet(day: LentDay, text: &mut [u8], place: usize) -> Result<usize, Refusal>
     ensures value { result ≡ write_answer (lent_day day.entry) text.old place }
     ensures text_after { text.new ≡ write_after (lent_day day.entry) text.old place }

@@ -20,6 +20,7 @@ use Rattle.text.specs.declared.Number.{Number}
 use Rattle.std.specs.Prelude.{Option, Some, None, EachIndex}
 use Rattle.std.specs.List.{prefix_len, between}
 use Rattle.std.specs.Char.{is_ascii_digit, IsAsciiDigit}
+use Rattle.std.proofs.Math.Bool.{or-true}
 use Rattle.std.proofs.lemmas.List.{take_rest}
 use Rattle.std.proofs.lemmas.List.Sums.{take_while-cons}
 use Rattle.std.proofs.lemmas.List.Folds.{length-prefix_len}
@@ -361,9 +362,9 @@ module _ (most : ℕ) (s : List ℕ) (at k : ℕ) (e : k ≡ length (run (drop a
   unfolding number number_of
   number_long h = rw (← e, ne_eqb k 0 (λ z. omega arith), lt-ltb most k h)
 
-  pub number_zero : 1 < k → k ≤ most → get_or s at 0 ≡ 48 → None ≡ number most s at
+  pub number_zero : 1 < k → get_or s at 0 ≡ 48 → None ≡ number most s at
   unfolding number number_of zero_first
-  number_zero h g z = let p : 0 < k = omega arith in rw (← e, ne_eqb k 0 (λ z. omega arith), le-ltb most k g, run_first p, eq-eqb _ _ z, lt-ltb 1 k h)
+  number_zero h z = let p : 0 < k = omega arith in rw (← e, ne_eqb k 0 (λ z. omega arith), run_first p, eq-eqb _ _ z, lt-ltb 1 k h, or-true)
 
   value_when : zero_first (run (drop at s)) ≡ false → 0 < k → k ≤ most → some_number (value 0 (run (drop at s))) (at + k) ≡ number most s at
   unfolding number number_of

@@ -1,4 +1,4 @@
-// Numbers and fixed lines as bytes: read at a place of a slice, and written from a place on.
+// Numbers and fixed lines as bytes: read at a place of a slice; numbers are written from a place on, lines to the front of a lent part.
 #![tactic(auto)]
 
 ghost use Rattle.std.specs.Prelude.{◌≡◌, ◌+◌, ◌*◌, ◌≤◌, ◌<◌, length, drop, EachIndex, slice_index};
@@ -134,14 +134,22 @@ pub fn put_number_at(out: &mut [u8], at: usize, n: usize, e: u8) -> usize
     end + 1
 }
 
-// Fixed bytes from `at` on; the place behind them.
+// Fixed bytes, at the front of out; how many. Kept: beside `put_fixed_at`, since docs/01-scope.md has line writers fill the front of a lent part.
+pub fn put_fixed(out: &mut [u8], w: &[u8]) -> usize
+    requires { length w.now ≤ length out.old }
+    ensures { Put out.old 0 w.now result out.new }
+{
+    out[..w.len()].copy_from_slice(w);
+    w.len()
+}
+
+// The same from `at` on: the part that starts there is lent on; the place behind them.
 pub fn put_fixed_at(out: &mut [u8], at: usize, w: &[u8]) -> usize
     requires { at + length w.now ≤ length out.old }
     ensures { Put out.old at w.now result out.new }
 {
-    let end = at + w.len();
-    out[at..end].copy_from_slice(w);
-    end
+    let k = put_fixed(&mut out[at..], w);
+    at + k
 }
 
 // Numbers from `at` on, each with a comma behind it; the place behind them.
@@ -156,13 +164,23 @@ pub fn put_separated_at(out: &mut [u8], at: usize, numbers: &[usize]) -> usize
     next
 }
 
-// A line of numbers from `at` on; the place behind it.
+// A line of numbers, at the front of out; how many bytes. Kept: beside `put_line_at`, since docs/01-scope.md has line writers fill the front of a
+// lent part.
+pub fn put_line(out: &mut [u8], numbers: &[usize], last: usize) -> usize
+    requires { length (line numbers.now last) ≤ length out.old }
+    ensures { Put out.old 0 (line numbers.now last) result out.new }
+{
+    let next = put_separated_at(out, 0, numbers);
+    put_number_at(out, next, last, LINE_END)
+}
+
+// The same from `at` on: the part that starts there is lent on; the place behind it.
 pub fn put_line_at(out: &mut [u8], at: usize, numbers: &[usize], last: usize) -> usize
     requires { at + length (line numbers.now last) ≤ length out.old }
     ensures { Put out.old at (line numbers.now last) result out.new }
 {
-    let next = put_separated_at(out, at, numbers);
-    put_number_at(out, next, last, LINE_END)
+    let k = put_line(&mut out[at..], numbers, last);
+    at + k
 }
 
 // How many bytes a number and the byte that ends its field take.
@@ -205,7 +223,7 @@ pub fn write_refusal(
     if text.len() < needed {
         return Err(Refusal::BadLength { needed });
     }
-    let at = put_fixed_at(text, 0, REFUSAL_NAMES);
+    let at = put_fixed(text, REFUSAL_NAMES);
     put_line_at(text, at, &values, second);
     Ok(needed)
 }

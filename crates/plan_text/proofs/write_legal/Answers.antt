@@ -3,16 +3,10 @@
 use Prim.Native.Nat.{◌≤◌, ◌+◌}
 use native.Mathlib.Omega.{arith}
 use lib.ListN.{length}
-use Rattle.text.proofs.Writing.{lent, not_fits, it_fits}
+use Rattle.text.proofs.Writing.{lent, it_fits}
 use Rattle.plan_text.specs.PlanText.{plan_text}
 use Rattle.plan_text.proofs.Placing.{length_plan}
 use Rattle.plan_text.proofs.write_legal.Goals as goal
-
-pub returns-then-saturating_sub-needed : goal.returns-then-saturating_sub-needed
-returns-then-saturating_sub-needed c =
-    let a = c.args in
-    let all = not_fits a.buffer.now (plan_text a.flights.now a.holds.now) a.place (omega arith) in
-    record { value = rw c.plan_len-needed.ensures all.0; buffer_after = all.1 }
 
 pub slice_bounds-fill_plan-count : goal.slice_bounds-fill_plan-count
 slice_bounds-fill_plan-count c = omega (arith, length_plan _ _ c.requires.0 c.requires.1, c.plan_len-needed.ensures)

@@ -7,18 +7,18 @@ use Rattle.sheet_writer.proofs.Placing.{sheet_room, sheet_put}
 use native.Mathlib.Omega.{arith}
 use Rattle.sheet_writer.proofs.fill_sheet.Goals as goal
 
-pub put_fixed_at-a-requires : goal.put_fixed_at-a-requires
-put_fixed_at-a-requires c = omega (arith, length_top, sheet_room (day_of c.args.day) c.requires)
+pub put_fixed-a-requires : goal.put_fixed-a-requires
+put_fixed-a-requires c = omega (arith, length_top, sheet_room (day_of c.args.day) c.requires)
 
 pub put_periods-b-requires : goal.put_periods-b-requires
 put_periods-b-requires c =
     let room = sheet_room (day_of c.args.day) c.requires in
-    (omega (arith, room, length_top, c.put_fixed_at-a.ensures.place, c.put_fixed_at-a.auto), (valid_means c.args.day.good).periods_to)
+    (omega (arith, room, length_top, c.put_fixed-a.ensures.place, c.put_fixed-a.auto), (valid_means c.args.day.good).periods_to)
 
-pub put_closing-c-requires : goal.put_closing-c-requires
-put_closing-c-requires c =
+pub put_closing_at-c-requires : goal.put_closing_at-c-requires
+put_closing_at-c-requires c =
     let room = sheet_room (day_of c.args.day) c.requires in
-    omega (arith, room, length_top, c.put_fixed_at-a.ensures.place, c.put_fixed_at-a.auto, c.put_periods-b.ensures.place, c.put_periods-b.auto)
+    omega (arith, room, length_top, c.put_fixed-a.ensures.place, c.put_fixed-a.auto, c.put_periods-b.ensures.place, c.put_periods-b.auto)
 
 pub put_fixed_at-d-requires : goal.put_fixed_at-d-requires
 put_fixed_at-d-requires c =
@@ -28,12 +28,12 @@ put_fixed_at-d-requires c =
       room,
       length_top,
       length_names,
-      c.put_fixed_at-a.ensures.place,
-      c.put_fixed_at-a.auto,
+      c.put_fixed-a.ensures.place,
+      c.put_fixed-a.auto,
       c.put_periods-b.ensures.place,
       c.put_periods-b.auto,
-      c.put_closing-c.ensures.place,
-      c.put_closing-c.auto,
+      c.put_closing_at-c.ensures.place,
+      c.put_closing_at-c.auto,
     )
 
 pub put_flights-requires : goal.put_flights-requires
@@ -45,12 +45,12 @@ put_flights-requires c =
         room,
         length_top,
         length_names,
-        c.put_fixed_at-a.ensures.place,
-        c.put_fixed_at-a.auto,
+        c.put_fixed-a.ensures.place,
+        c.put_fixed-a.auto,
         c.put_periods-b.ensures.place,
         c.put_periods-b.auto,
-        c.put_closing-c.ensures.place,
-        c.put_closing-c.auto,
+        c.put_closing_at-c.ensures.place,
+        c.put_closing_at-c.auto,
         c.put_fixed_at-d.ensures.place,
         c.put_fixed_at-d.auto,
       )),
@@ -61,4 +61,4 @@ put_flights-requires c =
 pub returns : goal.returns
 unfolding period_names flight_names
 returns c =
-    sheet_put (day_of c.args.day) c.requires c.put_fixed_at-a.ensures c.put_periods-b.ensures c.put_closing-c.ensures c.put_fixed_at-d.ensures (rw c.flight_count-n.ensures.0 at c.put_flights.ensures)
+    sheet_put (day_of c.args.day) c.requires c.put_fixed-a.ensures c.put_periods-b.ensures c.put_closing_at-c.ensures c.put_fixed_at-d.ensures (rw c.flight_count-n.ensures.0 at c.put_flights.ensures)

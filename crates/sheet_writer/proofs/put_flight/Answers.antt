@@ -20,4 +20,4 @@ put_number_at-requires c =
 pub returns : goal.returns
 returns c =
     let numbers = rw c.values_of-values.ensures at c.put_separated_at-next.ensures in
-    flight_put c.args.f c.requires numbers c.put_limit-last.ensures c.put_number_at.ensures
+    flight_put c.args.f (omega (arith, c.requires)) numbers c.put_limit-last.ensures c.put_number_at.ensures

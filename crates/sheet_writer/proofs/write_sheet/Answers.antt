@@ -1,27 +1,17 @@
 -- A day that fails the check is refused; the text of one that passes fits or not.
 use Rattle.std.proofs.lemmas.Result.{err_from_is_err_and}
 use Rattle.text.proofs.Writing.{lent}
-use Rattle.sheet_writer.proofs.Placing.{bad_day, too_short, all_written}
-use Prim.Native.Nat.{◌<◌, ◌≤◌, ◌+◌}
+use Rattle.sheet_writer.proofs.Placing.{bad_day, all_written}
+use Prim.Native.Nat.{◌≤◌, ◌+◌}
 use native.Mathlib.Omega.{arith}
 use lib.ListN.{length, length-take, length-drop}
 use Rattle.sheet_writer.proofs.write_sheet.Goals as goal
-use Rattle.sheet_writer.proofs.write_sheet.Goals.{then-text-place-via-then-text-place, then-text-place-via-else-text-place+then-text-place-2}
 
 pub returns-in_err-day : goal.returns-in_err-day
 returns-in_err-day c =
     let p = err_from_is_err_and c.from_residual.result c.from_residual.ensures.1 in
     let no = c.in_err-day.ensures in
     let all = bad_day _ _ _ no.1 in record { value = rw (p.1, p.2, no.0) all.0; text_after = all.1 }
-
-pub returns-then-text-place : goal.returns-then-text-place
-returns-then-text-place c =
-    let short : length c.args.text.now < c.args.place + c.sheet_len-needed.result = elim c.then-text-place.branch [
-      | then-text-place-via-then-text-place w ↦ omega arith
-      | then-text-place-via-else-text-place+then-text-place-2 w ↦ omega arith
-    ] in
-    let all = too_short _ _ _ c.in_ok-day.day.good c.sheet_len-needed.ensures short in
-    rw (← c.in_ok-day.ensures) (record { value = all.0; text_after = all.1 })
 
 pub fill_sheet-requires : goal.fill_sheet-requires
 fill_sheet-requires c = simp (length-take, length-drop) (omega (arith, c.sheet_len-needed.ensures))

@@ -10,14 +10,14 @@ returns-then-k-eq0 c =
     let e = counted c.args.s.now c.args.at c.run_len-k.ensures in
     elim c.then-k-eq0.branch [
       | then-k-eq0-via-then-k-eq0 w ↦ number_none _ _ _ _ e w.if-k-eq0.true
-      | then-k-eq0-via-else-k-eq0+then-most-k w ↦ number_long _ _ _ _ e w.if-most-k.true
+      | then-k-eq0-via-else-k-eq0+then-most-k w ↦ number_long _ _ _ _ e (omega arith)
     ]
 
 pub bounds-s-at : goal.bounds-s-at
 bounds-s-at c = omega (arith, run_within (drop c.args.at c.args.s.now), counted c.args.s.now c.args.at c.run_len-k.ensures, length-drop c.args.at c.args.s.now)
 
 pub returns-then-s-at-eq48 : goal.returns-then-s-at-eq48
-returns-then-s-at-eq48 c = number_zero _ _ _ _ (counted c.args.s.now c.args.at c.run_len-k.ensures) c.if-k-gt1.true c.if-most-k.false c.if-s-at-eq48.true
+returns-then-s-at-eq48 c = number_zero _ _ _ _ (counted c.args.s.now c.args.at c.run_len-k.ensures) c.if-k-gt1.true c.if-s-at-eq48.true
 
 pub slice_bounds-value_of-end : goal.slice_bounds-value_of-end
 slice_bounds-value_of-end c = omega (arith, run_within (drop c.args.at c.args.s.now), counted c.args.s.now c.args.at c.run_len-k.ensures, length-drop c.args.at c.args.s.now)

@@ -1,14 +1,6 @@
-use Rattle.text.specs.Writing.{placed}
-use Prim.Native.Nat.{◌+◌, ◌-◌}
-use native.Mathlib.Omega.{arith}
-use lib.ListN.{length}
-use lib.Seq.{drop-drop}
-use mathlib.Core.Path.{◌≡◌, refl}
+-- The part lent on is the rest of the buffer. Assumes nothing.
+use Rattle.text.proofs.Writing.{lent}
 use Rattle.text.proofs.put_fixed_at.Goals as goal
 
 pub returns : goal.returns
-unfolding placed
-returns c =
-    let n = length c.args.w.now in
-    let z : c.args.at + n - c.args.at ≡ n = omega arith in
-    record { place = refl; bytes = rw (c.copy_from_slice.ensures.after, z, drop-drop) }
+returns c = lent _ _ _ _ _ c.requires c.put_fixed-k.ensures

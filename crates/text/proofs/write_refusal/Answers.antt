@@ -22,5 +22,5 @@ returns c =
     let t = refusal_text a.number a.first a.second in
     let k : c.line_len.result + 21 ≡ length t = omega (arith, length_refusal a.number a.first a.second, c.line_len.ensures.0) in
     let h : length t ≤ length a.text.now = omega (arith, c.if-text-needed.false) in
-    let all = it_fits a.text.now t 0 (omega arith) (refusal_put a.number a.first a.second h c.put_fixed_at-at.ensures c.put_line_at.ensures) in
+    let all = it_fits a.text.now t 0 (omega arith) (refusal_put a.number a.first a.second h c.put_fixed-at.ensures c.put_line_at.ensures) in
     record { value = rw k all.0; text_after = all.1 }
